@@ -1,8 +1,8 @@
 -- The bracket holds at the points that are in one of its legs by their numbers.
-use Rattle.example_bracket.proofs.Prelude.{◌↔◌, pos, arith, inl, inr, ints, Place, turned_set, hole, leg, bracket, IsInHole, IsInLeg, IsInBracket}
+use Rattle.example_bracket.proofs.Prelude.{◌↔◌, pos, arith, inl, inr, ints, SpacePoint, turned_set, hole, leg, bracket, IsInHole, IsInLeg, IsInBracket}
 use Rattle.nef_space.specs.Sets.{Holds}
 
-module _ (p : Place) where
+module _ (p : SpacePoint) where
   hole-numbers : Holds hole p → IsInHole p.x p.y (pos p.w)
   unfolding Holds
   hole-numbers h =

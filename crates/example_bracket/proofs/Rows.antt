@@ -1,5 +1,5 @@
 -- Rows of numbers within their limits, with 1 or -1 among the first three, are planes in lowest terms.
-use Rattle.example_bracket.proofs.Prelude.{◌≡◌, ℕ, zero, suc, ◌+◌, ◌<◌, ◌≤◌, ℤ, nat_abs, Bool, true, ◌||◌, leb, List, [], ◌∷◌, ◌++◌, length, take, get_or, arith, refl, subst, ◌∙◌, inl, inr, ◌⊎◌, ap, ◌∣◌, take_all, IsLowest, form, form_numbers, Set, vector, IsDirection, IsInRange, same-form, word, Row, row_form, is_unit, has_unit, is_small, is_row, are_rows, cut_set, common_set}
+use Rattle.example_bracket.proofs.Prelude.{◌≡◌, ℕ, zero, suc, ◌+◌, ◌<◌, ◌≤◌, ℤ, nat_abs, Bool, true, ◌||◌, leb, List, [], ◌∷◌, ◌++◌, length, take, get_or, arith, refl, subst, ◌∙◌, inl, inr, ◌⊎◌, ap, ◌∣◌, take_all, IsLowest, form, form_numbers, Set, vector, IsDirection, IsInRange, same-form, word, FormNumbers, row_form, is_unit, has_unit, is_small, is_row, are_rows, cut_set, common_set}
 use Rattle.std.proofs.Math.Nat.{eq-one_of_dvd-one}
 use Rattle.std.proofs.lemmas.List.{take_more}
 use Rattle.std.proofs.lemmas.Bool.{eqb-true, leb-true, and_parts, or_cases}
@@ -8,7 +8,7 @@ use Rattle.nef_geo.proofs.Products.{kept}
 unit-one : (a : ℤ) → is_unit a ≡ true → nat_abs a ≡ 1
 unit-one a h = eqb-true (nat_abs a) 1 h
 
-module _ (r : Row) (h : is_row r ≡ true) where
+module _ (r : FormNumbers) (h : is_row r ≡ true) where
   small : is_small r ≡ true
   small = let p = and_parts (has_unit r) (is_small r) h in p.1
 
@@ -56,17 +56,17 @@ module _ (r : Row) (h : is_row r ≡ true) where
   ]
 
 -- ---- one row after the other
-pub rows-at : (rs : List Row) (k : ℕ) (d : Row) → are_rows rs ≡ true → k < length rs → is_row (get_or rs k d) ≡ true
+pub rows-at : (rs : List FormNumbers) (k : ℕ) (d : FormNumbers) → are_rows rs ≡ true → k < length rs → is_row (get_or rs k d) ≡ true
 rows-at [] k d h l = absurd (omega (arith, l))
 rows-at (r ∷ rs) zero d h l = let p = and_parts (is_row r) (are_rows rs) h in p.0
 rows-at (r ∷ rs) (suc k) d h l = let p = and_parts (is_row r) (are_rows rs) h in rows-at rs k d p.1 (omega (arith, l))
 
-common-append : (s : Set) (closed : Bool) (rs : List Row) (r : Row) → common_set s closed (rs ++ r ∷ []) ≡ cut_set (common_set s closed rs) closed r
+common-append : (s : Set) (closed : Bool) (rs : List FormNumbers) (r : FormNumbers) → common_set s closed (rs ++ r ∷ []) ≡ cut_set (common_set s closed rs) closed r
 common-append s closed [] r = refl
 common-append s closed (q ∷ rs) r = common-append (cut_set s closed q) closed rs r
 
-pub common-more : (s : Set) (closed : Bool) (rs : List Row) (k : ℕ) (d : Row) → k < length rs → common_set s closed (take (k + 1) rs) ≡ cut_set (common_set s closed (take k rs)) closed (get_or rs k d)
+pub common-more : (s : Set) (closed : Bool) (rs : List FormNumbers) (k : ℕ) (d : FormNumbers) → k < length rs → common_set s closed (take (k + 1) rs) ≡ cut_set (common_set s closed (take k rs)) closed (get_or rs k d)
 common-more s closed rs k d l = ap (common_set s closed) (take_more rs k d l) ∙ common-append s closed (take k rs) (get_or rs k d)
 
-pub common-all : (s : Set) (closed : Bool) (rs : List Row) (k : ℕ) → length rs ≤ k → common_set s closed (take k rs) ≡ common_set s closed rs
+pub common-all : (s : Set) (closed : Bool) (rs : List FormNumbers) (k : ℕ) → length rs ≤ k → common_set s closed (take k rs) ≡ common_set s closed rs
 common-all s closed rs k l = ap (common_set s closed) (take_all k rs l)

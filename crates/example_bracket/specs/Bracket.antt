@@ -1,22 +1,22 @@
 -- The bracket as a set of half-spaces, and by the coordinates of its points.
 use Rattle.std.specs.Prelude.{◌*ℤ◌, ◌≤ℤ◌, ◌<ℤ◌, ◌∷◌, ◌&&◌, ◌||◌, ◌⊎◌, ℤ, pos, negsuc, nat_abs, List, [], Bool, true, false, eqb, leb}
-use Rattle.nef_space.specs.Prelude.{Place, Form, form, Set}
+use Rattle.nef_space.specs.Prelude.{SpacePoint, Form, form, Set}
 use Rattle.law_turns.specs.Turned.{turned_set}
 
 -- ---- sets by rows of numbers
 -- the numbers a, b, c and d of the form a x + b y + c z + d
-abbrev pub Row : Type 0
-Row = ℤ × ℤ × ℤ × ℤ
+abbrev pub FormNumbers : Type 0
+FormNumbers = ℤ × ℤ × ℤ × ℤ
 
-abbrev pub row_form : Row → Form
+abbrev pub row_form : FormNumbers → Form
 row_form r = form r.0 r.1 r.2 r.3
 
 -- the set's intersection with the half-space of the row
-abbrev pub cut_set : Set → Bool → Row → Set
+abbrev pub cut_set : Set → Bool → FormNumbers → Set
 cut_set s closed r = Set.both s (Set.half (row_form r) closed)
 
 -- the set's intersection with the half-spaces of all rows
-abbrev pub common_set : Set → Bool → List Row → Set
+abbrev pub common_set : Set → Bool → List FormNumbers → Set
 common_set s closed [] = s
 common_set s closed (r ∷ rs) = common_set (cut_set s closed r) closed rs
 
@@ -24,17 +24,17 @@ common_set s closed (r ∷ rs) = common_set (cut_set s closed r) closed rs
 abbrev pub is_unit : ℤ → Bool
 is_unit a = eqb (nat_abs a) 1
 
-abbrev pub has_unit : Row → Bool
+abbrev pub has_unit : FormNumbers → Bool
 has_unit r = is_unit r.0 || (is_unit r.1 || is_unit r.2)
 
-abbrev pub is_small : Row → Bool
+abbrev pub is_small : FormNumbers → Bool
 is_small r = leb (nat_abs r.0) 2048 && (leb (nat_abs r.1) 2048 && (leb (nat_abs r.2) 2048 && leb (nat_abs r.3) 2048))
 
 -- the numbers of the row are 2048 at most in size, and 1 or -1 is among the first three
-abbrev pub is_row : Row → Bool
+abbrev pub is_row : FormNumbers → Bool
 is_row r = has_unit r && is_small r
 
-abbrev pub are_rows : List Row → Bool
+abbrev pub are_rows : List FormNumbers → Bool
 are_rows [] = true
 are_rows (r ∷ rs) = is_row r && are_rows rs
 
@@ -85,5 +85,5 @@ pub record IsInLeg (x y z w : ℤ) : Type 0 where
   pub beside : IsInHole x y w → ⊥
 
 -- the point is in the leg that lies or in the leg that stands
-abbrev pub IsInBracket : Place → Type 0
+abbrev pub IsInBracket : SpacePoint → Type 0
 IsInBracket p = IsInLeg p.x p.y p.z (pos p.w) ⊎ IsInLeg p.z p.y p.x (pos p.w)

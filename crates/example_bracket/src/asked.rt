@@ -1,10 +1,10 @@
 //! Questions about a set, asked of a complex that shows the set.
 
 ghost use Rattle.std.specs.Prelude.{◌↔◌};
-ghost use Rattle.nef_complex.specs.Prelude.{IfOk, InFrame, IsAtMost, IsPlaceAtMost, IsTrue, Joined, SameSet, Set, ShowsSet, place_of, ray_direction_limit, ray_point_limit, ray_weight_limit, vector_of};
+ghost use Rattle.nef_complex.specs.Prelude.{IfOk, InFrame, IsAtMost, IsPointAtMost, IsTrue, Joined, SameSet, Set, ShowsSet, point_of, ray_direction_limit, ray_point_limit, ray_weight_limit, vector_of};
 ghost use Rattle.nef_space.specs.Sets.{Holds};
 ghost use Rattle.example_bracket.specs.Bracket.{IsInBracket};
-ghost use Rattle.example_bracket.specs.Answers.{IsClear};
+ghost use Rattle.example_bracket.specs.Answers.{IsRayClear};
 
 use crate::made::Maker;
 use nef_complex::{Complex, OutOfMemory};
@@ -21,8 +21,8 @@ use std::thread::Threads;
 /// Whether the set holds at the point, which lies in the frame.
 pub fn is_inside(c: &Complex, p: &Point) -> bool
     requires shows { (s : Set) × ShowsSet s c.now }
-    requires framed { InFrame (place_of p.now) }
-    ensures inside { (s : Set) → ShowsSet s c.now → IsTrue result ↔ Holds s (place_of p.now) }
+    requires framed { InFrame (point_of p.now) }
+    ensures inside { (s : Set) → ShowsSet s c.now → IsTrue result ↔ Holds s (point_of p.now) }
 {
     let place = locate(c, p);
     place_label(c, &place) == Label::In
@@ -33,8 +33,8 @@ pub fn is_in_bracket<R: Threads + Wait + Sync>(
     maker: &Maker<'_, R>,
     p: &Point,
 ) -> Result<bool, OutOfMemory>
-    requires framed { InFrame (place_of p.now) }
-    ensures inside { IfOk result (λ b. IsTrue b ↔ IsInBracket (place_of p.now)) }
+    requires framed { InFrame (point_of p.now) }
+    ensures inside { IfOk result (λ b. IsTrue b ↔ IsInBracket (point_of p.now)) }
 {
     let bracket = maker.bracket()?;
     Ok(is_inside(&bracket, p))
@@ -43,10 +43,10 @@ pub fn is_in_bracket<R: Threads + Wait + Sync>(
 /// Whether the label along the ray from the point, which lies in the frame, doesn't change within the frame.
 pub fn is_clear(alloc: Global, c: &Complex, p: &Point, d: &Dir) -> Result<bool, OutOfMemory>
     requires shows { (s : Set) × ShowsSet s c.now }
-    requires framed { InFrame (place_of p.now) }
-    requires p_small { IsPlaceAtMost ray_point_limit ray_weight_limit (place_of p.now) }
+    requires framed { InFrame (point_of p.now) }
+    requires p_small { IsPointAtMost ray_point_limit ray_weight_limit (point_of p.now) }
     requires d_small { IsAtMost ray_direction_limit (vector_of d.now) }
-    ensures clear { IfOk result (λ b. (s : Set) → ShowsSet s c.now → IsTrue b ↔ IsClear s (place_of p.now) (vector_of d.now)) }
+    ensures clear { IfOk result (λ b. (s : Set) → ShowsSet s c.now → IsTrue b ↔ IsRayClear s (point_of p.now) (vector_of d.now)) }
 {
     let end = ray_end(alloc, c, p, d)?;
     Ok(end.label == Label::Out)
@@ -68,9 +68,9 @@ pub fn is_solid<R: Threads + Wait + Sync>(
 /// Whether both points, which lie in the frame, lie in one vertex, edge, facet or volume.
 pub fn are_joined(alloc: Global, c: &Complex, p: &Point, q: &Point) -> Result<bool, OutOfMemory>
     requires shows { (s : Set) × ShowsSet s c.now }
-    requires first { InFrame (place_of p.now) }
-    requires second { InFrame (place_of q.now) }
-    ensures joined { IfOk result (λ b. (s : Set) → ShowsSet s c.now → IsTrue b ↔ Joined s (place_of p.now) (place_of q.now)) }
+    requires first { InFrame (point_of p.now) }
+    requires second { InFrame (point_of q.now) }
+    ensures joined { IfOk result (λ b. (s : Set) → ShowsSet s c.now → IsTrue b ↔ Joined s (point_of p.now) (point_of q.now)) }
 {
     let all = parts(alloc, c)?;
     Ok(joined(c, &all, p, q))

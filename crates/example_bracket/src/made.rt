@@ -17,10 +17,10 @@ use std::sync::Wait;
 use std::thread::Threads;
 
 // The numbers a, b, c and d of a half-space, where a x + b y + c z + d is at most zero, or negative in an open one.
-type Row = (i64, i64, i64, i64);
+type FormNumbers = (i64, i64, i64, i64);
 
 // The half-spaces of the plate, which is 8 long, 4 wide and 1 thick.
-const PLATE: [Row; 6] = [
+const PLATE: [FormNumbers; 6] = [
     (-1, 0, 0, 0),
     (1, 0, 0, -8),
     (0, -1, 0, 0),
@@ -30,13 +30,13 @@ const PLATE: [Row; 6] = [
 ];
 
 // The half-spaces of the hole, which runs along z, without its walls.
-const HOLE: [Row; 4] = [(-1, 0, 0, 4), (1, 0, 0, -6), (0, -1, 0, 1), (0, 1, 0, -3)];
+const HOLE: [FormNumbers; 4] = [(-1, 0, 0, 4), (1, 0, 0, -6), (0, -1, 0, 1), (0, 1, 0, -3)];
 
 // The number of the turn that exchanges x and z.
 const UPRIGHT: usize = 40;
 
 // The plane of the row, with the side where the row's form is negative.
-fn oriented(row: &Row) -> Oriented
+fn oriented(row: &FormNumbers) -> Oriented
     requires row { IsTrue (is_row row.now) }
     ensures form { given_form result ≡ row_form row.now }
 {
@@ -62,7 +62,7 @@ impl<'a, R: Threads + Wait + Sync> Maker<'a, R> {
     }
 
     // What the body has in common with the half-space of the row. The body is let go.
-    fn cut(&self, body: Complex, row: &Row, closed: bool) -> Result<Complex, OutOfMemory>
+    fn cut(&self, body: Complex, row: &FormNumbers, closed: bool) -> Result<Complex, OutOfMemory>
         requires body { (s : Set) × ShowsSet s body }
         requires row { IsTrue (is_row row.now) }
         ensures shows { IfOk result (λ c. (s : Set) → ShowsSet s body → ShowsSet (cut_set s closed row.now) c) }
@@ -73,7 +73,7 @@ impl<'a, R: Threads + Wait + Sync> Maker<'a, R> {
     }
 
     // The intersection of the half-spaces of all rows.
-    fn common(&self, rows: &[Row], closed: bool) -> Result<Complex, OutOfMemory>
+    fn common(&self, rows: &[FormNumbers], closed: bool) -> Result<Complex, OutOfMemory>
         requires rows { IsTrue (are_rows rows.now) }
         ensures shows { IfOk result (ShowsSet (common_set Set.full closed rows.now)) }
     {

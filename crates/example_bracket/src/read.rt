@@ -4,7 +4,7 @@ ghost use Rattle.std.specs.Prelude.{◌≡◌, ◌<◌};
 ghost use Rattle.nef_complex.specs.Prelude.{Set, ShowsSet, length};
 ghost use Rattle.nef_volumes.specs.Joins.{AreCounted};
 ghost use Rattle.std.specs.List.{count_by};
-ghost use Rattle.example_bracket.specs.Answers.{AreEnds, HasCounts, has_hole, is_within};
+ghost use Rattle.example_bracket.specs.Answers.{HasComponentCounts, HasEdgeEnds, has_hole, is_within};
 
 use nef_complex::{Complex, Parts};
 use nef_geo::{Label, Point};
@@ -21,7 +21,7 @@ pub struct Counts {
 /// The numbers of vertices, edges, facets and volumes, with the outside of the frame among the volumes.
 pub fn count_parts(c: &Complex, parts: &Parts) -> Counts
     requires counted { AreCounted c.now parts.now }
-    ensures components { (s : Set) → ShowsSet s c.now → HasCounts s result }
+    ensures components { (s : Set) → ShowsSet s c.now → HasComponentCounts s result }
 {
     Counts {
         vertices: c.vertices.len(),
@@ -35,7 +35,7 @@ pub fn count_parts(c: &Complex, parts: &Parts) -> Counts
 pub fn edge_ends(c: &Complex, number: usize) -> (Point, Point)
     requires shows { (s : Set) × ShowsSet s c.now }
     requires within { number < length c.now.edges }
-    ensures ends { AreEnds c.now number result.0 result.1 }
+    ensures ends { HasEdgeEnds c.now number result.0 result.1 }
 {
     let edge = c.edges.at(number);
     (

@@ -5,7 +5,7 @@
 //! vertices, 12 edges and 4 walls, and a cycle to each of the two facets through which the hole leads.
 
 ghost use Rattle.std.specs.Prelude.{◌≤◌};
-ghost use Rattle.nef_complex.specs.Prelude.{IfOk, IfSome, InFrame, IsAtMost, IsPlaceAtMost, IsTrue, Set, ShowsSet, nat_abs, place_of, ray_direction_limit, ray_point_limit, ray_weight_limit, vector_of};
+ghost use Rattle.nef_complex.specs.Prelude.{IfOk, IfSome, InFrame, IsAtMost, IsPointAtMost, IsTrue, Set, ShowsSet, nat_abs, point_of, ray_direction_limit, ray_point_limit, ray_weight_limit, vector_of};
 
 use crate::asked::{are_joined, is_clear, is_in_bracket, is_inside, is_solid};
 use crate::made::Maker;
@@ -71,7 +71,7 @@ fn is_small(number: i64) -> bool
 }
 
 fn is_small_point(p: &Point) -> bool
-    ensures small { IsTrue result → IsPlaceAtMost ray_point_limit ray_weight_limit (place_of p.now) }
+    ensures small { IsTrue result → IsPointAtMost ray_point_limit ray_weight_limit (point_of p.now) }
 {
     is_small(p.x()) && is_small(p.y()) && is_small(p.z()) && is_small(p.w())
 }
@@ -95,7 +95,7 @@ fn numbers(words: &str, first: usize) -> Option<[i64; 4]> {
 
 // The point of the four numbers from number `first` on, if the point lies in the frame.
 fn point(words: &str, first: usize) -> Option<Point>
-    ensures framed { IfSome result (λ p. InFrame (place_of p)) }
+    ensures framed { IfSome result (λ p. InFrame (point_of p)) }
 {
     let [x, y, z, w] = numbers(words, first)?;
     if !is_small(x) || !is_small(y) || !is_small(z) || !is_small(w) || w < 1 {
@@ -163,7 +163,7 @@ fn add_truth(text: &mut String, holds: bool) -> Option<()> {
 
 fn is_clear_along(alloc: Global, c: &Complex, p: &Point, d: &Dir) -> Option<bool>
     requires shows { (s : Set) × ShowsSet s c.now }
-    requires framed { InFrame (place_of p.now) }
+    requires framed { InFrame (point_of p.now) }
 {
     if is_small_point(p) && is_small_direction(d) {
         is_clear(alloc, c, p, d).ok()

@@ -1,5 +1,5 @@
 -- What has the labels that a map of a set gets is a map of the node over the set.
-use Rattle.law_border.proofs.Prelude.{◌≡◌, ℕ, ◌+◌, ◌≤◌, arith, ◌⊎◌, inl, inr, ⊎_elim, subst, Place, InFrame, Vector, IsDirection, blend, Set, HasLabel, Germ, Label, Out, Not, In, NearGerm, label-one, Germ-unique, germ_of, Map, MapLabel, NearLabel, forms, Cone, Full, amount, axes-forms, label-direction, label-unique, far_directed-by, Topology, interior, closure, boundary, complement, set_by, IsInside, IsInBy, ByTopology, TopologyLabel, MarkLabel, TopologyCone, RegularCone, zero-decided}
+use Rattle.law_border.proofs.Prelude.{◌≡◌, ℕ, ◌+◌, ◌≤◌, arith, ◌⊎◌, inl, inr, ⊎_elim, subst, SpacePoint, InFrame, Vector, IsDirection, blend, Set, HasLabel, Germ, Label, Out, Not, In, NearGerm, label-one, Germ-unique, germ_of, Map, MapLabel, NearLabel, forms, Cone, Full, amount, axes-forms, label-direction, label-unique, far_directed-by, Topology, interior, closure, boundary, complement, set_by, IsInside, IsInBy, ByTopology, TopologyLabel, MarkLabel, TopologyCone, RegularCone, zero-decided}
 use Rattle.law_near.proofs.Decided.{label_of, InFrame-decided}
 use Rattle.law_near.proofs.Rays.{Germ-zero}
 use Rattle.law_near.proofs.Frames.{no-germ_out}
@@ -9,7 +9,7 @@ use Rattle.law_near.proofs.Topology.{inside-at, closed-at, border-at, regular-la
 use Rattle.law_border.proofs.Made.{by-carried}
 
 -- ---- at a point
-module _ (s : Set) (p : Place) where
+module _ (s : Set) (p : SpacePoint) where
   abbrev Inside : Type 0
   Inside = IsInside (HasLabel s p) (Germ s p)
 
@@ -64,18 +64,18 @@ module _ (s : Set) (p : Place) where
       by (In, a) = absurd (h.1 (by-in k a))
 
 -- ---- toward a direction
-germ-carried : (k : Topology) (s : Set) (p : Place) (d : Vector) (l : Label) → ByTopology k (Germ s p d) (NearGerm s p d) l → HasLabel (set_by k s) (ahead s p d) l
+germ-carried : (k : Topology) (s : Set) (p : SpacePoint) (d : Vector) (l : Label) → ByTopology k (Germ s p d) (NearGerm s p d) l → HasLabel (set_by k s) (ahead s p d) l
 germ-carried k s p d l h = label-by s (ahead s p d) k l
     (by-carried (Germ s p d) (NearGerm s p d) (HasLabel s (ahead s p d)) (Germ s (ahead s p d)) (λ m. (label-ahead s p d m).0) (λ m. (label-ahead s p d m).1) (λ e m. (near-ahead s p d e m).1) (λ e m. (near-ahead s p d e m).0) k l h)
 
-pub germ-by : (k : Topology) (s : Set) (p : Place) (d : Vector) (l : Label) → ByTopology k (Germ s p d) (NearGerm s p d) l → Germ (set_by k s) p d l
+pub germ-by : (k : Topology) (s : Set) (p : SpacePoint) (d : Vector) (l : Label) → ByTopology k (Germ s p d) (NearGerm s p d) l → Germ (set_by k s) p d l
 germ-by interior s p d l h = (label-ahead (Set.inside s) p d l).1 (germ-carried interior s p d l h)
 germ-by closure s p d l h = (label-ahead (Set.closed s) p d l).1 (germ-carried closure s p d l h)
 germ-by boundary s p d l h = (label-ahead (Set.border s) p d l).1 (germ-carried boundary s p d l h)
 germ-by complement s p d l h = (label-ahead (Set.other s) p d l).1 (germ-carried complement s p d l h)
 
 -- ---- maps
-module _ (M : Map) (s : Set) (p : Place) (C : Cone M s p) where
+module _ (M : Map) (s : Set) (p : SpacePoint) (C : Cone M s p) where
   map-germ : (d : Vector) (l : Label) → MapLabel M d l → Germ s p d l
   map-germ d l a = let x = C.labels d (label-direction M d l a) in subst (Germ s p d) (label-unique M C.valid d x.0 l x.1 a) x.2
 

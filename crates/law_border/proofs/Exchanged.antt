@@ -1,5 +1,5 @@
 -- A map with In and Not exchanged everywhere: its parts are those of the map.
-use Rattle.law_border.proofs.Prelude.{◌≡◌, ℕ, zero, suc, refl, ap, sym, ◌⊎◌, List, ◌∷◌, subst, map, Option, Some, None, [], option_map, Vector, IsDirection, SameDirection, IsNormal, Label, IsPrimitive, VectorBelow, IsStrictlyOn, At, MapVertex, Arc, MapSloop, Map, Item, arc_item, sloop_item, items, items_then, item_normal, item_pos, item_mark, item_neg, dir_of, OnItem, IsFree, HasArc, ArcBetween, Shaped, ArcBelow, Ordered, exchanged, exchanged_svertex, exchanged_arc, exchanged_sloop, exchanged_map, at-map, map-at, map-empty, is-at_none, is-at_first}
+use Rattle.law_border.proofs.Prelude.{◌≡◌, ℕ, zero, suc, refl, ap, sym, ◌⊎◌, List, ◌∷◌, subst, map, Option, Some, None, [], option_map, Vector, IsDirection, SameDirection, IsNormal, Label, IsPrimitive, VectorBelow, IsStrictlyOn, IsAt, MapVertex, Arc, MapSloop, Map, Item, arc_item, sloop_item, items, items_then, item_normal, item_pos, item_mark, item_neg, dir_of, OnItem, IsFree, HasArc, ArcBetween, Shaped, ArcBelow, Ordered, exchanged, exchanged_svertex, exchanged_arc, exchanged_sloop, exchanged_map, at-map, map-at, map-empty, is-at_none, is-at_first}
 use Rattle.law_border.proofs.Listed.{option-was, none-was}
 
 pub twice : (l : Label) → exchanged (exchanged l) ≡ l
@@ -16,14 +16,14 @@ item-same (arc_item a) = (refl, refl, refl, refl)
 item-same (sloop_item l) = (refl, refl, refl, refl)
 
 -- ---- lists and options
-items-was : (as' : List Arc) (o : Option MapSloop) (i : ℕ) (y : Item) → At (items_then (map exchanged_arc as') (option_map exchanged_sloop o)) i y → (x : Item) × At (items_then as' o) i x × (exchanged_item x ≡ y)
+items-was : (as' : List Arc) (o : Option MapSloop) (i : ℕ) (y : Item) → IsAt (items_then (map exchanged_arc as') (option_map exchanged_sloop o)) i y → (x : Item) × IsAt (items_then as' o) i x × (exchanged_item x ≡ y)
 items-was [] None i y a = absurd (is-at_none a)
 items-was [] (Some l) zero y e = (sloop_item l, refl, is-at_first e)
 items-was [] (Some l) (suc i) y a = absurd (is-at_none a)
 items-was (r ∷ as') o zero y e = (arc_item r, refl, is-at_first e)
 items-was (r ∷ as') o (suc i) y a = items-was as' o i y a
 
-items-are : (as' : List Arc) (o : Option MapSloop) (i : ℕ) (x : Item) → At (items_then as' o) i x → At (items_then (map exchanged_arc as') (option_map exchanged_sloop o)) i (exchanged_item x)
+items-are : (as' : List Arc) (o : Option MapSloop) (i : ℕ) (x : Item) → IsAt (items_then as' o) i x → IsAt (items_then (map exchanged_arc as') (option_map exchanged_sloop o)) i (exchanged_item x)
 items-are [] None i x a = absurd (is-at_none a)
 items-are [] (Some l) zero x e = ap (option_map exchanged_item) e
 items-are [] (Some l) (suc i) x a = absurd (is-at_none a)
@@ -39,16 +39,16 @@ module _ (M : Map) where
   abbrev N : Map
   N = exchanged_map M
 
-  pub svertex-was : (k : ℕ) (u : MapVertex) → At N.svertices k u → (v : MapVertex) × At M.svertices k v × (exchanged_svertex v ≡ u)
+  pub svertex-was : (k : ℕ) (u : MapVertex) → IsAt N.svertices k u → (v : MapVertex) × IsAt M.svertices k v × (exchanged_svertex v ≡ u)
   svertex-was k u a = at-map exchanged_svertex M.svertices k u a
 
-  pub arc-was : (k : ℕ) (b : Arc) → At N.arcs k b → (a : Arc) × At M.arcs k a × (exchanged_arc a ≡ b)
+  pub arc-was : (k : ℕ) (b : Arc) → IsAt N.arcs k b → (a : Arc) × IsAt M.arcs k a × (exchanged_arc a ≡ b)
   arc-was k b h = at-map exchanged_arc M.arcs k b h
 
-  pub item-was : (i : ℕ) (y : Item) → At (items N) i y → (x : Item) × At (items M) i x × (exchanged_item x ≡ y)
+  pub item-was : (i : ℕ) (y : Item) → IsAt (items N) i y → (x : Item) × IsAt (items M) i x × (exchanged_item x ≡ y)
   item-was i y a = items-was M.arcs M.sloop i y a
 
-  pub item-is : (i : ℕ) (x : Item) → At (items M) i x → At (items N) i (exchanged_item x)
+  pub item-is : (i : ℕ) (x : Item) → IsAt (items M) i x → IsAt (items N) i (exchanged_item x)
   item-is i x a = items-are M.arcs M.sloop i x a
 
   pub ground-was : (m : Label) → N.ground ≡ Some m → (l : Label) × (M.ground ≡ Some l) × (exchanged l ≡ m)
@@ -81,13 +81,13 @@ module _ (M : Map) where
   has-arc_is k (i, a, h, e) = (i, exchanged_arc a, map-at exchanged_arc M.arcs i a h, e)
 
   module _ (V : Shaped M) where
-    svertex-of : (P : MapVertex → Type 0) (k : ℕ) (u : MapVertex) → At N.svertices k u → ((v : MapVertex) → At M.svertices k v → P (exchanged_svertex v)) → P u
+    svertex-of : (P : MapVertex → Type 0) (k : ℕ) (u : MapVertex) → IsAt N.svertices k u → ((v : MapVertex) → IsAt M.svertices k v → P (exchanged_svertex v)) → P u
     svertex-of P k u a f = let v = svertex-was k u a in subst P v.2 (f v.0 v.1)
 
-    item-of : (P : Item → Type 0) (i : ℕ) (y : Item) → At (items N) i y → ((x : Item) → At (items M) i x → P (exchanged_item x)) → P y
+    item-of : (P : Item → Type 0) (i : ℕ) (y : Item) → IsAt (items N) i y → ((x : Item) → IsAt (items M) i x → P (exchanged_item x)) → P y
     item-of P i y a f = let x = item-was i y a in subst P x.2 (f x.0 x.1)
 
-    between : (k : ℕ) (a : Arc) → At M.arcs k a → ArcBetween N (exchanged_arc a)
+    between : (k : ℕ) (a : Arc) → IsAt M.arcs k a → ArcBetween N (exchanged_arc a)
     between k a h = let b = V.arcs_between k a h in record {
       source = exchanged_svertex b.source;
       target = exchanged_svertex b.target;

@@ -1,5 +1,5 @@
 -- A map with In and Not exchanged everywhere is valid and has the labels of the complement; it is least where the map is.
-use Rattle.law_border.proofs.Prelude.{◌≡◌, ℕ, refl, ap, sym, ◌∙◌, subst, Some, Sign, minus, nought, plus, sign, Vector, IsDirection, cross, dot, blend, Label, At, MapVertex, Map, Item, item_normal, item_pos, item_mark, item_neg, OnItem, IsFree, HasArc, MapLabel, at_svertex, on_item, NearLabel, Shaped, Valid, forms, by_side, NearPlain, NearStraight, Least, Labelling, Near, Plain, Agrees, Full, label-exists, label-unique, label-direction, near-free, near-item, near-lone, not-both, only-ground, complement, TopologyLabel, IsTopologyMap, exchanged, exchanged_svertex, exchanged_map, ExchangedMap, dir-self}
+use Rattle.law_border.proofs.Prelude.{◌≡◌, ℕ, refl, ap, sym, ◌∙◌, subst, Some, Sign, minus, nought, plus, sign, Vector, IsDirection, cross, dot, blend, Label, IsAt, MapVertex, Map, Item, item_normal, item_pos, item_mark, item_neg, OnItem, IsFree, HasArc, MapLabel, at_svertex, on_item, NearLabel, Shaped, Valid, forms, by_side, NearPlain, NearStraight, Least, Labelling, Near, Plain, Agrees, Full, label-exists, label-unique, label-direction, near-free, near-item, near-lone, not-both, only-ground, complement, TopologyLabel, IsTopologyMap, exchanged, exchanged_svertex, exchanged_map, ExchangedMap, dir-self}
 use Rattle.law_sphere.proofs.Built.{agrees-valid, agrees-label, label-agrees}
 use Rattle.law_border.proofs.Made.{exchange-made}
 use Rattle.law_border.proofs.PlaceLabels.{topology-one, topology-exists, topology-labels}
@@ -45,10 +45,10 @@ module _ (M : Map) (V : Valid M) where
           ∙ ap (λ l. by_side (item_pos (exchanged_item x)) (item_mark (exchanged_item x)) l (sign (dot (item_normal x) e))) (sym s.3)
           ∙ ap (λ v. by_side (item_pos (exchanged_item x)) (item_mark (exchanged_item x)) (item_neg (exchanged_item x)) (sign (dot v e))) (sym s.0)
 
-  lone : (k : ℕ) (v : MapVertex) → At M.svertices k v → (l : Label) → v.around ≡ Some l → HasArc M k → ⊥
+  lone : (k : ℕ) (v : MapVertex) → IsAt M.svertices k v → (l : Label) → v.around ≡ Some l → HasArc M k → ⊥
   lone k v a l e h = not-both v.around l (V.shaped.around_not k v a h) e
 
-  around : (k : ℕ) (v : MapVertex) (m : Label) (e : Vector) → At M.svertices k v → (exchanged_svertex v).around ≡ Some m → IsDirection (cross v.dir e) → Near F v.dir e m
+  around : (k : ℕ) (v : MapVertex) (m : Label) (e : Vector) → IsAt M.svertices k v → (exchanged_svertex v).around ≡ Some m → IsDirection (cross v.dir e) → Near F v.dir e m
   around k v m e a q f = let l = around-was M v m q in subst (Near F v.dir e) l.2 (near-turned v.dir e l.0 (near-lone M V k v a (lone k v a l.0 l.1) l.0 l.1 e f))
 
   free : (d : Vector) → IsFree M d → Plain F d

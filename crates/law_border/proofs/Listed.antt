@@ -1,5 +1,5 @@
 -- Elements of lists by their places, the sectors of stars, and what an option was made of.
-use Rattle.law_border.proofs.Prelude.{◌≡◌, zero, arith, refl, ap, List, ◌∷◌, length, Option, Some, None, [], option_map, Label, At, Ray, sector_count}
+use Rattle.law_border.proofs.Prelude.{◌≡◌, zero, arith, refl, ap, List, ◌∷◌, length, Option, Some, None, [], option_map, Label, IsAt, Ray, sector_count}
 
 pub count-same : (rs qs : List Ray) → length qs ≡ length rs → sector_count qs ≡ sector_count rs
 count-same [] [] e = refl
@@ -8,7 +8,7 @@ count-same (r ∷ rs) [] e = absurd (omega arith)
 count-same (r ∷ rs) (q ∷ qs) e = e
 
 -- a star without rays has one sector
-pub sector-one : (rs : List Ray) (ls : List Label) → rs ≡ [] → length ls ≡ sector_count rs → (l : Label) × At ls zero l
+pub sector-one : (rs : List Ray) (ls : List Label) → rs ≡ [] → length ls ≡ sector_count rs → (l : Label) × IsAt ls zero l
 sector-one [] [] z e = absurd (omega arith)
 sector-one [] (l ∷ ls) z e = (l, refl)
 sector-one (r ∷ rs) ls z e = cc

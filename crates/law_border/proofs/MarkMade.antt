@@ -1,9 +1,9 @@
 -- The mark that a map gets, from the labels that the map lists.
-use Rattle.law_border.proofs.Prelude.{◌≡◌, ℕ, zero, suc, pos, ◌<ℤ◌, arith, refl, ap, sym, ◌∙◌, ◌⊎◌, inl, inr, ⊎_elim, List, ◌∷◌, ◌++◌, subst, Option, Some, None, [], ints, Lies, lies-left, lies-right, lies-append, sign, sign-plus, sign-minus, Vector, IsDirection, dot, blend, opposite, Label, At, MapVertex, MapSloop, Map, Item, arc_item, sloop_item, items, item_normal, item_pos, item_mark, item_neg, OnItem, Side, around_svertex, pos_item, neg_item, whole, HasSide, MapLabel, at_svertex, on_item, seen, Valid, gather, axis_x, by_side, Full, normal-is, gather-has, circle-point, arc-at, label-exists, label-unique, label-direction, near-item, near-lone, at-sloop, sloop-at, at-arc, not-both, only-ground, Topology, MarkLabel, label_from, option_labels, svertex_labels, arc_labels, sloop_labels, map_labels, TopologyMark, zero-decided, self-pos, dir-self, apart, dot-opposite}
+use Rattle.law_border.proofs.Prelude.{◌≡◌, ℕ, zero, suc, pos, ◌<ℤ◌, arith, refl, ap, sym, ◌∙◌, ◌⊎◌, inl, inr, ⊎_elim, List, ◌∷◌, ◌++◌, subst, Option, Some, None, [], ints, Lies, lies-left, lies-right, lies-append, sign, sign-plus, sign-minus, Vector, IsDirection, dot, blend, opposite, Label, IsAt, MapVertex, MapSloop, Map, Item, arc_item, sloop_item, items, item_normal, item_pos, item_mark, item_neg, OnItem, Side, around_svertex, pos_item, neg_item, whole, HasSide, MapLabel, at_svertex, on_item, seen, Valid, gather, axis_x, by_side, Full, normal-is, gather-has, circle-point, arc-at, label-exists, label-unique, label-direction, near-item, near-lone, at-sloop, sloop-at, at-arc, not-both, only-ground, Topology, MarkLabel, label_from, option_labels, svertex_labels, arc_labels, sloop_labels, map_labels, TopologyMark, zero-decided, self-pos, dir-self, apart, dot-opposite}
 use Rattle.law_sphere.proofs.Shot.{item-point}
 use Rattle.law_border.proofs.Made.{made}
 
-lies-gather : {A B : Type 0} (f : A → List B) (xs : List A) (y : B) → Lies (gather f xs) y → (k : ℕ) × (x : A) × At xs k x × Lies (f x) y
+lies-gather : {A B : Type 0} (f : A → List B) (xs : List A) (y : B) → Lies (gather f xs) y → (k : ℕ) × (x : A) × IsAt xs k x × Lies (f x) y
 lies-gather f [] y l = absurd l
 lies-gather f (x ∷ xs) y l = ⊎_elim (λ m. (zero, x, refl, m)) (λ m. let r = lies-gather f xs y m in (suc r.0, r.1, r.2, r.3)) (lies-append (f x) (gather f xs) y l)
 
@@ -31,10 +31,10 @@ module _ (M : Map) (V : Valid M) where
   abbrev later : List Label
   later = gather arc_labels M.arcs ++ (sloop_labels M.sloop ++ option_labels M.ground)
 
-  svertex-listed : (k : ℕ) (v : MapVertex) (l : Label) → At M.svertices k v → Lies (svertex_labels v) l → Lies (map_labels M) l
+  svertex-listed : (k : ℕ) (v : MapVertex) (l : Label) → IsAt M.svertices k v → Lies (svertex_labels v) l → Lies (map_labels M) l
   svertex-listed k v l a m = lies-left (gather svertex_labels M.svertices) later l (gather-has svertex_labels M.svertices k v l a m)
 
-  item-listed : (i : ℕ) (x : Item) (l : Label) → At (items M) i x → Lies (item_labels x) l → Lies (map_labels M) l
+  item-listed : (i : ℕ) (x : Item) (l : Label) → IsAt (items M) i x → Lies (item_labels x) l → Lies (map_labels M) l
   item-listed i (arc_item r) l a m = lies-right (gather svertex_labels M.svertices) later l (lies-left (gather arc_labels M.arcs) (sloop_labels M.sloop ++ option_labels M.ground) l (gather-has arc_labels M.arcs i r l (arc-at M.arcs M.sloop i r a) m))
   item-listed i (sloop_item c) l a m = lies-right (gather svertex_labels M.svertices) later l (lies-right (gather arc_labels M.arcs) (sloop_labels M.sloop ++ option_labels M.ground) l
       (lies-left (sloop_labels M.sloop) (option_labels M.ground) l (sloop-lies M.sloop c l (sloop-at M.arcs M.sloop i c a) m)))
@@ -54,7 +54,7 @@ module _ (M : Map) (V : Valid M) where
       by whole e = ground-listed l e
 
   -- ---- each listed label is a direction's
-  svertex-found : (k : ℕ) (v : MapVertex) (l : Label) → At M.svertices k v → Lies (svertex_labels v) l → (d : Vector) × MapLabel M d l
+  svertex-found : (k : ℕ) (v : MapVertex) (l : Label) → IsAt M.svertices k v → Lies (svertex_labels v) l → (d : Vector) × MapLabel M d l
   svertex-found k v l a (inl e) = (v.dir, at_svertex k v a (dir-self v.dir (V.shaped.svertex_dirs k v a)) e)
   svertex-found k v l a (inr m) =
       let h = V.shaped.svertex_dirs k v a in
@@ -64,7 +64,7 @@ module _ (M : Map) (V : Valid M) where
       let n = near-lone M V k v a (λ x. not-both v.around l (V.shaped.around_not k v a x) r) l r y.0 (apart v.dir v.dir y.0 (λ z. let p = self-pos v.dir h in omega (arith, ints)) o.level o.direction) in
       (blend n.0 v.dir 1 y.0, n.1 n.0 (omega arith))
 
-  item-found : (i : ℕ) (x : Item) (l : Label) → At (items M) i x → Lies (item_labels x) l → (d : Vector) × MapLabel M d l
+  item-found : (i : ℕ) (x : Item) (l : Label) → IsAt (items M) i x → Lies (item_labels x) l → (d : Vector) × MapLabel M d l
   item-found i x l a m = by (item-point M V.shaped i x a) m
     where
       beside : (y : Vector) → OnItem M x y → (e : Vector) → by_side (item_pos x) (item_mark x) (item_neg x) (sign (dot (item_normal x) e)) ≡ l → (d : Vector) × MapLabel M d l

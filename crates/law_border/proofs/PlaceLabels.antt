@@ -1,5 +1,5 @@
 -- The label that each direction of a valid map gets: there is one, the signs on the map's forms determine it, and on items and in faces the tables give it.
-use Rattle.law_border.proofs.Prelude.{◌≡◌, ℕ, ◌+◌, ◌≤◌, pos, ◌<ℤ◌, arith, refl, ap, sym, ◌∙◌, ◌⊎◌, inl, inr, ⊎_elim, List, ◌∷◌, subst, [], ints, Lies, Sign, minus, nought, plus, sign, sign-plus, sign-minus, nought-or, Vector, IsDirection, dot, blend, opposite, Label, At, Map, Item, items, item_normal, item_pos, item_mark, item_neg, OnItem, IsFree, MapLabel, on_item, NearLabel, Valid, SameSigns, forms, by_side, Labelling, normal-is, amount, far-keeps, far-level, axes-forms, same-turned, label-exists, label-unique, label-by_signs, near-exists, near-unique, near-from_far, far-from_near, near-free, near-item, near-same_cell, near-near, directed-by, far_directed-by, map-labels, Topology, TopologyLabel, label_from, face_label, self-pos, dot-opposite}
+use Rattle.law_border.proofs.Prelude.{◌≡◌, ℕ, ◌+◌, ◌≤◌, pos, ◌<ℤ◌, arith, refl, ap, sym, ◌∙◌, ◌⊎◌, inl, inr, ⊎_elim, List, ◌∷◌, subst, [], ints, Lies, Sign, minus, nought, plus, sign, sign-plus, sign-minus, nought-or, Vector, IsDirection, dot, blend, opposite, Label, IsAt, Map, Item, items, item_normal, item_pos, item_mark, item_neg, OnItem, IsFree, MapLabel, on_item, NearLabel, Valid, SameSigns, forms, by_side, Labelling, normal-is, amount, far-keeps, far-level, axes-forms, same-turned, label-exists, label-unique, label-by_signs, near-exists, near-unique, near-from_far, far-from_near, near-free, near-item, near-same_cell, near-near, directed-by, far_directed-by, map-labels, Topology, TopologyLabel, label_from, face_label, self-pos, dot-opposite}
 use Rattle.law_near.proofs.Representatives.{representative, representative_directions}
 use Rattle.law_border.proofs.Made.{by-one, made, by-carried, face-table}
 
@@ -41,7 +41,7 @@ module _ (M : Map) (V : Valid M) where
   pub free-made : (k : Topology) (d : Vector) (m : Label) → IsFree M d → MapLabel M d m → TopologyLabel k M d (face_label k m)
   free-made k d m F a = even-made k d m a (near-free M V d F m a)
 
-  pub item-made : (k : Topology) (d : Vector) (i : ℕ) (x : Item) → At (items M) i x → OnItem M x d → TopologyLabel k M d (label_from k (item_mark x) (item_pos x ∷ item_neg x ∷ []))
+  pub item-made : (k : Topology) (d : Vector) (i : ℕ) (x : Item) → IsAt (items M) i x → OnItem M x d → TopologyLabel k M d (label_from k (item_mark x) (item_pos x ∷ item_neg x ∷ []))
   item-made k d i x a o = made-at k d (item_mark x) (item_pos x ∷ item_neg x ∷ []) (on_item i x a o refl) (λ e. (side (sign (dot n e)), near-item M V d i x a o e, listed (sign (dot n e)))) found
     where
       n : Vector

@@ -1,5 +1,5 @@
 -- The remarked stars of a map, with its circle and its face, show the labels that directions get.
-use Rattle.law_border.proofs.Prelude.{◌≡◌, ℕ, ◌≤◌, pos, arith, refl, ap, sym, ◌∙◌, ◌∷◌, subst, Some, None, [], ints, option_map, Sign, sign, sign-plus, sign-minus, by_order, Vector, IsDirection, dot, SameDirection, IsNormal, blend, Label, IsOnCircle, IsPrimitive, VectorBelow, At, MapVertex, MapSloop, Map, Item, sloop_item, items, item_normal, item_pos, item_mark, item_neg, OnItem, IsFree, MapLabel, Valid, forms, Keeps, by_side, InOrder, Ordered, Star, Labelling, PlainAt, StraightAt, IsSmooth, plain, straight, Proper, normal-direction, normal-is, amount, far-keeps, far-level, axes-forms, on-direction, on-level, PlaceOf, svertex_place, item_place, free_place, place_of, label-exists, label-beside, label-around, normals-same, at-sloop, level-same, not-even, directed-by, far_directed-by, planes-parallel, RawMap, Of, IsLabelling, ShowsLabels, IsBare, IsRawOf, OnSvertex, chosen, chosen-is, chosen-labelling, no-item, only-ground, Topology, TopologyLabel, label_from, face_label, sloop_by, IsRemarkedAt, IsTopologyRaw, TopologyLabelling, TopologyOneLabel, TopologyStars, at-other, none-left, SameDirection-turned, dir-self, none-at}
+use Rattle.law_border.proofs.Prelude.{◌≡◌, ℕ, ◌≤◌, pos, arith, refl, ap, sym, ◌∙◌, ◌∷◌, subst, Some, None, [], ints, option_map, Sign, sign, sign-plus, sign-minus, by_order, Vector, IsDirection, dot, SameDirection, IsNormal, blend, Label, IsOnCircle, IsPrimitive, VectorBelow, IsAt, MapVertex, MapSloop, Map, Item, sloop_item, items, item_normal, item_pos, item_mark, item_neg, OnItem, IsFree, MapLabel, Valid, forms, Keeps, by_side, InOrder, Ordered, Star, Labelling, PlainAt, StraightAt, IsSmooth, plain, straight, Proper, normal-direction, normal-is, amount, far-keeps, far-level, axes-forms, on-direction, on-level, PlaceOf, svertex_place, item_place, free_place, place_of, label-exists, label-beside, label-around, normals-same, at-sloop, level-same, not-even, directed-by, far_directed-by, planes-parallel, RawMap, Of, IsLabelling, ShowsLabels, IsBare, IsRawOf, OnSvertex, chosen, chosen-is, chosen-labelling, no-item, only-ground, Topology, TopologyLabel, label_from, face_label, sloop_by, IsRemarkedAt, IsTopologyRaw, TopologyLabelling, TopologyOneLabel, TopologyStars, at-other, none-left, SameDirection-turned, dir-self, none-at}
 use Rattle.law_sphere.proofs.Around.{free-around, item-stays, free-beside}
 use Rattle.law_build.proofs.LoneSloops.{item-sloop, sloop-normal}
 use Rattle.law_border.proofs.Listed.{option-was, none-was}
@@ -13,7 +13,7 @@ item_label k x = label_from k (item_mark x) (item_pos x ∷ item_neg x ∷ [])
 module _ (K : Topology) (M : Map) (V : Valid M) (L : Vector → Label) (top : (d : Vector) → IsDirection d → TopologyLabel K M d (L d)) where
   -- ---- items and faces
   -- on an item the labels are those of its sides and its mark
-  pub item-straight : (i : ℕ) (x : Item) → At (items M) i x → (d : Vector) → OnItem M x d → StraightAt (Of L) (item_normal x) (face_label K (item_pos x)) (item_label K x) (face_label K (item_neg x)) d
+  pub item-straight : (i : ℕ) (x : Item) → IsAt (items M) i x → (d : Vector) → OnItem M x d → StraightAt (Of L) (item_normal x) (face_label K (item_pos x)) (item_label K x) (face_label K (item_neg x)) d
   item-straight i x a d o = record {
     level = on-level M x d o;
     at_d = is-by K M V L top d h (item_label K x) (item-made M V K d i x a o);
@@ -73,25 +73,25 @@ module _ (K : Topology) (M : Map) (V : Valid M) (L : Vector → Label) (top : (d
       -- ---- stars
       record Svertices (k : ℕ) (u : Star) : Type 0 where
         svertex : MapVertex
-        listed : At M.svertices k svertex
+        listed : IsAt M.svertices k svertex
         remarked : IsRemarkedAt K M svertex.dir u
         axis : u.axis ≡ svertex.dir
 
-      svertex-of : (k : ℕ) (u : Star) → At R.stars k u → Svertices k u
+      svertex-of : (k : ℕ) (u : Star) → IsAt R.stars k u → Svertices k u
       svertex-of k u a =
           let v = at-other R.stars M.svertices k u T.as_many a in
           let r = T.stars k v.0 u v.1 a in
           let m = r.remarked in
           record { svertex = v.0; listed = v.1; remarked = r; axis = m.axis ∙ r.axis }
 
-      star-of : (k : ℕ) (v : MapVertex) → At M.svertices k v → (u : Star) × At R.stars k u × (u.axis ≡ v.dir)
+      star-of : (k : ℕ) (v : MapVertex) → IsAt M.svertices k v → (u : Star) × IsAt R.stars k u × (u.axis ≡ v.dir)
       star-of k v a =
           let u = at-other M.svertices R.stars k v (sym T.as_many) a in
           let r = T.stars k v u.0 a u.1 in
           let m = r.remarked in
           (u.0, u.1, m.axis ∙ r.axis)
 
-      shows : (k : ℕ) (u : Star) → At R.stars k u → ShowsLabels u L
+      shows : (k : ℕ) (u : Star) → IsAt R.stars k u → ShowsLabels u L
       shows k u a = let s = svertex-of k u a in let r = s.remarked in remarked-shows K M V L top r.star u r.well_formed r.shows r.remarked
 
       in-order : InOrder (λ (t u : Star). VectorBelow t.axis u.axis) R.stars
@@ -100,7 +100,7 @@ module _ (K : Topology) (M : Map) (V : Valid M) (L : Vector → Label) (top : (d
           let y = svertex-of k u b in
           subst (λ (v : Vector). VectorBelow v u.axis) (sym x.axis) (subst (VectorBelow x.svertex.dir) (sym y.axis) (O.svertices i k x.svertex y.svertex l x.listed y.listed))
 
-      smooth : (d : Vector) → IsDirection d → ((k : ℕ) (t : Star) → At R.stars k t → SameDirection t.axis d → ⊥) → IsSmooth (Of L) d
+      smooth : (d : Vector) → IsDirection d → ((k : ℕ) (t : Star) → IsAt R.stars k t → SameDirection t.axis d → ⊥) → IsSmooth (Of L) d
       smooth d h none = by (place_of M d h)
         where
           by : PlaceOf M d → IsSmooth (Of L) d

@@ -1,5 +1,5 @@
 -- A star with the marks that it gets shows the labels that directions get.
-use Rattle.law_border.proofs.Prelude.{◌≡◌, ℕ, zero, suc, ◌+◌, ◌≤◌, arith, refl, ap, sym, ◌∙◌, inl, inr, ◌∷◌, subst, [], Vector, IsDirection, cross, blend, Label, IsPrimitive, At, Map, Valid, forms, Ray, Star, OnRay, PastRay, NextRay, StarLabel, on_ray, in_sector, in_only_sector, IsRay, StarShows, Near, amount, at-one, axes-forms, far_directed-by, Of, RayBelow, IsWellFormed, ShowsLabels, Topology, TopologyLabel, label_from, face_label, marked, IsRemarked, at-other, none-left}
+use Rattle.law_border.proofs.Prelude.{◌≡◌, ℕ, zero, suc, ◌+◌, ◌≤◌, arith, refl, ap, sym, ◌∙◌, inl, inr, ◌∷◌, subst, [], Vector, IsDirection, cross, blend, Label, IsPrimitive, IsAt, Map, Valid, forms, Ray, Star, OnRay, PastRay, NextRay, StarLabel, on_ray, in_sector, in_only_sector, LeavesAxis, StarShows, Near, amount, at-one, axes-forms, far_directed-by, Of, RayBelow, IsWellFormed, ShowsLabels, Topology, TopologyLabel, label_from, face_label, marked, IsRemarked, at-other, none-left}
 use Rattle.law_border.proofs.Listed.{count-same, sector-one}
 use Rattle.law_border.proofs.PlaceLabels.{topology-one}
 use Rattle.law_border.proofs.StarMade.{Sides, sides-of, ray-made, sector-made, only-made, axis-made}
@@ -33,11 +33,11 @@ module _ (K : Topology) (M : Map) (V : Valid M) (L : Vector → Label) (top : (d
     -- the ray that a ray was
     record Was (j : ℕ) (r : Ray) : Type 0 where
       ray : Ray
-      has_ray : At t.rays j ray
+      has_ray : IsAt t.rays j ray
       sides : Sides t M V W S j ray
       same : r ≡ marked ray (label_from K ray.mark (sides.before ∷ sides.after ∷ []))
 
-    was : (j : ℕ) (r : Ray) → At u.rays j r → Was j r
+    was : (j : ℕ) (r : Ray) → IsAt u.rays j r → Was j r
     was j r a =
         let x = at-other u.rays t.rays j r R.as_many_rays a in
         let D = sides-of t M V W S j x.0 x.1 in
@@ -49,7 +49,7 @@ module _ (K : Topology) (M : Map) (V : Valid M) (L : Vector → Label) (top : (d
         }
 
     -- and what a ray of t is now
-    becomes : (j : ℕ) (r : Ray) → At t.rays j r → (c : Label) × At u.rays j (marked r c)
+    becomes : (j : ℕ) (r : Ray) → IsAt t.rays j r → (c : Label) × IsAt u.rays j (marked r c)
     becomes j r a = let D = sides-of t M V W S j r a in (label_from K r.mark (D.before ∷ D.after ∷ []), R.rays D.last_number j r D.before D.after a D.follows D.has_before D.has_after)
 
     next-was : (j : ℕ) (r : Ray) → NextRay u.rays j r → (q : Ray) × NextRay t.rays j q × ((c : Label) × (r ≡ marked q c))
@@ -91,7 +91,7 @@ module _ (K : Topology) (M : Map) (V : Valid M) (L : Vector → Label) (top : (d
     star-formed = record {
       axis = W.axis;
       axis_lowest = W.axis_lowest;
-      rays = λ j r a. let w = was j r a in let q = W.rays j w.ray w.has_ray in subst (IsRay v) (sym w.same) (record { level = q.level; normal = q.normal });
+      rays = λ j r a. let w = was j r a in let q = W.rays j w.ray w.has_ray in subst (LeavesAxis v) (sym w.same) (record { level = q.level; normal = q.normal });
       rays_lowest = λ j r a. let w = was j r a in subst (λ (z : Ray). IsPrimitive z.normal) (sym w.same) (W.rays_lowest j w.ray w.has_ray);
       least_first = λ j q r a b. let w = was 0 q a in let x = was (suc j) r b in
           subst (λ (z : Ray). RayBelow z r) (sym w.same) (subst (λ (z : Ray). RayBelow w.ray z) (sym x.same) (W.least_first j w.ray x.ray w.has_ray x.has_ray));

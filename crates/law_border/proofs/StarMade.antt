@@ -1,5 +1,5 @@
 -- The labels that directions close to the axis of a star get: on the axis by all rays and sectors, on a ray by the two sectors beside it, in a sector by the sector alone.
-use Rattle.law_border.proofs.Prelude.{◌≡◌, ℕ, zero, suc, ◌+◌, ◌≤◌, ℤ, pos, ◌<ℤ◌, arith, refl, ap, sym, ◌∙◌, ◌⊎◌, inl, inr, ⊎_elim, List, ◌∷◌, subst, length, map, [], ints, Lies, lies-left, lies-right, lies-append, Sign, minus, nought, plus, sign, sign-plus, sign-minus, sign-scaled, nought-or, Vector, IsDirection, triple, cross, dot, IsZero, blend, opposite, Label, At, Map, NearLabel, Valid, SameSigns, axes, forms, arc_forms, by_side, Ray, Star, ray_dir, across, OnRay, PastRay, NextRay, StarLabel, on_ray, in_sector, in_only_sector, StarShows, Follows, axes-forms, across-side, across-same, next-ray, previous, ray-level, amount, far-keeps, far-level, IsStrictlyOn-stays, past_source, arc-point, circle-point, label-by_signs, near-from_far, far-from_near, IsStrictlyOn-same, far_directed-by, sector_count, IsWellFormed, at-other, at-map, map-at, Topology, TopologyLabel, label_from, face_label, ray_mark, star_labels, zero-decided, self-pos, triple-dot, dir-self, dir-signs, in-span, dot-opposite, cross-blend, lies-at, at-lies, is-at_none}
+use Rattle.law_border.proofs.Prelude.{◌≡◌, ℕ, zero, suc, ◌+◌, ◌≤◌, ℤ, pos, ◌<ℤ◌, arith, refl, ap, sym, ◌∙◌, ◌⊎◌, inl, inr, ⊎_elim, List, ◌∷◌, subst, length, map, [], ints, Lies, lies-left, lies-right, lies-append, Sign, minus, nought, plus, sign, sign-plus, sign-minus, sign-scaled, nought-or, Vector, IsDirection, triple, cross, dot, IsZero, blend, opposite, Label, IsAt, Map, NearLabel, Valid, SameSigns, axes, forms, arc_forms, by_side, Ray, Star, ray_dir, across, OnRay, PastRay, NextRay, StarLabel, on_ray, in_sector, in_only_sector, StarShows, Follows, axes-forms, across-side, across-same, next-ray, previous, ray-level, amount, far-keeps, far-level, IsStrictlyOn-stays, past_source, arc-point, circle-point, label-by_signs, near-from_far, far-from_near, IsStrictlyOn-same, far_directed-by, sector_count, IsWellFormed, at-other, at-map, map-at, Topology, TopologyLabel, label_from, face_label, ray_mark, star_labels, zero-decided, self-pos, triple-dot, dir-self, dir-signs, in-span, dot-opposite, cross-blend, lies-at, at-lies, is-at_none}
 use Rattle.law_build.proofs.BuiltAround.{sector-there}
 use Rattle.law_build.proofs.RayStraight.{off-axis}
 use Rattle.law_build.proofs.RayClose.{across-level, ray-close}
@@ -10,7 +10,7 @@ module _ (t : Star) (M : Map) (V : Valid M) (W : IsWellFormed t) (S : StarShows 
   abbrev d : Vector
   d = t.axis
 
-  dir-at : (k : ℕ) (r : Ray) → At t.rays k r → (dot d (ray_dir t r) ≡ pos 0) × IsDirection (ray_dir t r)
+  dir-at : (k : ℕ) (r : Ray) → IsAt t.rays k r → (dot d (ray_dir t r) ≡ pos 0) × IsDirection (ray_dir t r)
   dir-at k r a = ray-level t W.axis r (W.rays k r a)
 
   -- ---- near what is near the axis
@@ -21,7 +21,7 @@ module _ (t : Star) (M : Map) (V : Valid M) (W : IsWellFormed t) (S : StarShows 
   star-near e c l low f g k hk =
       near-onward M V d e c l k (low + amount axes (cross d c)) W.axis hk (λ i h. S.labels (blend i e 1 c) l (far-off_axis e c i (omega arith) f) (g i (omega arith)))
 
-  ray-found : (k : ℕ) (r : Ray) → At t.rays k r → NearLabel M d (ray_dir t r) r.mark
+  ray-found : (k : ℕ) (r : Ray) → IsAt t.rays k r → NearLabel M d (ray_dir t r) r.mark
   ray-found k r a = let w = dir-at k r a in
       S.labels (ray_dir t r) r.mark (off-axis d (ray_dir t r) W.axis w.1 w.0) (on_ray k r a (across-same d (ray_dir t r) W.axis w.1 w.0) refl)
 
@@ -30,18 +30,18 @@ module _ (t : Star) (M : Map) (V : Valid M) (W : IsWellFormed t) (S : StarShows 
     pub last_number : ℕ
     pub follows : Follows t.rays last_number k
     pub before : Label
-    pub has_before : At t.sectors last_number before
+    pub has_before : IsAt t.sectors last_number before
     pub after : Label
-    pub has_after : At t.sectors k after
+    pub has_after : IsAt t.sectors k after
 
-  pub sides-of : (k : ℕ) (r : Ray) → At t.rays k r → Sides k r
+  pub sides-of : (k : ℕ) (r : Ray) → IsAt t.rays k r → Sides k r
   sides-of k r a =
       let p = previous t.rays k r a in
       let b = sector-there t W.as_many p.0 p.1 p.2 in
       let c = sector-there t W.as_many k r a in
       record { last_number = p.0; follows = p.3; before = b.0; has_before = b.1; after = c.0; has_after = c.1 }
 
-  module _ (k : ℕ) (r : Ray) (a : At t.rays k r) (D : Sides k r) where
+  module _ (k : ℕ) (r : Ray) (a : IsAt t.rays k r) (D : Sides k r) where
     abbrev s : Vector
     s = ray_dir t r
 
@@ -92,7 +92,7 @@ module _ (t : Star) (M : Map) (V : Valid M) (W : IsWellFormed t) (S : StarShows 
         N.cells (blend j d 1 s) (blend i d 1 e) (label_from K r.mark sides) (far d s j (omega arith) W.axis) (far d e i h W.axis) (on-signs e o j i (omega arith) h) (way-made K j (omega arith))
 
   -- ---- in a sector
-  pub sector-made : (K : Topology) (k : ℕ) (q r : Ray) (l : Label) (e : Vector) → At t.rays k q → NextRay t.rays k r → PastRay t q r e → At t.sectors k l → IsDirection (cross d e)
+  pub sector-made : (K : Topology) (k : ℕ) (q r : Ray) (l : Label) (e : Vector) → IsAt t.rays k q → NextRay t.rays k r → PastRay t q r e → IsAt t.sectors k l → IsDirection (cross d e)
       → (i : ℕ) → amount (forms M) e ≤ i → TopologyLabel K M (blend i d 1 e) (face_label K l)
   sector-made K k q r l e a n o b f i h = even-made M V K (blend i d 1 e) l
       (far-from_near M V d e i h l (S.labels e l f (in_sector k q r a n o b)))
@@ -102,7 +102,7 @@ module _ (t : Star) (M : Map) (V : Valid M) (W : IsWellFormed t) (S : StarShows 
       stays c j s = IsStrictlyOn-stays d (ray_dir t q) (ray_dir t r) (across d e) (across d (blend j e 1 c))
           (λ g m z. ap (λ (v : Vector). sign (dot g v)) (across-blend d e c j) ∙ far-keeps (arc_forms d (ray_dir t q) (ray_dir t r)) (across d e) (across d c) j s g m z) (across-level d (blend j e 1 c)) o
 
-  pub only-made : (K : Topology) (l : Label) (e : Vector) → t.rays ≡ [] → At t.sectors zero l → IsDirection (cross d e) → (i : ℕ) → amount (forms M) e ≤ i → TopologyLabel K M (blend i d 1 e) (face_label K l)
+  pub only-made : (K : Topology) (l : Label) (e : Vector) → t.rays ≡ [] → IsAt t.sectors zero l → IsDirection (cross d e) → (i : ℕ) → amount (forms M) e ≤ i → TopologyLabel K M (blend i d 1 e) (face_label K l)
   only-made K l e z b f i h = even-made M V K (blend i d 1 e) l (far-from_near M V d e i h l (S.labels e l f (in_only_sector z b))) (λ c. star-near e c l 0 f (λ j s. in_only_sector z b) i h)
 
   -- ---- on the axis
@@ -121,7 +121,7 @@ module _ (t : Star) (M : Map) (V : Valid M) (W : IsWellFormed t) (S : StarShows 
   label-listed e l (in_sector k q r a n o s) = lies-right (map ray_mark t.rays) t.sectors l (at-lies t.sectors k l s)
   label-listed e l (in_only_sector z s) = lies-right (map ray_mark t.rays) t.sectors l (at-lies t.sectors zero l s)
 
-  sector-found : (k : ℕ) (q : Ray) (l : Label) → At t.rays k q → At t.sectors k l → (e : Vector) × NearLabel M d e l
+  sector-found : (k : ℕ) (q : Ray) (l : Label) → IsAt t.rays k q → IsAt t.sectors k l → (e : Vector) × NearLabel M d e l
   sector-found k q l a b =
       let n = next-ray t.rays k q a in
       let w = dir-at k q a in
@@ -135,20 +135,20 @@ module _ (t : Star) (M : Map) (V : Valid M) (W : IsWellFormed t) (S : StarShows 
       let z = o.on_circle.level in
       (y, S.labels y l (off-axis d y W.axis h z) (in_sector k q n.0 a n.3 (IsStrictlyOn-same d d s s p p y (across d y) (dir-self d W.axis) (dir-self s w.1) (dir-self p v.1) (across-same d y W.axis h z) o) b))
 
-  only-found : (l : Label) → t.rays ≡ [] → At t.sectors zero l → (e : Vector) × NearLabel M d e l
+  only-found : (l : Label) → t.rays ≡ [] → IsAt t.sectors zero l → (e : Vector) × NearLabel M d e l
   only-found l z b = let y = circle-point d W.axis in let o = y.1 in (y.0, S.labels y.0 l (off-axis d y.0 W.axis o.direction o.level) (in_only_sector z b))
 
-  sectors-found : (k : ℕ) (l : Label) → At t.sectors k l → (e : Vector) × NearLabel M d e l
+  sectors-found : (k : ℕ) (l : Label) → IsAt t.sectors k l → (e : Vector) × NearLabel M d e l
   sectors-found k l b = by t.rays refl
     where
-      alone : (ls : List Label) → length ls ≡ 1 → (k : ℕ) → At ls k l → k ≡ zero
+      alone : (ls : List Label) → length ls ≡ 1 → (k : ℕ) → IsAt ls k l → k ≡ zero
       alone [] e k a = absurd (is-at_none a)
       alone (m ∷ ls) e zero a = refl
       alone (m ∷ []) e (suc k) a = absurd (is-at_none a)
       alone (m ∷ n ∷ ls) e (suc k) a = absurd (omega arith)
 
       by : (rs : List Ray) → t.rays ≡ rs → (e : Vector) × NearLabel M d e l
-      by [] z = only-found l z (subst (λ (j : ℕ). At t.sectors j l) (alone t.sectors (W.as_many ∙ ap sector_count z) k b) b)
+      by [] z = only-found l z (subst (λ (j : ℕ). IsAt t.sectors j l) (alone t.sectors (W.as_many ∙ ap sector_count z) k b) b)
       by (r ∷ rs) z =
           let q = at-other t.sectors t.rays k l (W.as_many ∙ ap sector_count z ∙ sym (ap (length {A = Ray}) z)) b in
           sector-found k q.0 l q.1 b

@@ -1,6 +1,6 @@
 -- What is proved of topology on maps: each law is one statement that a function's contract cites.
 use Rattle.std.specs.Prelude.{◌≡◌, ◌++◌, ◌&&◌, ◌||◌}
-use Rattle.nef_space.specs.Prelude.{List, Place, Vector, IsDirection, Set}
+use Rattle.nef_space.specs.Prelude.{List, SpacePoint, Vector, IsDirection, Set}
 use Rattle.nef_space.specs.declared.label.Label.{Label}
 use Rattle.law_sphere.specs.Prelude.{Map, Valid, forms, Least, Ordered, Cone}
 use Rattle.law_sphere.specs.Raw.{RawMap, IsLabelling, IsRawOf}
@@ -30,11 +30,11 @@ TopologyMark = (k : Topology) (M : Map) → Valid M → MarkLabel k M (label_fro
 
 -- where M shows s at p, a valid map with the operation's labels and mark on M shows the operation's set on s at p
 abbrev pub TopologyCone : Type 0
-TopologyCone = (k : Topology) (M N : Map) (s : Set) (p : Place) → Cone M s p → Valid N → IsTopologyMap k M N → Cone N (set_by k s) p
+TopologyCone = (k : Topology) (M N : Map) (s : Set) (p : SpacePoint) → Cone M s p → Valid N → IsTopologyMap k M N → Cone N (set_by k s) p
 
 -- a map that shows the closure of the interior of a set shows the regularisation of this set
 abbrev pub RegularCone : Type 0
-RegularCone = (M : Map) (s : Set) (p : Place) → Cone M (Set.closed (Set.inside s)) p → Cone M (Set.regular s) p
+RegularCone = (M : Map) (s : Set) (p : SpacePoint) → Cone M (Set.closed (Set.inside s)) p → Cone M (Set.regular s) p
 
 -- a valid map with In and Not exchanged is valid, keeps order and leastness, and shows the complement
 abbrev pub ExchangedMap : Type 0

@@ -3,7 +3,7 @@ use Rattle.std.specs.Prelude.{◌≡◌, ◌∷◌, ◌++◌, ◌&&◌, ◌||◌
 use Rattle.nef_space.specs.Vectors.{Vector}
 use Rattle.nef_space.specs.declared.label.Label.{Label}
 use Rattle.nef_space.specs.declared.label.Label.TheVariants.{Out, Not, In}
-use Rattle.law_sphere.specs.Prelude.{At, MapVertex, Arc, MapSloop, Map, RawMap, IsWellFormed}
+use Rattle.law_sphere.specs.Prelude.{IsAt, MapVertex, Arc, MapSloop, Map, RawMap, IsWellFormed}
 use Rattle.law_sphere.specs.Forms.{gather}
 use Rattle.law_sphere.specs.Stars.{Ray, Star, StarShows, Follows}
 use Rattle.law_border.specs.Topology.{Topology, interior, closure, boundary, complement}
@@ -84,8 +84,8 @@ pub record IsRemarked (k : Topology) (t u : Star) : Type 0 where
   pub mark : u.mark ≡ label_from k t.mark (star_labels t)
   pub as_many_rays : length u.rays ≡ length t.rays
   pub as_many_sectors : length u.sectors ≡ length t.sectors
-  pub rays : (i j : ℕ) (r : Ray) (l m : Label) → At t.rays j r → Follows t.rays i j → At t.sectors i l → At t.sectors j m → At u.rays j (marked r (label_from k r.mark (l ∷ m ∷ [])))
-  pub sectors : (j : ℕ) (l : Label) → At t.sectors j l → At u.sectors j (face_label k l)
+  pub rays : (i j : ℕ) (r : Ray) (l m : Label) → IsAt t.rays j r → Follows t.rays i j → IsAt t.sectors i l → IsAt t.sectors j m → IsAt u.rays j (marked r (label_from k r.mark (l ∷ m ∷ [])))
+  pub sectors : (j : ℕ) (l : Label) → IsAt t.sectors j l → IsAt u.sectors j (face_label k l)
 
 -- u is the remarked star of the map M at the direction d
 pub record IsRemarkedAt (k : Topology) (M : Map) (d : Vector) (u : Star) : Type 0 where
@@ -102,7 +102,7 @@ sloop_by k l = record { normal = l.normal; pos = face_label k l.pos; mark = labe
 pub record IsTopologyRaw (k : Topology) (M : Map) (R : RawMap) : Type 0 where
   pub mark : R.mark ≡ label_from k M.mark (map_labels M)
   pub as_many : length R.stars ≡ length M.svertices
-  pub stars : (i : ℕ) (v : MapVertex) (u : Star) → At M.svertices i v → At R.stars i u → IsRemarkedAt k M v.dir u
+  pub stars : (i : ℕ) (v : MapVertex) (u : Star) → IsAt M.svertices i v → IsAt R.stars i u → IsRemarkedAt k M v.dir u
   pub sloop : R.sloop ≡ option_map (sloop_by k) M.sloop
   pub ground : R.ground ≡ option_map (face_label k) M.ground
 

@@ -1,5 +1,5 @@
 -- A circle of overlaid stars without an axis, on which op of two maps is straight, is the lone circle.
-use Rattle.law_build.proofs.Prelude.{◌≡◌, ℕ, pos, refl, sym, ◌∙◌, ◌⊎◌, inl, inr, ⊎_elim, ◌∷◌, ◌++◌, subst, Option, Some, None, [], ring, at, num, ◌⊕◌, ◌⊖◌, ◌⊗◌, Vector, IsDirection, cross, dot, IsZero, SameDirection, IsNormal, Label, lies-left, IsOnCircle, At, MapSloop, Map, Item, sloop_item, items, item_normal, OnItem, IsFree, Valid, forms, Labelling, StraightAt, ByOp, Proper, normal-direction, PlaceOf, svertex_place, item_place, free_place, place_of, axes-forms, on-level, normals-same, at-sloop, level-same, op-labelling, planes-parallel, RawMap, Of, IsBare, IsAxis, IsLoneSloop, Raw, zero-decided, cross-turned, SameDirection-turned, SameDirection-trans, dir-self, some-some}
+use Rattle.law_build.proofs.Prelude.{◌≡◌, ℕ, pos, refl, sym, ◌∙◌, ◌⊎◌, inl, inr, ⊎_elim, ◌∷◌, ◌++◌, subst, Option, Some, None, [], ring, at, num, ◌⊕◌, ◌⊖◌, ◌⊗◌, Vector, IsDirection, cross, dot, IsZero, SameDirection, IsNormal, Label, lies-left, IsOnCircle, IsAt, MapSloop, Map, Item, sloop_item, items, item_normal, OnItem, IsFree, Valid, forms, Labelling, StraightAt, ByOp, Proper, normal-direction, PlaceOf, svertex_place, item_place, free_place, place_of, axes-forms, on-level, normals-same, at-sloop, level-same, op-labelling, planes-parallel, RawMap, Of, IsBare, IsAxis, IsLoneSloop, Raw, zero-decided, cross-turned, SameDirection-turned, SameDirection-trans, dir-self, some-some}
 use Rattle.law_build.proofs.SideLabels.{SidesAt, free-sides, item-sides, sides-at, joined-sides, free-joined}
 use Rattle.law_build.proofs.Merged.{is-of, straight-of, straight-two, off-second, one-plane, bare-off_axes}
 use Rattle.law_build.proofs.LoneSloops.{item-sloop, merged-sloop, no-sloop, lone-normal}
@@ -73,7 +73,7 @@ module _ (A B : Map) (op : Label → Label → Label) (R : RawMap) (L : Vector �
             let g = merged-sloop A B op R L V W raw labels c e in
             (c, e, subst (SameDirection n) (sym g.normal) (SameDirection-trans n l.normal g.lone.normal w (lone-same_way l g.lone lone g.is_lone)))
 
-    by-first : (i : ℕ) (x : Item) → At (items A) i x → OnItem A x y → (c : MapSloop) × (R.sloop ≡ Some c) × SameDirection n c.normal
+    by-first : (i : ℕ) (x : Item) → IsAt (items A) i x → OnItem A x y → (c : MapSloop) × (R.sloop ≡ Some c) × SameDirection n c.normal
     by-first i x h q =
         let u = V.shaped.normals i x h in
         let k = normal-direction (item_normal x) u in
@@ -83,7 +83,7 @@ module _ (A B : Map) (op : Label → Label → Label) (R : RawMap) (L : Vector �
         let r = item-sloop A V.shaped n (λ d c s. off d c (inl s)) i x h w in
         is-circle r.0 (inl r.1) r.2
 
-    by-second : (i : ℕ) (x : Item) → At (items B) i x → OnItem B x y → IsFree A y → (c : MapSloop) × (R.sloop ≡ Some c) × SameDirection n c.normal
+    by-second : (i : ℕ) (x : Item) → IsAt (items B) i x → OnItem B x y → IsFree A y → (c : MapSloop) × (R.sloop ≡ Some c) × SameDirection n c.normal
     by-second i x h q F =
         let u = W.shaped.normals i x h in
         let k = normal-direction (item_normal x) u in

@@ -1,15 +1,15 @@
 -- The arcs that a builder makes of the rays of kept stars.
-use Rattle.law_build.proofs.Prelude.{◌≡◌, ℕ, pos, arith, ap, sym, ◌∙◌, inl, inr, List, subst, cond, Vector, IsDirection, cross, dot, SameDirection, IsNormal, Label, IsStrictlyOn, IsPrimitive, VectorBelow, At, MapVertex, Arc, Map, dir_of, ArcBetween, ArcBelow, StraightAfter, Proper, Star, ray_dir, IsRay, normal-direction, below-itself, lowest-same, RawMap, Of, ShowsLabels, svertex_at, IsArcFrom, nought-if, SameDirection-turned}
+use Rattle.law_build.proofs.Prelude.{◌≡◌, ℕ, pos, arith, ap, sym, ◌∙◌, inl, inr, List, subst, cond, Vector, IsDirection, cross, dot, SameDirection, IsNormal, Label, IsStrictlyOn, IsPrimitive, VectorBelow, IsAt, MapVertex, Arc, Map, dir_of, ArcBetween, ArcBelow, StraightAfter, Proper, Star, ray_dir, LeavesAxis, normal-direction, below-itself, lowest-same, RawMap, Of, ShowsLabels, svertex_at, IsArcFrom, nought-if, SameDirection-turned}
 use Rattle.law_build.proofs.RayClose.{follows-at}
 use Rattle.law_build.proofs.RayStraight.{ray-after, ray-there}
 use Rattle.law_build.proofs.StarSmooth.{ray-ahead}
-use Rattle.law_build.proofs.BuiltAxes.{IsMade, number-order, kept-shows, kept-simple, svertex-star, star-svertex, axis-at}
+use Rattle.law_build.proofs.BuiltAxes.{IsMadeOfStars, number-order, kept-shows, kept-simple, svertex-star, star-svertex, axis-at}
 
 pub arc-below_not : (a b : Arc) → a.normal ≡ b.normal → a.source ≡ b.source → ArcBelow a b → ⊥
 arc-below_not a b e f (inl l) = below-itself b.normal (subst (λ (v : Vector). VectorBelow v b.normal) e l)
 arc-below_not a b e f (inr l) = let p = l.1 in omega arith
 
-module _ (gs : List Vector) (L : Vector → Label) (R : RawMap) (M : Map) (C : IsMade gs L R M) where
+module _ (gs : List Vector) (L : Vector → Label) (R : RawMap) (M : Map) (C : IsMadeOfStars gs L R M) where
   abbrev F : Vector → Label → Type 0
   F = Of L
 
@@ -17,14 +17,14 @@ module _ (gs : List Vector) (L : Vector → Label) (R : RawMap) (M : Map) (C : I
   kept = C.built.kept
 
   -- ---- one arc
-  module _ (k : ℕ) (a : Arc) (h : At M.arcs k a) where
+  module _ (k : ℕ) (a : Arc) (h : IsAt M.arcs k a) where
     pub arc-from : IsArcFrom kept a
     arc-from = C.built.arcs_from k a h
 
     shows : ShowsLabels arc-from.star L
     shows = kept-shows gs L R M C a.source arc-from.star arc-from.has_star
 
-    is-ray : IsRay arc-from.star arc-from.ray
+    is-ray : LeavesAxis arc-from.star arc-from.ray
     is-ray = shows.star.rays arc-from.number arc-from.ray arc-from.has_ray
 
     pub arc-normal : IsNormal a.normal
@@ -65,7 +65,7 @@ module _ (gs : List Vector) (L : Vector → Label) (R : RawMap) (M : Map) (C : I
     pub arc-labels : StraightAfter F a.normal a.pos a.mark a.neg (dir_of M.svertices a.source)
     arc-labels = subst (StraightAfter F a.normal a.pos a.mark a.neg) (sym (axis-at gs L R M C a.source arc-from.star arc-from.has_star)) arc-after
 
-    pub arc-passes_none : (i : ℕ) (v : MapVertex) → At M.svertices i v → IsStrictlyOn a.normal (dir_of M.svertices a.source) (dir_of M.svertices a.target) v.dir → ⊥
+    pub arc-passes_none : (i : ℕ) (v : MapVertex) → IsAt M.svertices i v → IsStrictlyOn a.normal (dir_of M.svertices a.source) (dir_of M.svertices a.target) v.dir → ⊥
     arc-passes_none i v b o =
         let x = svertex-star gs L R M C i v b in
         arc-from.target.none_before i x.0 x.1 (subst (IsStrictlyOn a.normal arc-from.star.axis arc-from.target.first.axis) (sym (ap (λ (r : MapVertex). r.dir) x.2))
@@ -73,14 +73,14 @@ module _ (gs : List Vector) (L : Vector → Label) (R : RawMap) (M : Map) (C : I
         (subst (λ (r : Vector). IsStrictlyOn a.normal (dir_of M.svertices a.source) r v.dir) (axis-at gs L R M C a.target arc-from.target.first arc-from.target.listed) o)))
 
   -- ---- all arcs
-  pub arcs-apart : (i k : ℕ) (a b : Arc) → At M.arcs i a → At M.arcs k b → SameDirection a.normal b.normal → a.source ≡ b.source → i ≡ k
+  pub arcs-apart : (i k : ℕ) (a b : Arc) → IsAt M.arcs i a → IsAt M.arcs k b → SameDirection a.normal b.normal → a.source ≡ b.source → i ≡ k
   arcs-apart i k a b g h w e = number-order i k (λ l. absurd (arc-below_not a b same e (C.built.arcs_ordered i k a b l g h))) (λ q. q) (λ l. absurd (arc-below_not b a (sym same) (sym e) (C.built.arcs_ordered k i b a l h g)))
     where
       same : a.normal ≡ b.normal
       same = lowest-same a.normal b.normal w (arc-lowest i a g) (arc-lowest k b h)
 
-  pub kept-arc : (k : ℕ) (t : Star) (n : Vector) (a m b : Label) → At kept k t → IsNormal n → dot n t.axis ≡ pos 0 → Proper a m b → StraightAfter F n a m b t.axis
-      → (i : ℕ) × (c : Arc) × At M.arcs i c × (c.source ≡ k) × SameDirection n c.normal
+  pub kept-arc : (k : ℕ) (t : Star) (n : Vector) (a m b : Label) → IsAt kept k t → IsNormal n → dot n t.axis ≡ pos 0 → Proper a m b → StraightAfter F n a m b t.axis
+      → (i : ℕ) × (c : Arc) × IsAt M.arcs i c × (c.source ≡ k) × SameDirection n c.normal
   kept-arc k t n a m b h hn ln proper after =
       let S = kept-shows gs L R M C k t h in
       let x = ray-there gs L C.labelling t S n a m b proper (normal-direction n hn) ln after in
@@ -88,8 +88,8 @@ module _ (gs : List Vector) (L : Vector → Label) (R : RawMap) (M : Map) (C : I
       let z = C.built.arcs_all k x.0 t x.1 h x.2 y.0 in
       (z.0, z.1, z.2, z.3, subst (SameDirection n) (sym z.4) (SameDirection-turned x.1.normal n y.1))
 
-  pub arcs-all : (k : ℕ) (v : MapVertex) (n : Vector) (a m b : Label) → At M.svertices k v → IsNormal n → dot n v.dir ≡ pos 0 → Proper a m b → StraightAfter F n a m b v.dir
-      → (i : ℕ) × (c : Arc) × At M.arcs i c × (c.source ≡ k) × SameDirection n c.normal
+  pub arcs-all : (k : ℕ) (v : MapVertex) (n : Vector) (a m b : Label) → IsAt M.svertices k v → IsNormal n → dot n v.dir ≡ pos 0 → Proper a m b → StraightAfter F n a m b v.dir
+      → (i : ℕ) × (c : Arc) × IsAt M.arcs i c × (c.source ≡ k) × SameDirection n c.normal
   arcs-all k v n a m b h hn ln proper after =
       let x = svertex-star gs L R M C k v h in
       let e = ap (λ (r : MapVertex). r.dir) (sym x.2) in

@@ -1,40 +1,40 @@
 -- A ray that goes back is the end of an arc; so a svertex without arcs has no ray, and one label round it.
-use Rattle.law_build.proofs.Prelude.{◌≡◌, ℕ, zero, ◌+◌, pos, arith, refl, ap, sym, ◌∙◌, inl, inr, ⊎_elim, List, ◌∷◌, map, length, subst, Some, None, Bool, true, false, cond, [], ints, Vector, IsDirection, cross, dot, IsZero, SameDirection, IsNormal, opposite, Label, IsStrictlyOn, At, MapVertex, Arc, Map, HasArc, Near, StraightAt, IsSmooth, StraightAfter, Proper, Ray, Star, ray_dir, in_only_sector, normal-direction, amount, at-one, past_source, arc-point, IsStrictlyOn-same, ends-together, level-same, reversed, flipped, unflipped, directed-by, far_directed-by, previous, RawMap, Of, sector_count, ShowsLabels, around_of, IsArcFrom, nought-if, SameDirection-turned, dir-self, direction-opposite, level-opposite, opposite-dot, opposite-twice, is-at_none}
+use Rattle.law_build.proofs.Prelude.{◌≡◌, ℕ, zero, ◌+◌, pos, arith, refl, ap, sym, ◌∙◌, inl, inr, ⊎_elim, List, ◌∷◌, map, length, subst, Some, None, Bool, true, false, cond, [], ints, Vector, IsDirection, cross, dot, IsZero, SameDirection, IsNormal, opposite, Label, IsStrictlyOn, IsAt, MapVertex, Arc, Map, HasArc, Near, StraightAt, IsSmooth, StraightAfter, Proper, Ray, Star, ray_dir, in_only_sector, normal-direction, amount, at-one, past_source, arc-point, IsStrictlyOn-same, ends-together, level-same, reversed, flipped, unflipped, directed-by, far_directed-by, previous, RawMap, Of, sector_count, ShowsLabels, around_of, IsArcFrom, nought-if, SameDirection-turned, dir-self, direction-opposite, level-opposite, opposite-dot, opposite-twice, is-at_none}
 use Rattle.law_sphere.proofs.ArcLabels.{arc-along}
 use Rattle.law_sphere.proofs.Firsts.{First, first-after}
 use Rattle.law_build.proofs.BuiltLabels.{with_axes, labelling, axial}
 use Rattle.law_build.proofs.KeptStars.{at-other}
 use Rattle.law_build.proofs.RayStraight.{ray-after, ray-there}
 use Rattle.law_build.proofs.StarSmooth.{cross-away}
-use Rattle.law_build.proofs.BuiltAxes.{IsMade, at-map, map-at, kept-shows, kept-simple, kept-axis, kept-apart, svertex-star, smooth-off}
+use Rattle.law_build.proofs.BuiltAxes.{IsMadeOfStars, at-map, map-at, kept-shows, kept-simple, kept-axis, kept-apart, svertex-star, smooth-off}
 use Rattle.law_build.proofs.BuiltArcs.{arc-from, arc-direction, arc-level, arc-proper, arc-after, kept-arc}
 
 abbrev axis_of : Star → Vector
 axis_of t = t.axis
 
 -- ---- sectors and the label round a star
-pub sector-there : (t : Star) → length t.sectors ≡ sector_count t.rays → (k : ℕ) (r : Ray) → At t.rays k r → (l : Label) × At t.sectors k l
+pub sector-there : (t : Star) → length t.sectors ≡ sector_count t.rays → (k : ℕ) (r : Ray) → IsAt t.rays k r → (l : Label) × IsAt t.sectors k l
 sector-there t e k r a = by t.rays e a
   where
-    by : (rs : List Ray) → length t.sectors ≡ sector_count rs → At rs k r → (l : Label) × At t.sectors k l
+    by : (rs : List Ray) → length t.sectors ≡ sector_count rs → IsAt rs k r → (l : Label) × IsAt t.sectors k l
     by [] f b = absurd (is-at_none b)
     by (q ∷ rs) f b = at-other (q ∷ rs) t.sectors k r (sym f) b
 
-lone-around : (rs : List Ray) (ls : List Label) → length ls ≡ sector_count rs → ((j : ℕ) (r : Ray) → At rs j r → ⊥) → (m : Label) × (around_of rs ls ≡ Some m)
+lone-around : (rs : List Ray) (ls : List Label) → length ls ≡ sector_count rs → ((j : ℕ) (r : Ray) → IsAt rs j r → ⊥) → (m : Label) × (around_of rs ls ≡ Some m)
 lone-around [] [] e none = absurd (omega arith)
 lone-around [] (l ∷ ls) e none = (l, refl)
 lone-around (r ∷ rs) ls e none = absurd (none zero r refl)
 
-ray-around : (rs : List Ray) (ls : List Label) (j : ℕ) (r : Ray) → At rs j r → around_of rs ls ≡ None
+ray-around : (rs : List Ray) (ls : List Label) (j : ℕ) (r : Ray) → IsAt rs j r → around_of rs ls ≡ None
 ray-around [] ls j r a = absurd (is-at_none a)
 ray-around (q ∷ rs) ls j r a = refl
 
-around-some : (rs : List Ray) (ls : List Label) (m : Label) → around_of rs ls ≡ Some m → (rs ≡ []) × At ls zero m
+around-some : (rs : List Ray) (ls : List Label) (m : Label) → around_of rs ls ≡ Some m → (rs ≡ []) × IsAt ls zero m
 around-some [] [] m e = absurd cc
 around-some [] (l ∷ ls) m e = (refl, cc)
 around-some (r ∷ rs) ls m e = absurd cc
 
-module _ (gs : List Vector) (L : Vector → Label) (R : RawMap) (M : Map) (C : IsMade gs L R M) where
+module _ (gs : List Vector) (L : Vector → Label) (R : RawMap) (M : Map) (C : IsMadeOfStars gs L R M) where
   abbrev F : Vector → Label → Type 0
   F = Of L
 
@@ -46,7 +46,7 @@ module _ (gs : List Vector) (L : Vector → Label) (R : RawMap) (M : Map) (C : I
 
   -- labels close after s in the plane of n go on up to t, where no kept axis lies between
   pub labels-on : (n : Vector) (a m b : Label) → Proper a m b → IsDirection n → (s t : Vector) → IsDirection s → IsDirection t → dot n s ≡ pos 0 → dot n t ≡ pos 0
-      → ((k : ℕ) (u : Star) → At kept k u → IsStrictlyOn n s t u.axis → ⊥) → StraightAfter F n a m b s → (w : Vector) → IsStrictlyOn n s t w → StraightAt F n a m b w
+      → ((k : ℕ) (u : Star) → IsAt kept k u → IsStrictlyOn n s t u.axis → ⊥) → StraightAfter F n a m b s → (w : Vector) → IsStrictlyOn n s t w → StraightAt F n a m b w
   labels-on n a m b proper hn s t hs' ht ls lt clear after w o =
       let K = amount (cross t n ∷ []) (cross n s) + after.0 in
       arc-along hs F (labelling gs L C.labelling) (directed-by hs (axial gs)) (far_directed-by hs (axial gs)) n a m b proper hn s t hs' ht ls lt smooth K (omega arith) (after.1 K (omega arith)) w o
@@ -56,7 +56,7 @@ module _ (gs : List Vector) (L : Vector → Label) (R : RawMap) (M : Map) (C : I
           (IsStrictlyOn-same n n s s t t w u.axis (dir-self n hn) (dir-self s hs') (dir-self t ht) (SameDirection-turned u.axis w q) p))
 
   -- ---- back along the circle of n from the kept star t to the kept star v, with none between
-  module _ (k : ℕ) (t : Star) (h : At kept k t) (n : Vector) (a m b : Label) (normal : IsNormal n) (lt : dot n t.axis ≡ pos 0) (proper : Proper a m b) (after : StraightAfter F (opposite n) b m a t.axis) where
+  module _ (k : ℕ) (t : Star) (h : IsAt kept k t) (n : Vector) (a m b : Label) (normal : IsNormal n) (lt : dot n t.axis ≡ pos 0) (proper : Proper a m b) (after : StraightAfter F (opposite n) b m a t.axis) where
     abbrev s : Vector
     s = t.axis
 
@@ -66,7 +66,7 @@ module _ (gs : List Vector) (L : Vector → Label) (R : RawMap) (M : Map) (C : I
     hs' : IsDirection s
     hs' = kept-axis gs L R M C k t h
 
-    module _ (j : ℕ) (v : Star) (g : At kept j v) (lv : dot n v.axis ≡ pos 0) (clear : (i : ℕ) (u : Star) → At kept i u → IsStrictlyOn (opposite n) s v.axis u.axis → ⊥) where
+    module _ (j : ℕ) (v : Star) (g : IsAt kept j v) (lv : dot n v.axis ≡ pos 0) (clear : (i : ℕ) (u : Star) → IsAt kept i u → IsStrictlyOn (opposite n) s v.axis u.axis → ⊥) where
       hv : IsDirection v.axis
       hv = kept-axis gs L R M C j v g
 
@@ -79,10 +79,10 @@ module _ (gs : List Vector) (L : Vector → Label) (R : RawMap) (M : Map) (C : I
             (reversed n v.axis s y hv (arc-point n v.axis s hn hv hs' lv lt i l))),
       )
 
-      back-to : (i : ℕ) × (c : Arc) × At M.arcs i c × (c.target ≡ k)
+      back-to : (i : ℕ) × (c : Arc) × IsAt M.arcs i c × (c.target ≡ k)
       back-to = by (kept-arc gs L R M C j v n a m b g normal lv proper after-v)
         where
-          by : (i : ℕ) × (c : Arc) × At M.arcs i c × (c.source ≡ j) × SameDirection n c.normal → (i : ℕ) × (c : Arc) × At M.arcs i c × (c.target ≡ k)
+          by : (i : ℕ) × (c : Arc) × IsAt M.arcs i c × (c.source ≡ j) × SameDirection n c.normal → (i : ℕ) × (c : Arc) × IsAt M.arcs i c × (c.target ≡ k)
           by (i, c, ic, src, w) = (
             i,
             c,
@@ -103,25 +103,25 @@ module _ (gs : List Vector) (L : Vector → Label) (R : RawMap) (M : Map) (C : I
               lf = level-same c.normal n A.target.first.axis A.target.first.axis (SameDirection-turned n c.normal w) (dir-self A.target.first.axis hf) A.target.level
 
               star-is : SameDirection v.axis A.star.axis
-              star-is = subst (λ (r : Star). SameDirection v.axis r.axis) (at-one kept j v A.star g (subst (λ (q : ℕ). At kept q A.star) src A.has_star)) (dir-self v.axis hv)
+              star-is = subst (λ (r : Star). SameDirection v.axis r.axis) (at-one kept j v A.star g (subst (λ (q : ℕ). IsAt kept q A.star) src A.has_star)) (dir-self v.axis hv)
 
     -- an arc ends at t
-    pub back-arc : (i : ℕ) × (c : Arc) × At M.arcs i c × (c.target ≡ k)
+    pub back-arc : (i : ℕ) × (c : Arc) × IsAt M.arcs i c × (c.target ≡ k)
     back-arc = by (first-after (opposite n) s (direction-opposite n hn) hs' (level-opposite n s lt) (map axis_of kept))
       where
         back-level : (u : Vector) → dot (opposite n) u ≡ pos 0 → dot n u ≡ pos 0
         back-level u z = let e = opposite-dot n u in omega (arith, ints)
 
-        by : First (opposite n) s (map axis_of kept) → (i : ℕ) × (c : Arc) × At M.arcs i c × (c.target ≡ k)
+        by : First (opposite n) s (map axis_of kept) → (i : ℕ) × (c : Arc) × IsAt M.arcs i c × (c.target ≡ k)
         by f = ⊎_elim (λ e. at-star k t h (sym e)) (λ x. let y = at-map axis_of kept x.0 f.target x.1 in at-star x.0 y.0 y.1 (sym y.2)) f.listed
           where
-            at-star : (j : ℕ) (v : Star) → At kept j v → f.target ≡ v.axis → (i : ℕ) × (c : Arc) × At M.arcs i c × (c.target ≡ k)
+            at-star : (j : ℕ) (v : Star) → IsAt kept j v → f.target ≡ v.axis → (i : ℕ) × (c : Arc) × IsAt M.arcs i c × (c.target ≡ k)
             at-star j v g e = back-to j v g (subst (λ (r : Vector). dot n r ≡ pos 0) e (back-level f.target f.level))
                 (λ i u q o. f.none_before i u.axis (map-at axis_of kept i u q) (subst (λ (r : Vector). IsStrictlyOn (opposite n) s r u.axis) (sym e) o))
 
   -- ---- arcs and rays
   -- each ray of a kept star is on an arc from it or to it
-  ray-arc : (k : ℕ) (t : Star) (h : At kept k t) (j : ℕ) (r : Ray) → At t.rays j r → HasArc M k
+  ray-arc : (k : ℕ) (t : Star) (h : IsAt kept k t) (j : ℕ) (r : Ray) → IsAt t.rays j r → HasArc M k
   ray-arc k t h j r x = by r.ahead refl
     where
       S : ShowsLabels t L
@@ -144,17 +144,17 @@ module _ (gs : List Vector) (L : Vector → Label) (R : RawMap) (M : Map) (C : I
           (z.0, z.1, z.2, inr z.3)
 
   -- and a kept star with an arc has a ray
-  arc-ray : (k : ℕ) (t : Star) → At kept k t → HasArc M k → (j : ℕ) × (r : Ray) × At t.rays j r
+  arc-ray : (k : ℕ) (t : Star) → IsAt kept k t → HasArc M k → (j : ℕ) × (r : Ray) × IsAt t.rays j r
   arc-ray k t h (i, c, ic, e) = ⊎_elim from-source from-target e
     where
       A : IsArcFrom kept c
       A = arc-from gs L R M C i c ic
 
-      from-source : c.source ≡ k → (j : ℕ) × (r : Ray) × At t.rays j r
-      from-source q = subst (λ (u : Star). (j : ℕ) × (r : Ray) × At u.rays j r) (at-one kept k A.star t (subst (λ (l : ℕ). At kept l A.star) q A.has_star) h) (A.number, A.ray, A.has_ray)
+      from-source : c.source ≡ k → (j : ℕ) × (r : Ray) × IsAt t.rays j r
+      from-source q = subst (λ (u : Star). (j : ℕ) × (r : Ray) × IsAt u.rays j r) (at-one kept k A.star t (subst (λ (l : ℕ). IsAt kept l A.star) q A.has_star) h) (A.number, A.ray, A.has_ray)
 
-      from-target : c.target ≡ k → (j : ℕ) × (r : Ray) × At t.rays j r
-      from-target q = subst (λ (u : Star). (j : ℕ) × (r : Ray) × At u.rays j r) (at-one kept k A.target.first t (subst (λ (l : ℕ). At kept l A.target.first) q A.target.listed) h) (let x = end in (x.0, x.1, x.2))
+      from-target : c.target ≡ k → (j : ℕ) × (r : Ray) × IsAt t.rays j r
+      from-target q = subst (λ (u : Star). (j : ℕ) × (r : Ray) × IsAt u.rays j r) (at-one kept k A.target.first t (subst (λ (l : ℕ). IsAt kept l A.target.first) q A.target.listed) h) (let x = end in (x.0, x.1, x.2))
         where
           n : Vector
           n = c.normal
@@ -189,25 +189,25 @@ module _ (gs : List Vector) (L : Vector → Label) (R : RawMap) (M : Map) (C : I
                 flipped F n c.pos c.mark c.neg y (labels y (subst (λ (r : Vector). IsStrictlyOn r s u y) (opposite-twice n) o)),
           )
 
-          end : (j : ℕ) × (r : Ray) × At A.target.first.rays j r × SameDirection (ray_dir A.target.first r) (cross (opposite c.normal) A.target.first.axis)
+          end : (j : ℕ) × (r : Ray) × IsAt A.target.first.rays j r × SameDirection (ray_dir A.target.first r) (cross (opposite c.normal) A.target.first.axis)
           end = ray-there gs L C.labelling A.target.first (kept-shows gs L R M C c.target A.target.first A.target.listed) (opposite c.normal) c.neg c.mark c.pos (λ x y. proper y x)
               (direction-opposite c.normal hn) (level-opposite c.normal A.target.first.axis A.target.level) close
 
   -- ---- the label round a svertex
-  pub around-lone : (k : ℕ) (v : MapVertex) → At M.svertices k v → (HasArc M k → ⊥) → (m : Label) × (v.around ≡ Some m)
+  pub around-lone : (k : ℕ) (v : MapVertex) → IsAt M.svertices k v → (HasArc M k → ⊥) → (m : Label) × (v.around ≡ Some m)
   around-lone k v h none =
       let x = svertex-star gs L R M C k v h in
       let S = kept-shows gs L R M C k x.0 x.1 in
       let y = lone-around x.0.rays x.0.sectors S.star.as_many (λ j r a. none (ray-arc k x.0 x.1 j r a)) in
       (y.0, sym (ap (λ (r : MapVertex). r.around) x.2) ∙ y.1)
 
-  pub around-not : (k : ℕ) (v : MapVertex) → At M.svertices k v → HasArc M k → v.around ≡ None
+  pub around-not : (k : ℕ) (v : MapVertex) → IsAt M.svertices k v → HasArc M k → v.around ≡ None
   around-not k v h arc =
       let x = svertex-star gs L R M C k v h in
       let y = arc-ray k x.0 x.1 arc in
       sym (ap (λ (r : MapVertex). r.around) x.2) ∙ ray-around x.0.rays x.0.sectors y.0 y.1 y.2
 
-  pub around-near : (k : ℕ) (v : MapVertex) (m : Label) (e : Vector) → At M.svertices k v → v.around ≡ Some m → IsDirection (cross v.dir e) → Near F v.dir e m
+  pub around-near : (k : ℕ) (v : MapVertex) (m : Label) (e : Vector) → IsAt M.svertices k v → v.around ≡ Some m → IsDirection (cross v.dir e) → Near F v.dir e m
   around-near k v m e h q f =
       let x = svertex-star gs L R M C k v h in
       let S = kept-shows gs L R M C k x.0 x.1 in

@@ -1,16 +1,16 @@
 -- Where a builder makes neither svertex nor sloop, all directions have one label.
-use Rattle.law_build.proofs.Prelude.{◌≡◌, ℕ, ◌<◌, pos, arith, refl, ap, sym, ◌∙◌, inl, inr, ⊎_elim, List, map, subst, Option, Some, None, [], ints, Sign, sign, mul_pos, Vector, IsDirection, cross, dot, IsOpposite, blend, opposite, Label, Decided, At, MapVertex, MapSloop, Map, by_side, Near, Plain, StraightAt, IsSmooth, plain, straight, Proper, Star, normal-direction, dot-comb, even-side, IsOpposite-decided, circle-point, Beside, same_way, other_way, beside, flipped, RawMap, Of, svertex_at, IsRawLabel, dot-comm, zero-decided, dot-zero, self-pos, in-span, some-some, is-at_none}
+use Rattle.law_build.proofs.Prelude.{◌≡◌, ℕ, ◌<◌, pos, arith, refl, ap, sym, ◌∙◌, inl, inr, ⊎_elim, List, map, subst, Option, Some, None, [], ints, Sign, sign, mul_pos, Vector, IsDirection, cross, dot, IsOpposite, blend, opposite, Label, Decided, IsAt, MapVertex, MapSloop, Map, by_side, Near, Plain, StraightAt, IsSmooth, plain, straight, Proper, Star, normal-direction, dot-comb, even-side, IsOpposite-decided, circle-point, Beside, same_way, other_way, beside, flipped, RawMap, Of, svertex_at, IsRawLabel, dot-comm, zero-decided, dot-zero, self-pos, in-span, some-some, is-at_none}
 use Rattle.law_sphere.proofs.Walk.{between-direction, carried}
 use Rattle.law_sphere.proofs.Builder.{normal-either}
 use Rattle.law_build.proofs.BuiltLabels.{with_axes, labelling}
-use Rattle.law_build.proofs.BuiltAxes.{IsMade, map-empty, smooth-off}
+use Rattle.law_build.proofs.BuiltAxes.{IsMadeOfStars, map-empty, smooth-off}
 use Rattle.law_build.proofs.BuiltSloops.{sloop-all}
 use Rattle.law_near.proofs.Decisions.{same-label_or}
 
 none-some : {A : Type 0} (o : Option A) (x : A) → o ≡ None → o ≡ Some x → ⊥
 none-some o x e f = cc
 
-module _ (gs : List Vector) (L : Vector → Label) (R : RawMap) (M : Map) (C : IsMade gs L R M) where
+module _ (gs : List Vector) (L : Vector → Label) (R : RawMap) (M : Map) (C : IsMadeOfStars gs L R M) where
   abbrev F : Vector → Label → Type 0
   F = Of L
 
@@ -22,11 +22,11 @@ module _ (gs : List Vector) (L : Vector → Label) (R : RawMap) (M : Map) (C : I
 
   -- ---- neither svertex nor sloop
   module _ (no_star : kept ≡ []) (no_sloop : M.sloop ≡ None) where
-    nothing : {X : Type 0} (k : ℕ) (t : Star) → At kept k t → X
-    nothing k t a = absurd (is-at_none (subst (λ (ts : List Star). At ts k t) no_star a))
+    nothing : {X : Type 0} (k : ℕ) (t : Star) → IsAt kept k t → X
+    nothing k t a = absurd (is-at_none (subst (λ (ts : List Star). IsAt ts k t) no_star a))
 
-    no-svertex : (k : ℕ) (v : MapVertex) → At M.svertices k v → ⊥
-    no-svertex k v a = is-at_none (subst (λ (vs : List MapVertex). At vs k v) (C.built.svertices ∙ ap (map svertex_at) no_star) a)
+    no-svertex : (k : ℕ) (v : MapVertex) → IsAt M.svertices k v → ⊥
+    no-svertex k v a = is-at_none (subst (λ (vs : List MapVertex). IsAt vs k v) (C.built.svertices ∙ ap (map svertex_at) no_star) a)
 
     never-proper : (n : Vector) (a m b : Label) (d : Vector) → IsDirection n → IsDirection d → StraightAt F n a m b d → Proper a m b → ⊥
     never-proper n a m b d hn hd p q = ⊎_elim

@@ -1,9 +1,9 @@
 -- A star that is kept stands at a direction that is neither plain nor straight.
-use Rattle.law_build.proofs.Prelude.{◌≡◌, ℕ, zero, ◌+◌, arith, refl, ap, sym, ◌∙◌, inl, inr, ⊎_elim, ◌↔◌, List, ◌∷◌, subst, length, [], sign, Vector, IsDirection, cross, dot, blend, Label, At, MapVertex, Map, MapLabel, NearLabel, Valid, by_side, NearPlain, NearStraight, Least, Ordered, Near, PlainAt, StraightAt, IsSmooth, plain, straight, Kept, Star, in_only_sector, IsPlain, IsSimplified, StarShows, amount, circle-point, far_directed-by, built-valid, built-labels, plain-no_ray, straight-rays, RawMap, Of, IsLabelling, sector_count, ShowsLabels, IsRawOf, AreSimplified, IsBuiltFrom, square-cross, nought-if, level_cross_second, none-empty}
+use Rattle.law_build.proofs.Prelude.{◌≡◌, ℕ, zero, ◌+◌, arith, refl, ap, sym, ◌∙◌, inl, inr, ⊎_elim, ◌↔◌, List, ◌∷◌, subst, length, [], sign, Vector, IsDirection, cross, dot, blend, Label, IsAt, MapVertex, Map, MapLabel, NearLabel, Valid, by_side, NearPlain, NearStraight, Least, Ordered, Near, PlainAt, StraightAt, IsSmooth, plain, straight, NoneSmooth, Star, in_only_sector, IsPlain, IsSimplified, StarShows, amount, circle-point, far_directed-by, built-valid, built-labels, plain-no_ray, straight-rays, RawMap, Of, IsLabelling, sector_count, ShowsLabels, IsRawOf, AreSimplified, IsBuiltFrom, square-cross, nought-if, level_cross_second, none-empty}
 use Rattle.law_build.proofs.BuiltLabels.{with_axes, labelling, axial, labels-build}
 use Rattle.law_build.proofs.RayStraight.{off-axis}
 use Rattle.law_build.proofs.StarRays.{two-straight, rays-apart}
-use Rattle.law_build.proofs.BuiltAxes.{IsMade, kept-shows, kept-simple, svertex-star}
+use Rattle.law_build.proofs.BuiltAxes.{IsMadeOfStars, kept-shows, kept-simple, svertex-star}
 use Rattle.law_build.proofs.BuiltAround.{sector-there}
 use Rattle.law_build.proofs.BuiltMap.{made-built, made-ordered}
 
@@ -19,10 +19,10 @@ near-of L d e k l (i, f) (j, g) = sym (f (i + j) (omega arith)) ∙ g (i + j) (o
 no-ray-plain : (t : Star) (L : Vector → Label) → ShowsLabels t L → t.rays ≡ [] → (e : Vector) → IsDirection (cross t.axis e) → Near (Of L) t.axis e t.mark → IsPlain t
 no-ray-plain t L S none e f near =
     let x = one-element t.sectors (S.star.as_many ∙ ap sector_count none) in
-    let s = S.labels e x.0 f (in_only_sector none (subst (λ (ls : List Label). At ls zero x.0) (sym x.1) refl)) in
+    let s = S.labels e x.0 f (in_only_sector none (subst (λ (ls : List Label). IsAt ls zero x.0) (sym x.1) refl)) in
     record { no_ray = none; one_sector = x.1 ∙ ap (λ l. l ∷ []) (near-of L t.axis e x.0 t.mark s near) }
 
-module _ (gs : List Vector) (L : Vector → Label) (R : RawMap) (M : Map) (C : IsMade gs L R M) where
+module _ (gs : List Vector) (L : Vector → Label) (R : RawMap) (M : Map) (C : IsMadeOfStars gs L R M) where
   abbrev F : Vector → Label → Type 0
   F = Of L
 
@@ -48,7 +48,7 @@ module _ (gs : List Vector) (L : Vector → Label) (R : RawMap) (M : Map) (C : I
   }
 
   -- ---- one kept star
-  module _ (k : ℕ) (t : Star) (h : At C.built.kept k t) where
+  module _ (k : ℕ) (t : Star) (h : IsAt C.built.kept k t) where
     S : ShowsLabels t L
     S = kept-shows gs L R M C k t h
 
@@ -89,7 +89,7 @@ module _ (gs : List Vector) (L : Vector → Label) (R : RawMap) (M : Map) (C : I
     kept-not_smooth (plain m p) = kept-not_plain m p
     kept-not_smooth (straight n a m b hn p) = kept-not_straight n a m b hn p
 
-  pub made-kept : Kept M F
+  pub made-kept : NoneSmooth M F
   made-kept k v h s =
       let x = svertex-star gs L R M C k v h in
       kept-not_smooth k x.0 x.1 (subst (IsSmooth F) (sym (ap (λ (r : MapVertex). r.dir) x.2)) s)
@@ -97,6 +97,6 @@ module _ (gs : List Vector) (L : Vector → Label) (R : RawMap) (M : Map) (C : I
 pub from-stars : (gs : List Vector) (L : Vector → Label) (R : RawMap) (M : Map) → IsLabelling gs L → IsRawOf R L → AreSimplified R.stars → IsBuiltFrom R M
     → Valid M × Least M × Ordered M × ((d : Vector) → IsDirection d → MapLabel M d (L d))
 from-stars gs L R M I W simple B =
-    let C : IsMade gs L R M = record { labelling = I; raw = W; simple = simple; built = B } in
+    let C : IsMadeOfStars gs L R M = record { labelling = I; raw = W; simple = simple; built = B } in
     let x = labels-build gs L M I (made-built gs L R M C) (made-kept gs L R M C) in
     (x.0, x.1, made-ordered gs L R M C, x.2)

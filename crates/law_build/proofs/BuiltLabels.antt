@@ -1,5 +1,5 @@
 -- Labels that the signs of finitely many forms determine, as a labelling; where they are plain or straight.
-use Rattle.law_build.proofs.Prelude.{◌≡◌, ℕ, ◌+◌, ◌≤◌, pos, arith, refl, ap, sym, ◌∙◌, ⊎_elim, List, ◌++◌, subst, sign, nought-or, lies-left, lies-right, Vector, IsDirection, cross, dot, IsZero, SameDirection, blend, Label, Map, MapLabel, Valid, SameSigns, axes, by_side, Least, Labelling, Near, PlainAt, StraightAt, IsSmooth, plain, straight, IsBuilt, Kept, amount, far-keeps, far-level, level-same, Axial, far_directed-by, built-valid, built-least, built-labels, Of, IsLabelling, zero-decided, dir-self, dir-signs, direction-right, direction-left, in-span}
+use Rattle.law_build.proofs.Prelude.{◌≡◌, ℕ, ◌+◌, ◌≤◌, pos, arith, refl, ap, sym, ◌∙◌, ⊎_elim, List, ◌++◌, subst, sign, nought-or, lies-left, lies-right, Vector, IsDirection, cross, dot, IsZero, SameDirection, blend, Label, Map, MapLabel, Valid, SameSigns, axes, by_side, Least, Labelling, Near, PlainAt, StraightAt, IsSmooth, plain, straight, IsBuilt, NoneSmooth, amount, far-keeps, far-level, level-same, Axial, far_directed-by, built-valid, built-least, built-labels, Of, IsLabelling, zero-decided, dir-self, dir-signs, direction-right, direction-left, in-span}
 use Rattle.law_sphere.proofs.Lone.{near-same_signs}
 
 -- the forms with the axes, which tell directions
@@ -16,7 +16,7 @@ labelling gs L I = record {
 pub axial : (gs : List Vector) → Axial (with_axes gs)
 axial gs g l = lies-left axes gs g l
 
-pub labels-build : (gs : List Vector) (L : Vector → Label) (M : Map) → IsLabelling gs L → IsBuilt M (Of L) → Kept M (Of L)
+pub labels-build : (gs : List Vector) (L : Vector → Label) (M : Map) → IsLabelling gs L → IsBuilt M (Of L) → NoneSmooth M (Of L)
     → Valid M × Least M × ((d : Vector) → IsDirection d → MapLabel M d (L d))
 labels-build gs L M I B K =
     let hs = with_axes gs in

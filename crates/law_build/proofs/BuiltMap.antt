@@ -1,40 +1,40 @@
 -- What a builder makes of simplified stars is built of their labels, in order.
-use Rattle.law_build.proofs.Prelude.{◌≡◌, ℕ, pos, ap, sym, List, subst, Some, Vector, IsDirection, dot, SameDirection, IsNormal, Label, IsPrimitive, VectorBelow, At, MapVertex, MapSloop, Map, Item, arc_item, sloop_item, items, item_normal, OnItem, Ordered, IsBuilt, arc-at, sloop-at, RawMap, Of, svertex_at}
-use Rattle.law_build.proofs.BuiltAxes.{IsMade, kept-shows, kept-axis, kept-apart, svertex-star, star-svertex, smooth-off}
+use Rattle.law_build.proofs.Prelude.{◌≡◌, ℕ, pos, ap, sym, List, subst, Some, Vector, IsDirection, dot, SameDirection, IsNormal, Label, IsPrimitive, VectorBelow, IsAt, MapVertex, MapSloop, Map, Item, arc_item, sloop_item, items, item_normal, OnItem, Ordered, IsBuilt, arc-at, sloop-at, RawMap, Of, svertex_at}
+use Rattle.law_build.proofs.BuiltAxes.{IsMadeOfStars, kept-shows, kept-axis, kept-apart, svertex-star, star-svertex, smooth-off}
 use Rattle.law_build.proofs.BuiltArcs.{arc-normal, arc-lowest, arc-between, arc-proper, arc-labels, arc-passes_none, arcs-apart, arcs-all}
 use Rattle.law_build.proofs.BuiltAround.{around-lone, around-not, around-near}
-use Rattle.law_build.proofs.BuiltSloops.{IsNeeded, sloop-needed, sloop-all}
+use Rattle.law_build.proofs.BuiltSloops.{IsSloopNeeded, sloop-needed, sloop-all}
 use Rattle.law_build.proofs.BuiltGround.{ground-label, ground-alone, ground-not}
 
-module _ (gs : List Vector) (L : Vector → Label) (R : RawMap) (M : Map) (C : IsMade gs L R M) where
+module _ (gs : List Vector) (L : Vector → Label) (R : RawMap) (M : Map) (C : IsMadeOfStars gs L R M) where
   abbrev F : Vector → Label → Type 0
   F = Of L
 
   -- the svertex's star, its way and its mark
-  svertex-direction : (k : ℕ) (v : MapVertex) → At M.svertices k v → IsDirection v.dir
+  svertex-direction : (k : ℕ) (v : MapVertex) → IsAt M.svertices k v → IsDirection v.dir
   svertex-direction k v h = let x = svertex-star gs L R M C k v h in subst (λ (u : MapVertex). IsDirection u.dir) x.2 (kept-axis gs L R M C k x.0 x.1)
 
-  svertices-apart : (i k : ℕ) (u v : MapVertex) → At M.svertices i u → At M.svertices k v → SameDirection u.dir v.dir → i ≡ k
+  svertices-apart : (i k : ℕ) (u v : MapVertex) → IsAt M.svertices i u → IsAt M.svertices k v → SameDirection u.dir v.dir → i ≡ k
   svertices-apart i k u v g h w =
       let x = svertex-star gs L R M C i u g in
       let y = svertex-star gs L R M C k v h in
       kept-apart gs L R M C i k x.0 y.0 x.1 y.1 (subst (λ (r : Vector). SameDirection r y.0.axis) (sym (ap (λ (r : MapVertex). r.dir) x.2)) (subst (SameDirection u.dir) (sym (ap (λ (r : MapVertex). r.dir) y.2)) w))
 
-  svertex-mark : (k : ℕ) (v : MapVertex) → At M.svertices k v → F v.dir v.mark
+  svertex-mark : (k : ℕ) (v : MapVertex) → IsAt M.svertices k v → F v.dir v.mark
   svertex-mark k v h = let x = svertex-star gs L R M C k v h in subst (λ (u : MapVertex). F u.dir u.mark) x.2 (let S = kept-shows gs L R M C k x.0 x.1 in S.mark)
 
-  needed : (l : MapSloop) → M.sloop ≡ Some l → IsNeeded F C.built.kept l
+  needed : (l : MapSloop) → M.sloop ≡ Some l → IsSloopNeeded F C.built.kept l
   needed l e = sloop-needed gs L R M C l (C.built.sloop_from l e)
 
-  item-is_normal : (k : ℕ) (x : Item) → At (items M) k x → IsNormal (item_normal x)
+  item-is_normal : (k : ℕ) (x : Item) → IsAt (items M) k x → IsNormal (item_normal x)
   item-is_normal k (arc_item a) h = arc-normal gs L R M C k a (arc-at M.arcs M.sloop k a h)
   item-is_normal k (sloop_item l) h = let N = needed l (sloop-at M.arcs M.sloop k l h) in N.normal
 
-  item-lowest : (k : ℕ) (x : Item) → At (items M) k x → IsPrimitive (item_normal x)
+  item-lowest : (k : ℕ) (x : Item) → IsAt (items M) k x → IsPrimitive (item_normal x)
   item-lowest k (arc_item a) h = arc-lowest gs L R M C k a (arc-at M.arcs M.sloop k a h)
   item-lowest k (sloop_item l) h = let N = needed l (sloop-at M.arcs M.sloop k l h) in N.lowest
 
-  item-passes_none : (i k : ℕ) (v : MapVertex) (x : Item) → At M.svertices i v → At (items M) k x → OnItem M x v.dir → ⊥
+  item-passes_none : (i k : ℕ) (v : MapVertex) (x : Item) → IsAt M.svertices i v → IsAt (items M) k x → OnItem M x v.dir → ⊥
   item-passes_none i k v (arc_item a) g h o = arc-passes_none gs L R M C k a (arc-at M.arcs M.sloop k a h) i v g o
   item-passes_none i k v (sloop_item l) g h o =
       let x = svertex-star gs L R M C i v g in

@@ -1,11 +1,11 @@
 -- The sloop that a builder makes: a circle with other labels beside it that no kept axis lies on.
-use Rattle.law_build.proofs.Prelude.{◌≡◌, ℕ, zero, pos, arith, refl, ap, sym, ◌∙◌, ◌⊎◌, inl, inr, ⊎_elim, List, subst, Some, ints, sign, sign-plus, sign-minus, nought-or, Vector, IsDirection, cross, dot, IsZero, SameDirection, IsNormal, opposite, Label, IsOnCircle, IsPrimitive, At, MapVertex, MapSloop, Map, by_side, Near, StraightAt, IsSmooth, Proper, Star, IsPlain, IsStraight, normal-direction, Found, search_list, circle-point, normals-same, level-same, near-one, not-even, directed-by, far_directed-by, straight-same_way, planes-parallel, sloop-along, RawMap, Of, ShowsLabels, IsBare, svertex_at, sloop_at, IsSloopFrom, raw_sloop, straight_sloop, zero-decided, self-pos, square-cross, SameDirection-turned, dir-self, level_cross_second, dot-opposite}
+use Rattle.law_build.proofs.Prelude.{◌≡◌, ℕ, zero, pos, arith, refl, ap, sym, ◌∙◌, ◌⊎◌, inl, inr, ⊎_elim, List, subst, Some, ints, sign, sign-plus, sign-minus, nought-or, Vector, IsDirection, cross, dot, IsZero, SameDirection, IsNormal, opposite, Label, IsOnCircle, IsPrimitive, IsAt, MapVertex, MapSloop, Map, by_side, Near, StraightAt, IsSmooth, Proper, Star, IsPlain, IsStraight, normal-direction, Found, search_list, circle-point, normals-same, level-same, near-one, not-even, directed-by, far_directed-by, straight-same_way, planes-parallel, sloop-along, RawMap, Of, ShowsLabels, IsBare, svertex_at, sloop_at, IsSloopFrom, raw_sloop, straight_sloop, zero-decided, self-pos, square-cross, SameDirection-turned, dir-self, level_cross_second, dot-opposite}
 use Rattle.law_build.proofs.BuiltLabels.{with_axes, labelling, axial}
 use Rattle.law_build.proofs.StarSmooth.{star-plain, star-straight, star-normal, straight-first, straight-proper}
-use Rattle.law_build.proofs.BuiltAxes.{IsMade, star-svertex, smooth-off}
+use Rattle.law_build.proofs.BuiltAxes.{IsMadeOfStars, star-svertex, smooth-off}
 
 -- what holds of a circle that may become the sloop
-pub record IsNeeded (F : Vector → Label → Type 0) (kept : List Star) (l : MapSloop) : Type 0 where
+pub record IsSloopNeeded (F : Vector → Label → Type 0) (kept : List Star) (l : MapSloop) : Type 0 where
   pub normal : IsNormal l.normal
   pub lowest : IsPrimitive l.normal
   pub bare : IsBare kept l.normal
@@ -14,7 +14,7 @@ pub record IsNeeded (F : Vector → Label → Type 0) (kept : List Star) (l : Ma
   pub labels : StraightAt F l.normal l.pos l.mark l.neg point
   pub proper : Proper l.pos l.mark l.neg
 
-module _ (gs : List Vector) (L : Vector → Label) (R : RawMap) (M : Map) (C : IsMade gs L R M) where
+module _ (gs : List Vector) (L : Vector → Label) (R : RawMap) (M : Map) (C : IsMadeOfStars gs L R M) where
   abbrev F : Vector → Label → Type 0
   F = Of L
 
@@ -24,7 +24,7 @@ module _ (gs : List Vector) (L : Vector → Label) (R : RawMap) (M : Map) (C : I
   abbrev kept : List Star
   kept = C.built.kept
 
-  pub sloop-needed : (l : MapSloop) → IsSloopFrom R kept l → IsNeeded F kept l
+  pub sloop-needed : (l : MapSloop) → IsSloopFrom R kept l → IsSloopNeeded F kept l
   sloop-needed l (raw_sloop e p) =
       let hn = normal-direction l.normal (C.raw.sloop_normal l e) in
       let y = circle-point l.normal hn in record {
@@ -36,7 +36,7 @@ module _ (gs : List Vector) (L : Vector → Label) (R : RawMap) (M : Map) (C : I
         labels = C.raw.sloop_labels l y.0 e y.1;
         proper = p;
       }
-  sloop-needed l (straight_sloop k t a K bare e) = subst (IsNeeded F kept) (sym e) (record {
+  sloop-needed l (straight_sloop k t a K bare e) = subst (IsSloopNeeded F kept) (sym e) (record {
     normal = star-normal gs L C.labelling t S K;
     lowest = S.star.rays_lowest zero K.first (straight-first t K);
     bare = bare;
@@ -89,14 +89,14 @@ module _ (gs : List Vector) (L : Vector → Label) (R : RawMap) (M : Map) (C : I
         below = one (opposite n) b g (subst (Near F y (opposite n)) (minus-side a m b) (p.near (opposite n))) (subst (Near F y (opposite n)) (minus-side c l g) (q.near (opposite n)))
 
   -- two circles meet, and where both are needed they are the same
-  one-circle : (n : Vector) (a m b : Label) → IsNormal n → IsBare kept n → Proper a m b → (y : Vector) → IsDirection y → StraightAt F n a m b y → (l : MapSloop) → IsNeeded F kept l → SameDirection n l.normal
+  one-circle : (n : Vector) (a m b : Label) → IsNormal n → IsBare kept n → Proper a m b → (y : Vector) → IsDirection y → StraightAt F n a m b y → (l : MapSloop) → IsSloopNeeded F kept l → SameDirection n l.normal
   one-circle n a m b normal bare proper y hy p l N = same-normal n a m b normal bare proper y hy p l.normal N.normal (⊎_elim (λ z. z) (λ f. met f) (zero-decided (cross n l.normal)))
     where
       met : IsDirection (cross n l.normal) → IsZero (cross n l.normal)
       met f = parallel-at n a m b normal bare proper y hy p l.normal l.pos l.mark l.neg (cross n l.normal) (record { direction = f; level = square-cross n l.normal })
           (round l.normal l.pos l.mark l.neg N.normal N.bare N.proper N.point N.direction N.labels (cross n l.normal) (record { direction = f; level = level_cross_second n l.normal }))
 
-  pub sloop-all : (n y : Vector) (a m b : Label) → IsNormal n → IsDirection y → ((k : ℕ) (v : MapVertex) → At M.svertices k v → dot n v.dir ≡ pos 0 → ⊥) → Proper a m b → StraightAt F n a m b y
+  pub sloop-all : (n y : Vector) (a m b : Label) → IsNormal n → IsDirection y → ((k : ℕ) (v : MapVertex) → IsAt M.svertices k v → dot n v.dir ≡ pos 0 → ⊥) → Proper a m b → StraightAt F n a m b y
       → (l : MapSloop) × (M.sloop ≡ Some l) × SameDirection n l.normal
   sloop-all n y a m b normal hy off proper p = by (search_list R.stars (λ k t. dot n t.axis ≡ pos 0) (λ k t. nought-or (dot n t.axis)))
     where
@@ -109,7 +109,7 @@ module _ (gs : List Vector) (L : Vector → Label) (R : RawMap) (M : Map) (C : I
       listed : (l : MapSloop) → IsSloopFrom R kept l → (k : MapSloop) × (M.sloop ≡ Some k) × SameDirection n k.normal
       listed l f = let x = C.built.sloop_all l f in (x.0, x.1, one-circle n a m b normal bare proper y hy p x.0 (sloop-needed x.0 (C.built.sloop_from x.0 x.1)))
 
-      at-star : (k : ℕ) (t : Star) (h : At R.stars k t) → dot n t.axis ≡ pos 0 → IsPlain t ⊎ IsStraight t ⊎ ((j : ℕ) × At kept j t) → (l : MapSloop) × (M.sloop ≡ Some l) × SameDirection n l.normal
+      at-star : (k : ℕ) (t : Star) (h : IsAt R.stars k t) → dot n t.axis ≡ pos 0 → IsPlain t ⊎ IsStraight t ⊎ ((j : ℕ) × IsAt kept j t) → (l : MapSloop) × (M.sloop ≡ Some l) × SameDirection n l.normal
       at-star k t h z (inl P) =
           let S = C.raw.stars k t h in
           let q = star-plain gs L C.labelling t S P in
@@ -123,7 +123,7 @@ module _ (gs : List Vector) (L : Vector → Label) (R : RawMap) (M : Map) (C : I
           listed (sloop_at t K) (straight_sloop k t h K (λ i v c x. bare i v c (level-same u n v.axis v.axis (SameDirection-turned n u w) (dir-self v.axis (let T = C.built.kept_from i v c in let V = C.raw.stars T.0 v T.1 in V.star.axis)) x)) refl)
       at-star k t h z (inr (inr j)) = absurd (bare j.0 t j.1 z)
 
-      by : Found R.stars (λ k t. dot n t.axis ≡ pos 0) ⊎ ((k : ℕ) (t : Star) → At R.stars k t → dot n t.axis ≡ pos 0 → ⊥) → (l : MapSloop) × (M.sloop ≡ Some l) × SameDirection n l.normal
+      by : Found R.stars (λ k t. dot n t.axis ≡ pos 0) ⊎ ((k : ℕ) (t : Star) → IsAt R.stars k t → dot n t.axis ≡ pos 0 → ⊥) → (l : MapSloop) × (M.sloop ≡ Some l) × SameDirection n l.normal
       by (inl f) = at-star f.number f.element f.listed f.holds (C.built.kept_all f.number f.element f.listed)
       by (inr none) =
           let x = C.raw.sloop_all n y a m b normal none (record { direction = hy; level = p.level }) proper p in

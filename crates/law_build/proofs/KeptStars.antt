@@ -1,8 +1,8 @@
 -- Stars that have kept their labels show the same.
-use Rattle.law_build.proofs.Prelude.{◌≡◌, ℕ, zero, suc, arith, refl, ap, sym, ◌∙◌, List, ◌∷◌, subst, length, [], Vector, IsDirection, cross, dot, SameDirection, Label, VectorBelow, At, Star, Near, RawMap, Of, ShowsLabels, IsBare, IsRawOf, IsKeptStar, IsKeptRaw, is-at_none}
+use Rattle.law_build.proofs.Prelude.{◌≡◌, ℕ, zero, suc, arith, refl, ap, sym, ◌∙◌, List, ◌∷◌, subst, length, [], Vector, IsDirection, cross, dot, SameDirection, Label, VectorBelow, IsAt, Star, Near, RawMap, Of, ShowsLabels, IsBare, IsRawOf, IsKeptStar, IsKeptRaw, is-at_none}
 
 -- lists of one length have elements at the same places
-pub at-other : {A B : Type 0} (xs : List A) (ys : List B) (k : ℕ) (x : A) → length xs ≡ length ys → At xs k x → (y : B) × At ys k y
+pub at-other : {A B : Type 0} (xs : List A) (ys : List B) (k : ℕ) (x : A) → length xs ≡ length ys → IsAt xs k x → (y : B) × IsAt ys k y
 at-other [] ys k x e a = absurd (is-at_none a)
 at-other (x ∷ xs) [] k z e a = absurd (omega arith)
 at-other (x ∷ xs) (y ∷ ys) zero z e a = (y, refl)
@@ -26,10 +26,10 @@ kept-shows t s L K S = record {
 
 module _ (R Q : RawMap) (L : Vector → Label) (W : IsRawOf R L) (K : IsKeptRaw R Q) where
   -- the star that was kept, and the one that it became
-  was : (k : ℕ) (s : Star) → At Q.stars k s → (t : Star) × At R.stars k t × IsKeptStar t s
+  was : (k : ℕ) (s : Star) → IsAt Q.stars k s → (t : Star) × IsAt R.stars k t × IsKeptStar t s
   was k s b = let x = at-other Q.stars R.stars k s K.stars.as_many b in (x.0, x.1, K.stars.kept k x.0 s x.1 b)
 
-  became : (k : ℕ) (t : Star) → At R.stars k t → (s : Star) × At Q.stars k s × IsKeptStar t s
+  became : (k : ℕ) (t : Star) → IsAt R.stars k t → (s : Star) × IsAt Q.stars k s × IsKeptStar t s
   became k t a = let x = at-other R.stars Q.stars k t (sym K.stars.as_many) a in (x.0, x.1, K.stars.kept k t x.0 a x.1)
 
   bare-before : (n : Vector) → IsBare Q.stars n → IsBare R.stars n

@@ -1,5 +1,5 @@
 -- The lone circle of overlaid stars: the labels along it, and that there is no other.
-use Rattle.law_build.proofs.Prelude.{◌≡◌, ℕ, pos, refl, ap, sym, ◌∙◌, ⊎_elim, subst, Option, Some, None, MatchOption, Vector, IsDirection, cross, dot, IsZero, SameDirection, opposite, IsNormal, Label, IsOnCircle, At, MapSloop, Map, Item, arc_item, sloop_item, items, item_normal, OnItem, Shaped, Valid, StraightAt, ByOp, normal-direction, arc-at, at-sloop, sloop-at, level-same, ends-of, RawMap, Of, IsBare, OnSvertex, IsAxis, NearByOp, IsMergedSloop, IsLoneSloop, Raw, cross-turned, SameDirection-turned, dir-self}
+use Rattle.law_build.proofs.Prelude.{◌≡◌, ℕ, pos, refl, ap, sym, ◌∙◌, ⊎_elim, subst, Option, Some, None, MatchOption, Vector, IsDirection, cross, dot, IsZero, SameDirection, opposite, IsNormal, Label, IsOnCircle, IsAt, MapSloop, Map, Item, arc_item, sloop_item, items, item_normal, OnItem, Shaped, Valid, StraightAt, ByOp, normal-direction, arc-at, at-sloop, sloop-at, level-same, ends-of, RawMap, Of, IsBare, OnSvertex, IsAxis, NearByOp, IsMergedSloop, IsLoneSloop, Raw, cross-turned, SameDirection-turned, dir-self}
 use Rattle.law_build.proofs.SideLabels.{SidesAt, sides-at, own-item, joined-sides}
 use Rattle.law_build.proofs.Merged.{is-of, near-merged, straight-of, straight-one, off-first, off-second, one-plane}
 
@@ -8,7 +8,7 @@ pub sloop-normal : (M : Map) → Shaped M → (l : MapSloop) → M.sloop ≡ Som
 sloop-normal M V l e = let i = at-sloop M.arcs M.sloop l e in V.normals i.0 (sloop_item l) i.1
 
 -- an item on a circle that no svertex lies on is a sloop
-pub item-sloop : (M : Map) → Shaped M → (n : Vector) → ((d : Vector) → IsOnCircle n d → OnSvertex M d → ⊥) → (i : ℕ) (x : Item) → At (items M) i x → SameDirection n (item_normal x) → (l : MapSloop) × (M.sloop ≡ Some l) × SameDirection n l.normal
+pub item-sloop : (M : Map) → Shaped M → (n : Vector) → ((d : Vector) → IsOnCircle n d → OnSvertex M d → ⊥) → (i : ℕ) (x : Item) → IsAt (items M) i x → SameDirection n (item_normal x) → (l : MapSloop) × (M.sloop ≡ Some l) × SameDirection n l.normal
 item-sloop M V n off i (sloop_item l) a w = (l, sloop-at M.arcs M.sloop i l a, w)
 item-sloop M V n off i (arc_item r) a w =
     let e = ends-of M V i r (arc-at M.arcs M.sloop i r a) in
@@ -50,13 +50,13 @@ module _ (A B : Map) (op : Label → Label → Label) (R : RawMap) (L : Vector �
     plane : (x : Item) (n : Vector) → x ≡ sloop_item l → n ≡ item_normal x → IsZero (cross l.normal n)
     plane x n e f = subst (λ (v : Vector). IsZero (cross l.normal v)) (sym (f ∙ ap item_normal e)) (let w = dir-self l.normal (normal-direction l.normal hn) in w.parallel)
 
-    flat-first : (i : ℕ) (x : Item) → At (items A) i x → OnItem A x y → IsZero (cross l.normal (item_normal x))
+    flat-first : (i : ℕ) (x : Item) → IsAt (items A) i x → OnItem A x y → IsZero (cross l.normal (item_normal x))
     flat-first i x a p = ⊎_elim
         (λ e. plane x (item_normal x) (own-item A V.shaped l e y o i x a p) refl)
         (λ e. let j = at-sloop B.arcs B.sloop l e in cross-turned (item_normal x) l.normal (one-plane A B op R L V W raw labels y o.direction off i j.0 x (sloop_item l) a j.1 p o))
         lone.0
 
-    flat-second : (i : ℕ) (x : Item) → At (items B) i x → OnItem B x y → IsZero (cross l.normal (item_normal x))
+    flat-second : (i : ℕ) (x : Item) → IsAt (items B) i x → OnItem B x y → IsZero (cross l.normal (item_normal x))
     flat-second i x a p = ⊎_elim
         (λ e. let j = at-sloop A.arcs A.sloop l e in one-plane A B op R L V W raw labels y o.direction off j.0 i (sloop_item l) x j.1 a o p)
         (λ e. plane x (item_normal x) (own-item B W.shaped l e y o i x a p) refl)

@@ -1,5 +1,5 @@
 -- Overlaid stars: what op of two maps' labels says of a label function with them; the axes, and the lone circle.
-use Rattle.law_build.proofs.Prelude.{◌≡◌, ℕ, ◌+◌, ℤ, pos, ◌+ℤ◌, ◌-ℤ◌, ◌*ℤ◌, ◌<ℤ◌, neg_ℤ, arith, ap, sym, ◌∙◌, inl, inr, ⊎_elim, ◌∷◌, subst, [], ints, ring, at, num, ◌⊕◌, ◌⊖◌, ◌⊗◌, sign-plus, sign-minus, Vector, IsDirection, cross, dot, IsZero, SameDirection, opposite, blend, Label, IsOnCircle, At, MapVertex, Map, Item, items, item_normal, OnItem, Valid, by_side, Star, Near, StraightAt, IsSmooth, plain, straight, ByOp, label-direction, level-same, op-labelling, RawMap, Of, ShowsLabels, IsBare, IsAxis, NearByOp, Raw, zero-decided, self-pos, SameDirection-turned, dir-self}
+use Rattle.law_build.proofs.Prelude.{◌≡◌, ℕ, ◌+◌, ℤ, pos, ◌+ℤ◌, ◌-ℤ◌, ◌*ℤ◌, ◌<ℤ◌, neg_ℤ, arith, ap, sym, ◌∙◌, inl, inr, ⊎_elim, ◌∷◌, subst, [], ints, ring, at, num, ◌⊕◌, ◌⊖◌, ◌⊗◌, sign-plus, sign-minus, Vector, IsDirection, cross, dot, IsZero, SameDirection, opposite, blend, Label, IsOnCircle, IsAt, MapVertex, Map, Item, items, item_normal, OnItem, Valid, by_side, Star, Near, StraightAt, IsSmooth, plain, straight, ByOp, label-direction, level-same, op-labelling, RawMap, Of, ShowsLabels, IsBare, IsAxis, NearByOp, Raw, zero-decided, self-pos, SameDirection-turned, dir-self}
 use Rattle.law_sphere.proofs.Smooth.{op-smooth}
 
 -- the opposite of a direction lies behind it
@@ -58,18 +58,18 @@ module _ (A B : Map) (op : Label → Label → Label) (R : RawMap) (L : Vector �
       (subst (Near (Of L) d (opposite n)) (ap (by_side c o g) (sign-minus (dot n (opposite n)) (opposite-behind n h))) (q.near (opposite n)))
 
   -- ---- off the axes
-  pub no-axis : (d : Vector) → ((k : ℕ) (t : Star) → At R.stars k t → SameDirection t.axis d → ⊥) → IsAxis A B d → ⊥
+  pub no-axis : (d : Vector) → ((k : ℕ) (t : Star) → IsAt R.stars k t → SameDirection t.axis d → ⊥) → IsAxis A B d → ⊥
   no-axis d none x = let c = raw.complete d x in none c.0 c.1 c.2 c.3
 
   module _ (d : Vector) (h : IsDirection d) (off : IsAxis A B d → ⊥) where
-    pub off-first : (k : ℕ) (v : MapVertex) → At A.svertices k v → SameDirection v.dir d → ⊥
+    pub off-first : (k : ℕ) (v : MapVertex) → IsAt A.svertices k v → SameDirection v.dir d → ⊥
     off-first k v a w = off (inl (k, v, a, w))
 
-    pub off-second : (k : ℕ) (v : MapVertex) → At B.svertices k v → SameDirection v.dir d → ⊥
+    pub off-second : (k : ℕ) (v : MapVertex) → IsAt B.svertices k v → SameDirection v.dir d → ⊥
     off-second k v a w = off (inr (inl (k, v, a, w)))
 
     -- items of the two that meet have one plane
-    pub one-plane : (i j : ℕ) (x y : Item) → At (items A) i x → At (items B) j y → OnItem A x d → OnItem B y d → IsZero (cross (item_normal x) (item_normal y))
+    pub one-plane : (i j : ℕ) (x y : Item) → IsAt (items A) i x → IsAt (items B) j y → OnItem A x d → OnItem B y d → IsZero (cross (item_normal x) (item_normal y))
     one-plane i j x y a b o p = ⊎_elim (λ z. z) (λ f. absurd (off (inr (inr (record { i = i; k = j; x = x; y = y; of_a = a; of_b = b; apart = f; on_x = o; on_y = p })))))
         (zero-decided (cross (item_normal x) (item_normal y)))
 
@@ -77,7 +77,7 @@ module _ (A B : Map) (op : Label → Label → Label) (R : RawMap) (L : Vector �
     raw-smooth = smooth-of d (op-smooth A B op V W d h off-first off-second one-plane)
 
   -- ---- stars
-  pub raw-shows : (k : ℕ) (t : Star) → At R.stars k t → ShowsLabels t L
+  pub raw-shows : (k : ℕ) (t : Star) → IsAt R.stars k t → ShowsLabels t L
   raw-shows k t a = let m = raw.merged k t a in record {
     star = m.star;
     mark = is-of t.axis t.mark m.mark;

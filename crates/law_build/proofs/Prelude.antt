@@ -1,5 +1,5 @@
 -- The names that most proofs cite, passed on from one place. Declares nothing.
-pub use Rattle.law_sphere.proofs.Prelude.{Arc, ArcBelow, At, Bool, ByOp, Decided, Follows, HasArc, HasSide, IsBuilt, IsDirection, IsFree, IsNormal, IsOnCircle, IsOpposite, IsPlain, IsPrimitive, IsRay, IsSimplified, IsSmooth, IsStraight, IsStrictlyOn, IsZero, Item, Keeps, Kept, Label, Labelling, Least, List, Map, MapLabel, MapSloop, MapVertex, Near, NearLabel, NearPlain, NearStraight, NextRay, None, OnItem, OnRay, Option, Ordered, Plain, Proper, Ray, SameDirection, SameDirection-trans, SameDirection-turned, SameSigns, Shaped, Side, Sign, Some, Star, StarLabel, StarShows, StraightAfter, StraightAt, Valid, Vector, VectorBelow, [], across, ap, apart, arc_forms, arc_item, arith, around_svertex, at, at_svertex, axes, blend, by_order, by_side, cond, cross, cross-turned, cross_of, crossed, dir-self, dir-signs, dir_of, direction-left, direction-opposite, direction-right, dot, dot-comm, dot-opposite, dot-zero, dot_of, dot_poly, each, false, follows, forms, from-opposite, given, in-span, in_only_sector, in_sector, inl, inr, ints, is-at_first, is-at_none, item_mark, item_neg, item_normal, item_pos, items, length, level-blend, level-opposite, level_cross_second, lies-each, lies-left, lies-right, mul_pos, neg, neg_item, neg_ℤ, none, nought-if, nought-is, nought-or, num, numbers, on_item, on_ray, opposite, opposite-cross, opposite-dot, opposite-twice, opposites, parallel-in_plane, parallel-trans, plain, pos, pos_item, ray_dir, refl, ring, seen, self-pos, sign, sign-minus, sign-plus, sign-scaled, sloop_item, square-cross, straight, subst, suc, sym, triple, triple-dot, triple-middle, triple_of, triple_poly, true, vec, vector-same, whole, zero, zero-decided, zero-dot, ℕ, ℤ, ⊎_elim, ◌*ℤ◌, ◌++◌, ◌+ℤ◌, ◌+◌, ◌-ℤ◌, ◌<ℤ◌, ◌<◌, ◌↔◌, ◌∙◌, ◌∷◌, ◌≡◌, ◌≤◌, ◌⊎◌, ◌⊕◌, ◌⊖◌, ◌⊗◌}
+pub use Rattle.law_sphere.proofs.Prelude.{Arc, ArcBelow, Bool, ByOp, Decided, Follows, HasArc, HasSide, IsAt, IsBuilt, IsDirection, IsFree, IsNormal, IsOnCircle, IsOpposite, IsPlain, IsPrimitive, IsSimplified, IsSmooth, IsStraight, IsStrictlyOn, IsZero, Item, Keeps, Label, Labelling, Least, LeavesAxis, List, Map, MapLabel, MapSloop, MapVertex, Near, NearLabel, NearPlain, NearStraight, NextRay, None, NoneSmooth, OnItem, OnRay, Option, Ordered, Plain, Proper, Ray, SameDirection, SameDirection-trans, SameDirection-turned, SameSigns, Shaped, Side, Sign, Some, Star, StarLabel, StarShows, StraightAfter, StraightAt, Valid, Vector, VectorBelow, [], across, ap, apart, arc_forms, arc_item, arith, around_svertex, at, at_svertex, axes, blend, by_order, by_side, cond, cross, cross-turned, cross_of, crossed, dir-self, dir-signs, dir_of, direction-left, direction-opposite, direction-right, dot, dot-comm, dot-opposite, dot-zero, dot_of, dot_poly, each, false, follows, forms, from-opposite, given, in-span, in_only_sector, in_sector, inl, inr, ints, is-at_first, is-at_none, item_mark, item_neg, item_normal, item_pos, items, length, level-blend, level-opposite, level_cross_second, lies-each, lies-left, lies-right, mul_pos, neg, neg_item, neg_ℤ, none, nought-if, nought-is, nought-or, num, numbers, on_item, on_ray, opposite, opposite-cross, opposite-dot, opposite-twice, opposites, parallel-in_plane, parallel-trans, plain, poly_triple, pos, pos_item, ray_dir, refl, ring, seen, self-pos, sign, sign-minus, sign-plus, sign-scaled, sloop_item, square-cross, straight, subst, suc, sym, triple, triple-dot, triple-middle, triple_poly, true, vec, vector-same, whole, zero, zero-decided, zero-dot, ℕ, ℤ, ⊎_elim, ◌*ℤ◌, ◌++◌, ◌+ℤ◌, ◌+◌, ◌-ℤ◌, ◌<ℤ◌, ◌<◌, ◌↔◌, ◌∙◌, ◌∷◌, ◌≡◌, ◌≤◌, ◌⊎◌, ◌⊕◌, ◌⊖◌, ◌⊗◌}
 pub use Rattle.std.proofs.Common.{map}
 pub use Rattle.std.specs.Prelude.{IsSome, MatchOption}
 pub use Rattle.nef_space.proofs.Vectors.{Polys, cross-opposite}
@@ -29,4 +29,4 @@ pub use Rattle.law_sphere.specs.Maps.{ArcBetween}
 pub use Rattle.law_sphere.specs.Raw.{IsBare, IsLabelling, IsRawOf, IsWellFormed, Of, RawMap, ShowsLabels, sector_count}
 pub use Rattle.law_build.specs.From.{AreSimplified, IsArcFrom, IsBuiltFrom, IsKeptRaw, IsKeptStar, IsRawLabel, IsSloopFrom, around_of, raw_sloop, sloop_at, straight_sloop, svertex_at}
 pub use Rattle.law_build.specs.Laws.{MapLabelling, OpLabelling, RawShowsOp}
-pub use Rattle.law_build.specs.Overlays.{HasItem, IsAxis, IsLoneSloop, IsMergedGround, IsMergedSloop, NearByOp, OnSvertex, Raw}
+pub use Rattle.law_build.specs.Overlays.{HasSvertexOrSloop, IsAxis, IsLoneSloop, IsMergedGround, IsMergedSloop, NearByOp, OnSvertex, Raw}

@@ -1,5 +1,5 @@
 -- The one face of overlaid maps without items, and what overlaid stars show.
-use Rattle.law_build.proofs.Prelude.{◌≡◌, ℕ, zero, refl, ap, sym, ◌∙◌, ◌⊎◌, inl, inr, ⊎_elim, List, ◌∷◌, subst, Option, Some, None, [], MatchOption, IsSome, Vector, IsDirection, Label, At, MapVertex, MapSloop, Map, Item, arc_item, sloop_item, items, Side, around_svertex, pos_item, neg_item, whole, HasSide, MapLabel, at_svertex, on_item, seen, Shaped, Valid, Star, ByOp, arc-at, sloop-at, ends-of, RawMap, OnSvertex, IsAxis, IsMergedGround, HasItem, Raw, RawShowsOp, dir-self, some-some, none-at}
+use Rattle.law_build.proofs.Prelude.{◌≡◌, ℕ, zero, refl, ap, sym, ◌∙◌, ◌⊎◌, inl, inr, ⊎_elim, List, ◌∷◌, subst, Option, Some, None, [], MatchOption, IsSome, Vector, IsDirection, Label, IsAt, MapVertex, MapSloop, Map, Item, arc_item, sloop_item, items, Side, around_svertex, pos_item, neg_item, whole, HasSide, MapLabel, at_svertex, on_item, seen, Shaped, Valid, Star, ByOp, arc-at, sloop-at, ends-of, RawMap, OnSvertex, IsAxis, IsMergedGround, HasSvertexOrSloop, Raw, RawShowsOp, dir-self, some-some, none-at}
 use Rattle.law_build.proofs.Merged.{no-axis, raw-smooth, raw-shows}
 use Rattle.law_build.proofs.LoneSloops.{merged-sloop, no-sloop, raw-sloop_normal, raw-sloop_bare, raw-sloop_labels}
 use Rattle.law_build.proofs.AllSloops.{raw-sloop_all}
@@ -12,7 +12,7 @@ module _ (M : Map) (V : Shaped M) (no_svertex : M.svertices ≡ []) (no_sloop : 
   pub no-svertex : (d : Vector) → OnSvertex M d → ⊥
   no-svertex d (k, v, a, w) = none-at M.svertices k v no_svertex a
 
-  pub no-item : (i : ℕ) (x : Item) → At (items M) i x → ⊥
+  pub no-item : (i : ℕ) (x : Item) → IsAt (items M) i x → ⊥
   no-item i (arc_item r) a = let e = ends-of M V i r (arc-at M.arcs M.sloop i r a) in none-at M.svertices r.source e.source no_svertex e.has_source
   no-item i (sloop_item l) a = not-both M.sloop l no_sloop (sloop-at M.arcs M.sloop i l a)
 
@@ -28,12 +28,12 @@ module _ (M : Map) (V : Shaped M) (no_svertex : M.svertices ≡ []) (no_sloop : 
       by whole q = some-some m k (sym q ∙ e)
 
 -- a map with a svertex has one
-first-svertex : (M : Map) → (M.svertices ≡ [] → ⊥) → (v : MapVertex) × At M.svertices zero v
+first-svertex : (M : Map) → (M.svertices ≡ [] → ⊥) → (v : MapVertex) × IsAt M.svertices zero v
 first-svertex M f = by M.svertices refl
   where
-    by : (vs : List MapVertex) → M.svertices ≡ vs → (v : MapVertex) × At M.svertices zero v
+    by : (vs : List MapVertex) → M.svertices ≡ vs → (v : MapVertex) × IsAt M.svertices zero v
     by [] e = absurd (f e)
-    by (v ∷ vs) e = (v, subst (λ (r : List MapVertex). At r zero v) (sym e) refl)
+    by (v ∷ vs) e = (v, subst (λ (r : List MapVertex). IsAt r zero v) (sym e) refl)
 
 has-sloop : (M : Map) → IsSome M.sloop → (l : MapSloop) × (M.sloop ≡ Some l)
 has-sloop M h = by M.sloop refl h
@@ -45,7 +45,7 @@ has-sloop M h = by M.sloop refl h
 module _ (A B : Map) (op : Label → Label → Label) (R : RawMap) (L : Vector → Label) (V : Valid A) (W : Valid B) (raw : Raw R A B op)
     (labels : (d : Vector) → IsDirection d → ByOp A B op d (L d)) where
   abbrev GroundOf : Option Label → Type 0
-  GroundOf o = MatchOption o (HasItem A ⊎ HasItem B) (IsMergedGround A B op)
+  GroundOf o = MatchOption o (HasSvertexOrSloop A ⊎ HasSvertexOrSloop B) (IsMergedGround A B op)
 
   -- ---- neither stars nor a circle
   module _ (no_star : R.stars ≡ []) (no_circle : R.sloop ≡ None) where
@@ -58,7 +58,7 @@ module _ (A B : Map) (op : Label → Label → Label) (R : RawMap) (L : Vector �
     svertex-axis : (M : Map) → Shaped M → (M.svertices ≡ [] → ⊥) → (d : Vector) × OnSvertex M d
     svertex-axis M S f = let v = first-svertex M f in (v.0.dir, (zero, v.0, v.1, dir-self v.0.dir (S.svertex_dirs zero v.0 v.1)))
 
-    no-items : HasItem A ⊎ HasItem B → ⊥
+    no-items : HasSvertexOrSloop A ⊎ HasSvertexOrSloop B → ⊥
     no-items (inl (inl f)) = let s = svertex-axis A V.shaped f in no-axes s.0 (inl s.1)
     no-items (inl (inr h)) = let l = has-sloop A h in not-lone l.0 (inl l.1)
     no-items (inr (inl f)) = let s = svertex-axis B W.shaped f in no-axes s.0 (inr (inl s.1))
@@ -92,7 +92,7 @@ module _ (A B : Map) (op : Label → Label → Label) (R : RawMap) (L : Vector �
       where
         by : (ts : List Star) → R.stars ≡ ts → R.stars ≡ []
         by [] q = q
-        by (t ∷ ts) q = let s = raw.merged zero t (subst (λ (r : List Star). At r zero t) (sym q) refl) in absurd (axis-free t.axis s.axis)
+        by (t ∷ ts) q = let s = raw.merged zero t (subst (λ (r : List Star). IsAt r zero t) (sym q) refl) in absurd (axis-free t.axis s.axis)
 
     raw-no_circle : R.sloop ≡ None
     raw-no_circle = by R.sloop refl

@@ -1,5 +1,5 @@
 -- Close to a ray a star gives the ray's mark in the plane of the ray, and the labels of the sectors after and before it beside it.
-use Rattle.law_build.proofs.Prelude.{◌≡◌, ℕ, ◌≤◌, ℤ, pos, ◌*ℤ◌, ◌<ℤ◌, arith, refl, ap, sym, ◌∙◌, inl, inr, List, ◌∷◌, subst, [], ints, ring, at, num, ◌⊕◌, ◌⊖◌, ◌⊗◌, neg, sign, sign-plus, sign-minus, sign-scaled, by_order, nought-is, Vector, IsDirection, cross, triple, dot, SameDirection, blend, opposite, Label, IsStrictlyOn, At, by_side, Ray, Star, ray_dir, across, NextRay, StarLabel, on_ray, in_sector, Follows, same-plus, amount, far-keeps, far-level, reversed, across-side, ray-level, last-of, before, next-ray, IsWellFormed, dot-comm, self-pos, vector-same, triple-dot, triple-middle, parallel-in_plane, cross_of, direction-opposite, level_cross_second, numbers, opposite-dot, opposite-twice, vec, Polys}
+use Rattle.law_build.proofs.Prelude.{◌≡◌, ℕ, ◌≤◌, ℤ, pos, ◌*ℤ◌, ◌<ℤ◌, arith, refl, ap, sym, ◌∙◌, inl, inr, List, ◌∷◌, subst, [], ints, ring, at, num, ◌⊕◌, ◌⊖◌, ◌⊗◌, neg, sign, sign-plus, sign-minus, sign-scaled, by_order, nought-is, Vector, IsDirection, cross, triple, dot, SameDirection, blend, opposite, Label, IsStrictlyOn, IsAt, by_side, Ray, Star, ray_dir, across, NextRay, StarLabel, on_ray, in_sector, Follows, same-plus, amount, far-keeps, far-level, reversed, across-side, ray-level, last-of, before, next-ray, IsWellFormed, dot-comm, self-pos, vector-same, triple-dot, triple-middle, parallel-in_plane, cross_of, direction-opposite, level_cross_second, numbers, opposite-dot, opposite-twice, vec, Polys}
 use Rattle.law_sphere.proofs.Direct.{cross-self}
 use Rattle.law_sphere.proofs.ArcWays.{on-ahead}
 
@@ -75,26 +75,26 @@ close-before d w v e hd hw hv lw lv h k l =
 
 -- ---- a ray of a star
 -- the ray before
-pub follows-at : (rs : List Ray) (j k : ℕ) (r : Ray) → Follows rs j k → At rs k r → (q : Ray) × At rs j q × NextRay rs j r
-follows-at rs j k r (inl e) a = let b = subst (λ (i : ℕ). At rs i r) (sym e) a in let x = before rs j r b in (x.0, x.1, inl b)
+pub follows-at : (rs : List Ray) (j k : ℕ) (r : Ray) → Follows rs j k → IsAt rs k r → (q : Ray) × IsAt rs j q × NextRay rs j r
+follows-at rs j k r (inl e) a = let b = subst (λ (i : ℕ). IsAt rs i r) (sym e) a in let x = before rs j r b in (x.0, x.1, inl b)
 follows-at rs j k r (inr e) a =
-    let b = subst (λ (i : ℕ). At rs i r) e.1 a in
+    let b = subst (λ (i : ℕ). IsAt rs i r) e.1 a in
     let x = last-of rs r b in
     let q : x.0 ≡ j = (let f = x.3 in let g = e.0 in omega arith) in
-    (x.1, subst (λ (i : ℕ). At rs i x.1) q x.2, inr (e.0, b))
+    (x.1, subst (λ (i : ℕ). IsAt rs i x.1) q x.2, inr (e.0, b))
 
 -- from some number on, the star t gives the label m close to w toward e
 abbrev pub Close : Star → Vector → Vector → Label → Type 0
 Close t w e m = (low : ℕ) × ((i : ℕ) → low ≤ i → StarLabel t (blend i w 1 e) m)
 
-module _ (t : Star) (W : IsWellFormed t) (j k : ℕ) (r : Ray) (h : At t.rays k r) (f : Follows t.rays j k) (a b : Label) (above : At t.sectors k a) (below : At t.sectors j b) where
+module _ (t : Star) (W : IsWellFormed t) (j k : ℕ) (r : Ray) (h : IsAt t.rays k r) (f : Follows t.rays j k) (a b : Label) (above : IsAt t.sectors k a) (below : IsAt t.sectors j b) where
   abbrev d : Vector
   d = t.axis
 
   abbrev w : Vector
   w = ray_dir t r
 
-  at-ray : (i : ℕ) (q : Ray) → At t.rays i q → (dot d (ray_dir t q) ≡ pos 0) × IsDirection (ray_dir t q)
+  at-ray : (i : ℕ) (q : Ray) → IsAt t.rays i q → (dot d (ray_dir t q) ≡ pos 0) × IsDirection (ray_dir t q)
   at-ray i q c = ray-level t W.axis q (W.rays i q c)
 
   close-minus : (e : Vector) → triple d w e <ℤ pos 0 → Close t w e b

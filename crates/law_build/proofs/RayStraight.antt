@@ -1,5 +1,5 @@
 -- Close to a ray of a star that shows labels they are straight; where labels are straight close to an axis there is a ray.
-use Rattle.law_build.proofs.Prelude.{◌≡◌, ℕ, ◌+◌, ◌≤◌, pos, arith, ap, sym, ◌∙◌, ◌⊎◌, inl, inr, ⊎_elim, List, ◌∷◌, subst, [], ints, ring, at, ◌⊕◌, ◌⊖◌, ◌⊗◌, each, lies-each, sign, sign-scaled, Vector, IsDirection, cross, triple, dot, SameDirection, blend, Label, At, Keeps, point_forms, arc_forms, by_side, Near, StraightAfter, Proper, Ray, Star, ray_dir, across, OnRay, StarLabel, on_ray, in_sector, in_only_sector, Follows, amount, far-keeps, parallel-back, IsStrictlyOn-stays, near-near, not-even, directed-by, far_directed-by, turn-ahead, across-same, Of, IsLabelling, ShowsLabels, self-pos, square-cross, nought-if, SameDirection-turned, SameDirection-trans, apart, level_cross_second, level-blend}
+use Rattle.law_build.proofs.Prelude.{◌≡◌, ℕ, ◌+◌, ◌≤◌, pos, arith, ap, sym, ◌∙◌, ◌⊎◌, inl, inr, ⊎_elim, List, ◌∷◌, subst, [], ints, ring, at, ◌⊕◌, ◌⊖◌, ◌⊗◌, each, lies-each, sign, sign-scaled, Vector, IsDirection, cross, triple, dot, SameDirection, blend, Label, IsAt, Keeps, point_forms, arc_forms, by_side, Near, StraightAfter, Proper, Ray, Star, ray_dir, across, OnRay, StarLabel, on_ray, in_sector, in_only_sector, Follows, amount, far-keeps, parallel-back, IsStrictlyOn-stays, near-near, not-even, directed-by, far_directed-by, turn-ahead, across-same, Of, IsLabelling, ShowsLabels, self-pos, square-cross, nought-if, SameDirection-turned, SameDirection-trans, apart, level_cross_second, level-blend}
 use Rattle.law_build.proofs.BuiltLabels.{with_axes, labelling, axial}
 use Rattle.law_build.proofs.RayClose.{Close, across-level, ray-close}
 
@@ -24,7 +24,7 @@ across-keeps gs d w e i h g l f =
     ∙ ap sign (sym (across-swap d g w))
 
 -- a direction lies on a ray, or it has the label of all directions close to it
-star-or : (t : Star) (w : Vector) (l : Label) → StarLabel t w l → ((k : ℕ) × (r : Ray) × At t.rays k r × OnRay t r w) ⊎ ((e : Vector) → Close t w e l)
+star-or : (t : Star) (w : Vector) (l : Label) → StarLabel t w l → ((k : ℕ) × (r : Ray) × IsAt t.rays k r × OnRay t r w) ⊎ ((e : Vector) → Close t w e l)
 star-or t w l (on_ray k r a o m) = inl (k, r, a, o)
 star-or t w l (in_sector k q r a n o s) = inr (λ e.
     let forms = arc_forms t.axis (ray_dir t q) (ray_dir t r) in (
@@ -53,7 +53,7 @@ module _ (gs : List Vector) (L : Vector → Label) (I : IsLabelling gs L) (t : S
       still j k z = off (parallel-back d w (blend j w 1 e) (far-keeps (point_forms d) w e j k) z)
 
   -- at the axis, straight in the plane of the form u that has the ray on it
-  pub ray-after : (u : Vector) → dot u d ≡ pos 0 → (j k : ℕ) (r : Ray) → At t.rays k r → ray_dir t r ≡ cross u d → IsDirection (cross u d) → Follows t.rays j k → At t.sectors k a → At t.sectors j b → r.mark ≡ m
+  pub ray-after : (u : Vector) → dot u d ≡ pos 0 → (j k : ℕ) (r : Ray) → IsAt t.rays k r → ray_dir t r ≡ cross u d → IsDirection (cross u d) → Follows t.rays j k → IsAt t.sectors k a → IsAt t.sectors j b → r.mark ≡ m
       → StraightAfter F u a m b d
   ray-after u lu j k r h way hw f above below e = (x.0 + amount hs w, λ i l. record { level = level-blend u d w i 1 lu (square-cross u d); at_d = x.1 i (omega arith); near = λ v. close v i (omega arith) })
     where
@@ -75,7 +75,7 @@ module _ (gs : List Vector) (L : Vector → Label) (I : IsLabelling gs L) (t : S
           (subst (λ (q : Vector). Close t q v (by_side a m b (sign (dot u v)))) way (subst (Close t (ray_dir t r) v) (side v) (ray-close t S.star j k r h f a b above below v))) i h'
 
   -- where the labels are straight close after the axis in the plane of n, a ray leaves along it
-  pub ray-there : IsDirection n → dot n d ≡ pos 0 → StraightAfter F n a m b d → (k : ℕ) × (r : Ray) × At t.rays k r × SameDirection (ray_dir t r) (cross n d)
+  pub ray-there : IsDirection n → dot n d ≡ pos 0 → StraightAfter F n a m b d → (k : ℕ) × (r : Ray) × IsAt t.rays k r × SameDirection (ray_dir t r) (cross n d)
   ray-there hn ln after = ⊎_elim
       (λ x. (x.0, x.1, x.2, SameDirection-trans (ray_dir t x.1) (across d w) w x.3 (SameDirection-turned w (across d w) (across-same d w S.star.axis hw lw))))
       (λ c. absurd (even c))

@@ -1,5 +1,5 @@
 -- The labels of a map about a plane through a direction that lies on no svertex and on no item of another plane.
-use Rattle.law_build.proofs.Prelude.{◌≡◌, ℕ, ◌+◌, pos, arith, refl, ap, sym, ◌∙◌, subst, sign, Vector, IsDirection, cross, dot, IsZero, SameDirection, IsNormal, Label, IsOnCircle, At, MapVertex, MapSloop, Map, Item, sloop_item, items, item_normal, item_pos, item_mark, item_neg, OnItem, IsFree, MapLabel, on_item, NearLabel, Shaped, Valid, by_side, Near, StraightAt, ByOp, at-one, PlaceOf, svertex_place, item_place, free_place, place_of, label-exists, normals-same, at-sloop, dot-comm, dir-signs, direction-left, even-side, op-side}
+use Rattle.law_build.proofs.Prelude.{◌≡◌, ℕ, ◌+◌, pos, arith, refl, ap, sym, ◌∙◌, subst, sign, Vector, IsDirection, cross, dot, IsZero, SameDirection, IsNormal, Label, IsOnCircle, IsAt, MapVertex, MapSloop, Map, Item, sloop_item, items, item_normal, item_pos, item_mark, item_neg, OnItem, IsFree, MapLabel, on_item, NearLabel, Shaped, Valid, by_side, Near, StraightAt, ByOp, at-one, PlaceOf, svertex_place, item_place, free_place, place_of, label-exists, normals-same, at-sloop, dot-comm, dir-signs, direction-left, even-side, op-side}
 use Rattle.std.specs.Prelude.{Some}
 use Rattle.law_sphere.proofs.NearItems.{near-free, near-item}
 
@@ -24,7 +24,7 @@ module _ (M : Map) (V : Valid M) (n d : Vector) where
     near = λ e. subst (NearLabel M d e) (sym (even-side a.0 (sign (dot n e)))) (near-free M V d F a.0 a.1 e);
   }
 
-  pub item-sides : (i : ℕ) (x : Item) → At (items M) i x → OnItem M x d → SameDirection n (item_normal x) → SidesAt M n d
+  pub item-sides : (i : ℕ) (x : Item) → IsAt (items M) i x → OnItem M x d → SameDirection n (item_normal x) → SidesAt M n d
   item-sides i x a o w = record {
     pos = item_pos x;
     label = item_mark x;
@@ -34,8 +34,8 @@ module _ (M : Map) (V : Valid M) (n d : Vector) where
   }
 
   -- off the svertices and off the items of other planes
-  pub sides-at : IsDirection d → IsNormal n → ((k : ℕ) (v : MapVertex) → At M.svertices k v → SameDirection v.dir d → ⊥)
-      → ((i : ℕ) (x : Item) → At (items M) i x → OnItem M x d → IsZero (cross n (item_normal x))) → SidesAt M n d
+  pub sides-at : IsDirection d → IsNormal n → ((k : ℕ) (v : MapVertex) → IsAt M.svertices k v → SameDirection v.dir d → ⊥)
+      → ((i : ℕ) (x : Item) → IsAt (items M) i x → OnItem M x d → IsZero (cross n (item_normal x))) → SidesAt M n d
   sides-at h hn off flat = by (place_of M d h)
     where
       by : PlaceOf M d → SidesAt M n d
@@ -44,11 +44,11 @@ module _ (M : Map) (V : Valid M) (n d : Vector) where
       by (free_place F) = free-sides F
 
 -- an item that the sloop's circle meets is the sloop
-pub own-item : (M : Map) → Shaped M → (l : MapSloop) → M.sloop ≡ Some l → (d : Vector) → IsOnCircle l.normal d → (i : ℕ) (x : Item) → At (items M) i x → OnItem M x d → x ≡ sloop_item l
+pub own-item : (M : Map) → Shaped M → (l : MapSloop) → M.sloop ≡ Some l → (d : Vector) → IsOnCircle l.normal d → (i : ℕ) (x : Item) → IsAt (items M) i x → OnItem M x d → x ≡ sloop_item l
 own-item M V l e d c i x a o =
     let j = at-sloop M.arcs M.sloop l e in
     let q = V.no_items_meet i j.0 x (sloop_item l) d a j.1 o c in
-    at-one (items M) j.0 x (sloop_item l) (subst (λ (r : ℕ). At (items M) r x) q a) j.1
+    at-one (items M) j.0 x (sloop_item l) (subst (λ (r : ℕ). IsAt (items M) r x) q a) j.1
 
 -- the sides of two maps make those of op
 pub joined-sides : (A B : Map) (op : Label → Label → Label) (n d : Vector) → dot n d ≡ pos 0 → (p : SidesAt A n d) (q : SidesAt B n d)

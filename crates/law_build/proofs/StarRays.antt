@@ -1,5 +1,5 @@
--- At a straight direction the rays of a simplified star that is well formed go different ways, and two opposite ones make it a straight star.
-use Rattle.law_build.proofs.Prelude.{◌≡◌, ℕ, zero, suc, ◌<◌, pos, ◌-ℤ◌, ◌<ℤ◌, arith, refl, ap, sym, ◌∙◌, inl, ⊎_elim, List, ◌∷◌, subst, length, Bool, true, false, cond, [], ints, ring, num, ◌⊖◌, sign, sign-scaled, nought-is, Vector, IsDirection, cross, triple, dot, IsZero, SameDirection, IsOpposite, Label, VectorBelow, At, Map, NearLabel, Valid, NearStraight, Ray, Star, ray_dir, across, in_sector, IsRay, StarShows, IsStraight, IsSimplified, normal-direction, same-plus, direction-by, below-itself, Beside, same_way, other_way, beside, normals-not_opposite, whole-passes, lowest-same, across-side, ray-level, straight-level, RaysApart, TwoRays, sector_count, IsWellFormed, dot-comm, dot-zero, zero-dot, self-pos, cross-turned, nought-if, opposites, SameDirection-turned, dir-signs, parallel-trans, parallel-in_plane, crossed, cross_of, dot_of, triple_of, vec, numbers, is-at_none}
+-- IsAt a straight direction the rays of a simplified star that is well formed go different ways, and two opposite ones make it a straight star.
+use Rattle.law_build.proofs.Prelude.{◌≡◌, ℕ, zero, suc, ◌<◌, pos, ◌-ℤ◌, ◌<ℤ◌, arith, refl, ap, sym, ◌∙◌, inl, ⊎_elim, List, ◌∷◌, subst, length, Bool, true, false, cond, [], ints, ring, num, ◌⊖◌, sign, sign-scaled, nought-is, Vector, IsDirection, cross, triple, dot, IsZero, SameDirection, IsOpposite, Label, VectorBelow, IsAt, Map, NearLabel, Valid, NearStraight, Ray, Star, ray_dir, across, in_sector, LeavesAxis, StarShows, IsStraight, IsSimplified, normal-direction, same-plus, direction-by, below-itself, Beside, same_way, other_way, beside, normals-not_opposite, whole-passes, lowest-same, across-side, ray-level, straight-level, RaysApart, TwoRays, sector_count, IsWellFormed, dot-comm, dot-zero, zero-dot, self-pos, cross-turned, nought-if, opposites, SameDirection-turned, dir-signs, parallel-trans, parallel-in_plane, crossed, cross_of, dot_of, poly_triple, vec, numbers, is-at_none}
 use Rattle.law_sphere.proofs.Simplified.{not-even}
 use Rattle.law_build.proofs.RayClose.{across-level}
 use Rattle.law_build.proofs.RayStraight.{off-axis}
@@ -9,13 +9,13 @@ use Rattle.law_build.proofs.BuiltAround.{sector-there}
 
 -- ---- the normals of rays along one line
 turned-first : (d a w : Vector) → dot d (cross (cross d a) w) ≡ pos 0 -ℤ dot d (cross (cross a d) w)
-turned-first d a w = ring (numbers d a w w) (triple_of (vec 0) (cross_of (vec 0) (vec 3)) (vec 6)) (num (pos 0) ⊖ triple_of (vec 0) (cross_of (vec 3) (vec 0)) (vec 6)) tt
+turned-first d a w = ring (numbers d a w w) (poly_triple (vec 0) (cross_of (vec 0) (vec 3)) (vec 6)) (num (pos 0) ⊖ poly_triple (vec 0) (cross_of (vec 3) (vec 0)) (vec 6)) tt
 
 turned-last : (d a w : Vector) → dot d (cross w (cross d a)) ≡ pos 0 -ℤ dot d (cross w (cross a d))
-turned-last d a w = ring (numbers d a w w) (triple_of (vec 0) (vec 6) (cross_of (vec 0) (vec 3))) (num (pos 0) ⊖ triple_of (vec 0) (vec 6) (cross_of (vec 3) (vec 0))) tt
+turned-last d a w = ring (numbers d a w w) (poly_triple (vec 0) (vec 6) (cross_of (vec 0) (vec 3))) (num (pos 0) ⊖ poly_triple (vec 0) (vec 6) (cross_of (vec 3) (vec 0))) tt
 
 -- parallel rays have parallel normals
-normals-parallel : (t : Star) → IsDirection t.axis → (q r : Ray) → IsRay t q → IsRay t r → IsZero (cross (ray_dir t q) (ray_dir t r)) → IsZero (cross q.normal r.normal)
+normals-parallel : (t : Star) → IsDirection t.axis → (q r : Ray) → LeavesAxis t q → LeavesAxis t r → IsZero (cross (ray_dir t q) (ray_dir t r)) → IsZero (cross q.normal r.normal)
 normals-parallel t hd q r A B z = parallel-in_plane d a b hd (dot-comm d a ∙ A.level) (dot-comm d b ∙ B.level)
     (nought-is (triple d a b) (sym (sign-scaled (dot d d) (triple d a b) (self-pos d hd)) ∙ ap sign (beside-turn d a b A.level B.level ∙ by q.ahead r.ahead z)))
   where
@@ -40,13 +40,13 @@ normals-parallel t hd q r A B z = parallel-in_plane d a b hd (dot-comm d a ∙ A
         omega (arith, ints)
 
 -- rays along one line have one normal
-one-normal : (t : Star) → IsWellFormed t → (i k : ℕ) (q r : Ray) → At t.rays i q → At t.rays k r → IsZero (cross (ray_dir t q) (ray_dir t r)) → q.normal ≡ r.normal
+one-normal : (t : Star) → IsWellFormed t → (i k : ℕ) (q r : Ray) → IsAt t.rays i q → IsAt t.rays k r → IsZero (cross (ray_dir t q) (ray_dir t r)) → q.normal ≡ r.normal
 one-normal t W i k q r g h z = by (beside q.normal r.normal (normal-direction q.normal A.normal) (normal-direction r.normal B.normal) (normals-parallel t W.axis q r A B z))
   where
-    A : IsRay t q
+    A : LeavesAxis t q
     A = W.rays i q g
 
-    B : IsRay t r
+    B : LeavesAxis t r
     B = W.rays k r h
 
     by : Beside q.normal r.normal → q.normal ≡ r.normal
@@ -54,11 +54,11 @@ one-normal t W i k q r g h z = by (beside q.normal r.normal (normal-direction q.
     by (other_way w) = absurd (normals-not_opposite q.normal r.normal A.normal B.normal w)
 
 -- along one line the first ray goes ahead, and the other back
-first-ahead : (t : Star) → IsWellFormed t → (k : ℕ) (q r : Ray) → At t.rays zero q → At t.rays (suc k) r → IsZero (cross (ray_dir t q) (ray_dir t r)) → (q.normal ≡ r.normal) × (q.ahead ≡ true) × (r.ahead ≡ false)
+first-ahead : (t : Star) → IsWellFormed t → (k : ℕ) (q r : Ray) → IsAt t.rays zero q → IsAt t.rays (suc k) r → IsZero (cross (ray_dir t q) (ray_dir t r)) → (q.normal ≡ r.normal) × (q.ahead ≡ true) × (r.ahead ≡ false)
 first-ahead t W k q r g h z = ⊎_elim (λ l. absurd (below-itself r.normal (subst (λ (v : Vector). VectorBelow v r.normal) (one-normal t W zero (suc k) q r g h z) l))) (λ x. x) (W.least_first k q r g h)
 
 -- no other ray goes the way of the first
-first-alone : (t : Star) → IsWellFormed t → (k : ℕ) (q r : Ray) → At t.rays zero q → At t.rays (suc k) r → SameDirection (ray_dir t q) (ray_dir t r) → ⊥
+first-alone : (t : Star) → IsWellFormed t → (k : ℕ) (q r : Ray) → IsAt t.rays zero q → IsAt t.rays (suc k) r → SameDirection (ray_dir t q) (ray_dir t r) → ⊥
 first-alone t W k q r g h w = back q.normal t.axis ways
   where
     x : (q.normal ≡ r.normal) × (q.ahead ≡ true) × (r.ahead ≡ false)
@@ -97,7 +97,7 @@ two-straight t W T = record {
 }
   where
     x : (T.first.normal ≡ T.second.normal) × (T.first.ahead ≡ true) × (T.second.ahead ≡ false)
-    x = first-ahead t W zero T.first T.second (subst (λ (rs : List Ray). At rs zero T.first) (sym T.two_rays) refl) (subst (λ (rs : List Ray). At rs (suc zero) T.second) (sym T.two_rays) refl)
+    x = first-ahead t W zero T.first T.second (subst (λ (rs : List Ray). IsAt rs zero T.first) (sym T.two_rays) refl) (subst (λ (rs : List Ray). IsAt rs (suc zero) T.second) (sym T.two_rays) refl)
         (let o = T.opposite in o.parallel)
 
     two : (ls : List Label) → length ls ≡ 2 → (a : Label) × (b : Label) × (ls ≡ a ∷ b ∷ [])
@@ -114,21 +114,21 @@ module _ (t : Star) (W : IsWellFormed t) (M : Map) (V : Valid M) (S : StarShows 
   abbrev d : Vector
   d = t.axis
 
-  at-ray : (k : ℕ) (r : Ray) → At t.rays k r → (dot d (ray_dir t r) ≡ pos 0) × IsDirection (ray_dir t r)
+  at-ray : (k : ℕ) (r : Ray) → IsAt t.rays k r → (dot d (ray_dir t r) ≡ pos 0) × IsDirection (ray_dir t r)
   at-ray k r a = ray-level t W.axis r (W.rays k r a)
 
   -- all rays lie along one line
-  one-line : (i k : ℕ) (q r : Ray) → At t.rays i q → At t.rays k r → IsZero (cross (ray_dir t q) (ray_dir t r))
+  one-line : (i k : ℕ) (q r : Ray) → IsAt t.rays i q → IsAt t.rays k r → IsZero (cross (ray_dir t q) (ray_dir t r))
   one-line i k q r a b = parallel-trans (ray_dir t q) w (ray_dir t r) (λ z. W.axis (nought-if P.normal d P.direction z P.level)) (cross-turned w (ray_dir t q) (along i q a)) (along k r b)
     where
       w : Vector
       w = cross P.normal d
 
-      along : (k : ℕ) (r : Ray) → At t.rays k r → IsZero (cross (cross P.normal d) (ray_dir t r))
+      along : (k : ℕ) (r : Ray) → IsAt t.rays k r → IsZero (cross (cross P.normal d) (ray_dir t r))
       along k r a = let x = at-ray k r a in crossed P.normal d (ray_dir t r) (straight-level t M V S simple P k r a) x.0
 
   -- all other rays go the other way
-  other-rays : (k : ℕ) (q r : Ray) → At t.rays zero q → At t.rays (suc k) r → IsOpposite (ray_dir t q) (ray_dir t r)
+  other-rays : (k : ℕ) (q r : Ray) → IsAt t.rays zero q → IsAt t.rays (suc k) r → IsOpposite (ray_dir t q) (ray_dir t r)
   other-rays k q r a b = by (beside (ray_dir t q) (ray_dir t r) (let x = at-ray zero q a in x.1) (let x = at-ray (suc k) r b in x.1) (one-line zero (suc k) q r a b))
     where
       by : Beside (ray_dir t q) (ray_dir t r) → IsOpposite (ray_dir t q) (ray_dir t r)
@@ -136,7 +136,7 @@ module _ (t : Star) (W : IsWellFormed t) (M : Map) (V : Valid M) (S : StarShows 
       by (other_way o) = o
 
   -- so there is only one other: the sector between two would go all round, and hold the first ray
-  no-third : (q r s : Ray) → At t.rays zero q → At t.rays (suc zero) r → At t.rays (suc (suc zero)) s → ⊥
+  no-third : (q r s : Ray) → IsAt t.rays zero q → IsAt t.rays (suc zero) r → IsAt t.rays (suc (suc zero)) s → ⊥
   no-third q r s a b c = not-even t M V S simple zero q a u (λ z. let p = self-pos u x.1 in omega (arith, ints)) l.0 (all u (off-axis d u W.axis x.1 x.0) refl) all
     where
       u : Vector
@@ -151,7 +151,7 @@ module _ (t : Star) (W : IsWellFormed t) (M : Map) (V : Valid M) (S : StarShows 
       z : (dot d (ray_dir t s) ≡ pos 0) × IsDirection (ray_dir t s)
       z = at-ray (suc (suc zero)) s c
 
-      l : (m : Label) × At t.sectors (suc zero) m
+      l : (m : Label) × IsAt t.sectors (suc zero) m
       l = sector-there t W.as_many (suc zero) r b
 
       both : SameDirection (ray_dir t r) (ray_dir t s)
@@ -180,12 +180,12 @@ module _ (t : Star) (W : IsWellFormed t) (M : Map) (V : Valid M) (S : StarShows 
   rays-apart (suc i) (suc k) q r a b w = number-order i k (λ l. absurd (third t.rays k r l refl b)) (λ e. ap suc e) (λ l. absurd (third t.rays i q l refl a))
     where
       -- a list with a place beyond the second has three elements
-      third : {j : ℕ} (rs : List Ray) (k : ℕ) (r : Ray) → j < k → t.rays ≡ rs → At rs (suc k) r → ⊥
+      third : {j : ℕ} (rs : List Ray) (k : ℕ) (r : Ray) → j < k → t.rays ≡ rs → IsAt rs (suc k) r → ⊥
       third [] k r l e c = is-at_none c
       third (p ∷ []) k r l e c = is-at_none c
       third (p ∷ q ∷ []) zero r l e c = absurd (omega arith)
       third (p ∷ q ∷ []) (suc k) r l e c = is-at_none c
       third (p ∷ q ∷ s ∷ rs) k r l e c = no-third p q s (listed zero p refl) (listed (suc zero) q refl) (listed (suc (suc zero)) s refl)
         where
-          listed : (i : ℕ) (x : Ray) → At (p ∷ q ∷ s ∷ rs) i x → At t.rays i x
-          listed i x h = subst (λ (xs : List Ray). At xs i x) (sym e) h
+          listed : (i : ℕ) (x : Ray) → IsAt (p ∷ q ∷ s ∷ rs) i x → IsAt t.rays i x
+          listed i x h = subst (λ (xs : List Ray). IsAt xs i x) (sym e) h

@@ -3,14 +3,14 @@ use Rattle.std.specs.Prelude.{◌++◌}
 use Rattle.nef_space.specs.Prelude.{List, Vector, IsDirection}
 use Rattle.nef_space.specs.declared.label.Label.{Label}
 use Rattle.law_sphere.specs.Prelude.{Map, MapLabel, Valid, forms, Least, Ordered, ByOp}
-use Rattle.law_sphere.specs.Builds.{IsBuilt, Kept}
+use Rattle.law_sphere.specs.Builds.{IsBuilt, NoneSmooth}
 use Rattle.law_sphere.specs.Raw.{RawMap, Of, IsLabelling, IsRawOf}
 use Rattle.law_build.specs.Overlays.{Raw}
 use Rattle.law_build.specs.From.{IsKeptRaw, AreSimplified, IsBuiltFrom}
 
 -- a map that is built of a labelling is valid and least, and has the labelling's labels
 abbrev pub LabelsBuild : Type 0
-LabelsBuild = (gs : List Vector) (L : Vector → Label) (M : Map) → IsLabelling gs L → IsBuilt M (Of L) → Kept M (Of L)
+LabelsBuild = (gs : List Vector) (L : Vector → Label) (M : Map) → IsLabelling gs L → IsBuilt M (Of L) → NoneSmooth M (Of L)
     → Valid M × Least M × ((d : Vector) → IsDirection d → MapLabel M d (L d))
 
 -- stars that kept their labels show the labels that they showed before

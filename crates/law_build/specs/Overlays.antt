@@ -4,27 +4,27 @@ use Rattle.nef_space.specs.Vectors.{Vector, IsDirection, cross, opposite, SameDi
 use Rattle.nef_space.specs.declared.label.Label.{Label}
 use Rattle.law_cyclic.specs.Arcs.{IsOnCircle}
 use Rattle.law_sphere.specs.Vectors.{IsPrimitive, VectorBelow}
-use Rattle.law_sphere.specs.Prelude.{At, MapVertex, MapSloop, Item, Map, items, item_normal, OnItem, NearLabel, InOrder, Star, StarLabel, ByOp, RawMap, IsWellFormed}
+use Rattle.law_sphere.specs.Prelude.{IsAt, MapVertex, MapSloop, Item, Map, items, item_normal, OnItem, NearLabel, InOrder, Star, StarLabel, ByOp, RawMap, IsWellFormed}
 
 -- d is the direction of a svertex of M
 abbrev pub OnSvertex : Map → Vector → Type 0
-OnSvertex M d = (k : ℕ) × (v : MapVertex) × At M.svertices k v × SameDirection v.dir d
+OnSvertex M d = (k : ℕ) × (v : MapVertex) × IsAt M.svertices k v × SameDirection v.dir d
 
 -- an item of A and an item of B whose normals aren't parallel meet in the direction d
-pub record IsCrossing (A B : Map) (d : Vector) : Type 0 where
+pub record IsItemCrossing (A B : Map) (d : Vector) : Type 0 where
   pub i : ℕ
   pub k : ℕ
   pub x : Item
   pub y : Item
-  pub of_a : At (items A) i x
-  pub of_b : At (items B) k y
+  pub of_a : IsAt (items A) i x
+  pub of_b : IsAt (items B) k y
   pub apart : IsDirection (cross (item_normal x) (item_normal y))
   pub on_x : OnItem A x d
   pub on_y : OnItem B y d
 
 -- d is a svertex of A or of B, or a crossing of an item of A with an item of B
 abbrev pub IsAxis : Map → Map → Vector → Type 0
-IsAxis A B d = OnSvertex A d ⊎ OnSvertex B d ⊎ IsCrossing A B d
+IsAxis A B d = OnSvertex A d ⊎ OnSvertex B d ⊎ IsItemCrossing A B d
 
 -- A and B have labels close to d toward e, and op makes m of the two
 abbrev pub NearByOp : Map → Map → (Label → Label → Label) → Vector → Vector → Label → Type 0
@@ -56,14 +56,14 @@ abbrev pub IsMergedGround : Map → Map → (Label → Label → Label) → Labe
 IsMergedGround A B op m = (k : Label) × (l : Label) × (A.ground ≡ Some k) × (B.ground ≡ Some l) × (op k l ≡ m)
 
 -- the map has a svertex or a sloop
-abbrev pub HasItem : Map → Type 0
-HasItem M = (M.svertices ≡ [] → ⊥) ⊎ IsSome M.sloop
+abbrev pub HasSvertexOrSloop : Map → Type 0
+HasSvertexOrSloop M = (M.svertices ≡ [] → ⊥) ⊎ IsSome M.sloop
 
 -- R has a star for each svertex and crossing of A and B, in order, and the lone circle or ground, with op's labels
 pub record Raw (R : RawMap) (A B : Map) (op : Label → Label → Label) : Type 0 where
   pub mark : R.mark ≡ op A.mark B.mark
-  pub merged : (k : ℕ) (t : Star) → At R.stars k t → IsMerged A B op t
-  pub complete : (d : Vector) → IsAxis A B d → (k : ℕ) × (t : Star) × At R.stars k t × SameDirection t.axis d
+  pub merged : (k : ℕ) (t : Star) → IsAt R.stars k t → IsMerged A B op t
+  pub complete : (d : Vector) → IsAxis A B d → (k : ℕ) × (t : Star) × IsAt R.stars k t × SameDirection t.axis d
   pub ordered : InOrder (λ t u. VectorBelow t.axis u.axis) R.stars
   pub circle : MatchOption R.sloop ((l : MapSloop) → IsLoneSloop A B l → ⊥) (IsMergedSloop A B op)
-  pub ground : MatchOption R.ground (HasItem A ⊎ HasItem B) (IsMergedGround A B op)
+  pub ground : MatchOption R.ground (HasSvertexOrSloop A ⊎ HasSvertexOrSloop B) (IsMergedGround A B op)

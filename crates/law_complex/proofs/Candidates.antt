@@ -1,5 +1,5 @@
 -- A vertex of a combination of two sets is a vertex of one of them, or a cut of the one's edges by a carrier of the other in which that has something there: elsewhere some direction is flat for both.
-use Rattle.law_complex.proofs.Prelude.{◌≡◌, ℕ, zero, suc, ◌+◌, pos, arith, ◌∙◌, ◌⊎◌, ◌↔◌, inl, inr, ⊎_elim, subst, nought, Lies, nought-is, nought-or, Flat, HasFlat, FlatDim, IsVertex, Place, Form, form_at, slope, toward, IsBetween, Set, Vector, dot, cross, IsZero, IsDirection, sign_at, carriers, EdgeSupport, FacetSupport, label_and, label_or, label_less, label_one_of, HasFlat-fewer, flat_dim-of, edge-support, facet-support, flat-plane, span-3, At, circle-point, Vertex, Edge, Complex, HasEnds, Shows, SamePlane, IsEdgePoint, meets_edge, IsNearCut, IsSkeletonIn, IsVertexOfBoth, zero-decided, square-cross, in-span, level_cross_second, dot-comm}
+use Rattle.law_complex.proofs.Prelude.{◌≡◌, ℕ, zero, suc, ◌+◌, pos, arith, ◌∙◌, ◌⊎◌, ◌↔◌, inl, inr, ⊎_elim, subst, nought, Lies, nought-is, nought-or, Flat, HasFlat, FlatDim, IsVertex, SpacePoint, Form, form_at, slope, toward, IsBetween, Set, Vector, dot, cross, IsZero, IsDirection, sign_at, carriers, EdgeSupport, FacetSupport, label_and, label_or, label_less, label_one_of, HasFlat-fewer, flat_dim-of, edge-support, facet-support, flat-plane, span-3, IsAt, circle-point, Vertex, Edge, Complex, HasEnds, Shows, SamePlane, IsEdgePoint, meets_edge, IsNearCut, IsSkeletonIn, IsVertexOfBoth, zero-decided, square-cross, in-span, level_cross_second, dot-comm}
 use Rattle.law_near.proofs.Combine.{and-label, or-label, less-label, one_of-label}
 use Rattle.law_near.proofs.FlatOperations.{flat-of_two}
 use Rattle.law_complex.proofs.Planes.{plane-turned, plane-point, plane-slope, plane-way}
@@ -10,11 +10,11 @@ use Rattle.law_complex.proofs.FacetWays.{plane-ends}
 use Rattle.law_sphere.proofs.Walk.{cross-direction_left}
 
 -- some direction is flat for both sets
-abbrev AreFlatTogether : Set → Set → Place → Type 0
+abbrev AreFlatTogether : Set → Set → SpacePoint → Type 0
 AreFlatTogether s t y = (d : Vector) × IsDirection d × Flat s y d × Flat t y d
 
 -- on an edge of C
-module _ (s t : Set) (C D : Complex) (S : Shows s C) (T : Shows t D) (y : Place) (k : ℕ) (e : Edge) (v w : Vertex) (a : At C.edges k e) (H : HasEnds C e v w) (b : IsBetween v.point y w.point) where
+module _ (s t : Set) (C D : Complex) (S : Shows s C) (T : Shows t D) (y : SpacePoint) (k : ℕ) (e : Edge) (v w : Vertex) (a : IsAt C.edges k e) (H : HasEnds C e v w) (b : IsBetween v.point y w.point) where
   -- the edge's direction is flat for s
   together : Flat t y (toward v.point w.point) → AreFlatTogether s t y
   together f =
@@ -65,7 +65,7 @@ module _ (s t : Set) (C D : Complex) (S : Shows s C) (T : Shows t D) (y : Place)
   beside (suc (suc zero)) g = inr (together (let h = g.0 in span-3 t y h.0 h.1 h.2 (toward v.point w.point) h.3 h.4 h.5 h.6))
   beside (suc (suc (suc j))) g = absurd g.0
 
-along-edge : (s t : Set) (C D : Complex) → Shows s C → Shows t D → (y : Place) → (k : ℕ) × IsEdgePoint C k y → (j : ℕ) → FlatDim t y (suc j) → IsNearCut C t D y ⊎ AreFlatTogether s t y
+along-edge : (s t : Set) (C D : Complex) → Shows s C → Shows t D → (y : SpacePoint) → (k : ℕ) × IsEdgePoint C k y → (j : ℕ) → FlatDim t y (suc j) → IsNearCut C t D y ⊎ AreFlatTogether s t y
 along-edge s t C D S T y (k, (e, v, w, a, H, b)) j g = beside s t C D S T y k e v w a H b j g
 
 -- a direction in two planes
@@ -79,10 +79,10 @@ in-both n m i j = ⊎_elim parallel (λ f. (cross n m, f, square-cross n m, leve
         (p.0, on.direction, on.level, dot-comm m p.0 ∙ in-span p.0 n m i z (dot-comm p.0 n ∙ on.level))
 
 -- a vertex of one of the sets, or a cut of one's edges by a carrier of the other that holds something of that there
-abbrev IsCandidate : Set → Set → Complex → Complex → Place → Type 0
+abbrev IsCandidate : Set → Set → Complex → Complex → SpacePoint → Type 0
 IsCandidate s t C D y = IsVertex s y ⊎ IsVertex t y ⊎ IsNearCut C t D y ⊎ IsNearCut D s C y
 
-candidate-or_flat : (s t : Set) (C D : Complex) (y : Place) → Shows s C → Shows t D → IsCandidate s t C D y ⊎ AreFlatTogether s t y
+candidate-or_flat : (s t : Set) (C D : Complex) (y : SpacePoint) → Shows s C → Shows t D → IsCandidate s t C D y ⊎ AreFlatTogether s t y
 candidate-or_flat s t C D y S T = let j = flat_dim-of s y in let k = flat_dim-of t y in by j.0 k.0 j.1 k.1
   where
     by : (j k : ℕ) → FlatDim s y j → FlatDim t y k → IsCandidate s t C D y ⊎ AreFlatTogether s t y
@@ -106,15 +106,15 @@ candidate-or_flat s t C D y S T = let j = flat_dim-of s y in let k = flat_dim-of
     by (suc (suc zero)) (suc (suc (suc (suc k)))) f g = absurd g.0
 
 -- where a direction is flat there is no vertex
-pub never-flat : (s : Set) (y : Place) (d : Vector) → IsDirection d → Flat s y d → IsVertex s y → ⊥
+pub never-flat : (s : Set) (y : SpacePoint) (d : Vector) → IsDirection d → Flat s y d → IsVertex s y → ⊥
 never-flat s y d i f v = v.1 (d, i, f)
 
 -- a direction that is flat for both sets is flat for each combination of them
-combined-flat : (s t : Set) (y : Place) → AreFlatTogether s t y → IsVertexOfBoth s t y → ⊥
+combined-flat : (s t : Set) (y : SpacePoint) → AreFlatTogether s t y → IsVertexOfBoth s t y → ⊥
 combined-flat s t y (d, i, f, g) (inl v) = never-flat (Set.both s t) y d i (flat-of_two Set.both label_and and-label s t y d f g) v
 combined-flat s t y (d, i, f, g) (inr (inl v)) = never-flat (Set.either s t) y d i (flat-of_two Set.either label_or or-label s t y d f g) v
 combined-flat s t y (d, i, f, g) (inr (inr (inl v))) = never-flat (Set.less s t) y d i (flat-of_two Set.less label_less less-label s t y d f g) v
 combined-flat s t y (d, i, f, g) (inr (inr (inr v))) = never-flat (Set.one_of s t) y d i (flat-of_two Set.one_of label_one_of one_of-label s t y d f g) v
 
-pub candidates-suffice : (s t : Set) (C D : Complex) (y : Place) → Shows s C → Shows t D → IsVertexOfBoth s t y → IsVertex s y ⊎ IsVertex t y ⊎ IsNearCut C t D y ⊎ IsNearCut D s C y
+pub candidates-suffice : (s t : Set) (C D : Complex) (y : SpacePoint) → Shows s C → Shows t D → IsVertexOfBoth s t y → IsVertex s y ⊎ IsVertex t y ⊎ IsNearCut C t D y ⊎ IsNearCut D s C y
 candidates-suffice s t C D y S T v = ⊎_elim (λ c. c) (λ f. absurd (combined-flat s t y f v)) (candidate-or_flat s t C D y S T)

@@ -1,34 +1,34 @@
 -- The labels of a map are the germs of the set that it shows; where the flat directions are those of a plane, germs look only at the sides of it.
-use Rattle.law_complex.proofs.Prelude.{◌≡◌, ℕ, zero, suc, ◌<◌, ℤ, pos, negsuc, ◌+ℤ◌, ◌*ℤ◌, neg_ℤ, nat_abs, arith, refl, ap, sym, ◌∙◌, ⊎_elim, ◌↔◌, ◌∷◌, subst, [], ints, Sign, minus, nought, plus, sign, sign_times, ring, at, num, neg, ◌⊕◌, ◌⊗◌, given, none, follows, nought-is, sign-plus, sign-minus, sign_of_product, nought-or, HasLabel, Germ, Flat, HasFlat, Place, Form, form, slope, Set, Vector, opposite, blend, dot, cross, IsDirection, Label, slide, NearGerm, label_of, Germ-unique, Flat-from_cone, FlatCone-from_flat, Germ-by_signs, slope-slide, flat-germ, by_side, Cone, Map, MapLabel, NearLabel, label-direction, label-unique, near-exists, self-pos, square-cross, cross-turned, dot-comm, dot-opposite, level_cross_second, nought-if}
+use Rattle.law_complex.proofs.Prelude.{◌≡◌, ℕ, zero, suc, ◌<◌, ℤ, pos, negsuc, ◌+ℤ◌, ◌*ℤ◌, neg_ℤ, nat_abs, arith, refl, ap, sym, ◌∙◌, ⊎_elim, ◌↔◌, ◌∷◌, subst, [], ints, Sign, minus, nought, plus, sign, sign_times, ring, at, num, neg, ◌⊕◌, ◌⊗◌, given, none, follows, nought-is, sign-plus, sign-minus, sign_of_product, nought-or, HasLabel, Germ, Flat, HasFlat, SpacePoint, Form, form, slope, Set, Vector, opposite, blend, dot, cross, IsDirection, Label, slide, NearGerm, label_of, Germ-unique, Flat-from_cone, FlatCone-from_flat, Germ-by_signs, slope-slide, flat-germ, by_side, Cone, Map, MapLabel, NearLabel, label-direction, label-unique, near-exists, self-pos, square-cross, cross-turned, dot-comm, dot-opposite, level_cross_second, nought-if}
 use Rattle.law_near.proofs.Decisions.{near-germ_one}
 
 -- ---- labels and germs
-pub label-germ : (M : Map) (s : Set) (p : Place) → Cone M s p → (d : Vector) (l : Label) → MapLabel M d l → Germ s p d l
+pub label-germ : (M : Map) (s : Set) (p : SpacePoint) → Cone M s p → (d : Vector) (l : Label) → MapLabel M d l → Germ s p d l
 label-germ M s p K d l a =
     let c = K.labels d (label-direction M d l a) in
     subst (Germ s p d) (label-unique M K.valid d c.0 l c.1 a) c.2
 
-pub germ-label : (M : Map) (s : Set) (p : Place) → Cone M s p → (d : Vector) (l : Label) → IsDirection d → Germ s p d l → MapLabel M d l
+pub germ-label : (M : Map) (s : Set) (p : SpacePoint) → Cone M s p → (d : Vector) (l : Label) → IsDirection d → Germ s p d l → MapLabel M d l
 germ-label M s p K d l f g =
     let c = K.labels d f in
     subst (MapLabel M d) (Germ-unique s p d c.0 l c.2 g) c.1
 
-pub near-germ : (M : Map) (s : Set) (p : Place) → Cone M s p → (d e : Vector) (l : Label) → NearLabel M d e l → NearGerm s p d e l
+pub near-germ : (M : Map) (s : Set) (p : SpacePoint) → Cone M s p → (d e : Vector) (l : Label) → NearLabel M d e l → NearGerm s p d e l
 near-germ M s p K d e l (n, f) = (n, λ k h. label-germ M s p K (blend k d 1 e) l (f k h))
 
-pub near-label : (M : Map) (s : Set) (p : Place) → Cone M s p → (d e : Vector) (l : Label) → IsDirection d → NearGerm s p d e l → NearLabel M d e l
+pub near-label : (M : Map) (s : Set) (p : SpacePoint) → Cone M s p → (d e : Vector) (l : Label) → IsDirection d → NearGerm s p d e l → NearLabel M d e l
 near-label M s p K d e l f g =
     let x = near-exists M K.valid d e f in
     subst (NearLabel M d e) (near-germ_one s p d e x.0 l (near-germ M s p K d e x.0 x.1) g) x.1
 
 -- ---- the germs where the flat directions are those of a plane
-abbrev pub FlatAre : Set → Place → Vector → Type 0
+abbrev pub FlatAre : Set → SpacePoint → Vector → Type 0
 FlatAre s p n = (v : Vector) → Flat s p v ↔ (dot n v ≡ pos 0)
 
 abbrev plane_form : Vector → Form
 plane_form n = form n.x n.y n.z (pos 0)
 
-module _ (s : Set) (p : Place) (n : Vector) (flat : FlatAre s p n) where
+module _ (s : Set) (p : SpacePoint) (n : Vector) (flat : FlatAre s p n) where
   -- with i, j > 0 and i n.e = j n.f the germs toward e and f are one
   one_germ : (i j : ℕ) (e f : Vector) → 0 < i → 0 < j → (pos i *ℤ dot n e ≡ pos j *ℤ dot n f) → (l : Label) → Germ s p e l → Germ s p f l
   one_germ i j e f some_i some_j same l g =
@@ -83,7 +83,7 @@ module _ (s : Set) (p : Place) (n : Vector) (flat : FlatAre s p n) where
           sign-back = let h = self-pos n some in let r = dot-opposite n n in sign-minus (dot n (opposite n)) (omega (arith, ints))
 
 -- ---- labels by the sides of a plane make the directions of the plane flat
-pub sided-flat : (s : Set) (p : Place) (n : Vector) (a m b : Label) → ((e : Vector) → Germ s p e (by_side a m b (sign (dot n e)))) → (f : Vector) → dot n f ≡ pos 0 → Flat s p f
+pub sided-flat : (s : Set) (p : SpacePoint) (n : Vector) (a m b : Label) → ((e : Vector) → Germ s p e (by_side a m b (sign (dot n e)))) → (f : Vector) → dot n f ≡ pos 0 → Flat s p f
 sided-flat s p n a m b all f level = Flat-from_cone s p f (λ v k x some l.
     let same : sign (dot n (slide k v x f)) ≡ sign (dot n v) = side-stays v k x some in
     let e = ap (λ (t : Sign). by_side a m b t) same in (
@@ -101,5 +101,5 @@ independent : (n d : Vector) → IsDirection n → IsDirection d → dot n d ≡
 independent n d i j e z = i (nought-if d n j (cross-turned n d (nought-if d (cross n d) j z (level_cross_second n d))) (dot-comm d n ∙ e))
 
 -- so there are two independent ones
-pub sided-two : (s : Set) (p : Place) (n d : Vector) (a m b : Label) → ((e : Vector) → Germ s p e (by_side a m b (sign (dot n e)))) → IsDirection n → IsDirection d → dot n d ≡ pos 0 → HasFlat s p 2
+pub sided-two : (s : Set) (p : SpacePoint) (n d : Vector) (a m b : Label) → ((e : Vector) → Germ s p e (by_side a m b (sign (dot n e)))) → IsDirection n → IsDirection d → dot n d ≡ pos 0 → HasFlat s p 2
 sided-two s p n d a m b all i j level = (d, cross n d, independent n d i j level, sided-flat s p n a m b all d level, sided-flat s p n a m b all (cross n d) (square-cross n d))

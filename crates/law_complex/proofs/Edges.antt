@@ -1,11 +1,11 @@
 -- The points of a set with one flat direction are those strictly between the ends of edges.
-use Rattle.law_complex.proofs.Prelude.{◌≡◌, ℕ, zero, suc, pos, arith, refl, sym, inl, inr, ⊎_elim, ◌↔◌, subst, sign, HasLabel, Germ, Flat, FlatDim, IsVertex, IsEven, Place, toward, IsBetween, Set, Vector, zero_vector, opposite, dot, cross, IsZero, IsDirection, SameDirection, Label, carriers, NearGerm, IsOnSegment, Drop, label_of, germ_of, Flat-from_cone, FlatCone-from_flat, Germ-zero, signs-same, same-place_sym, slope-same, germs-by_cell, Flat-by_germs, FlatDim-by_germs, flat-germ, flat-plane, flat-line, germ-nearby, flat-toward, even-germs, labels-by_germs, span-1, span-3, flat_dim-of, near-by_signs, flat-by_signs, between-inner, start, start-close, start-between, start-toward, even-until, reach_all, between-same, at-one, dir-at, label-unique, by_side, NearPlain, NearStraight, Cone, At, Map, MapVertex, MapLabel, at_svertex, NearLabel, dir_of, Item, items, Vertex, Edge, Complex, HasEnds, IsEdge, Corner, IsCorner, Shows, cross-turned, parallel-both, SameDirection-turned, SameDirection-trans, dir-self, direction-left}
+use Rattle.law_complex.proofs.Prelude.{◌≡◌, ℕ, zero, suc, pos, arith, refl, sym, inl, inr, ⊎_elim, ◌↔◌, subst, sign, HasLabel, Germ, Flat, FlatDim, IsVertex, IsEven, SpacePoint, toward, IsBetween, Set, Vector, zero_vector, opposite, dot, cross, IsZero, IsDirection, SameDirection, Label, carriers, NearGerm, IsOnSegment, Drop, label_of, germ_of, Flat-from_cone, FlatCone-from_flat, Germ-zero, signs-same, same-point_sym, slope-same, germs-by_cell, Flat-by_germs, FlatDim-by_germs, flat-germ, flat-plane, flat-line, germ-nearby, flat-toward, even-germs, labels-by_germs, span-1, span-3, flat_dim-of, near-by_signs, flat-by_signs, between-inner, start, start-close, start-between, start-toward, even-until, reach_all, between-same, at-one, dir-at, label-unique, by_side, NearPlain, NearStraight, Cone, IsAt, Map, MapVertex, MapLabel, at_svertex, NearLabel, dir_of, Item, items, Vertex, Edge, Complex, HasEnds, IsEdge, Corner, IsCorner, Shows, cross-turned, parallel-both, SameDirection-turned, SameDirection-trans, dir-self, direction-left}
 use Rattle.law_near.proofs.Topology.{near-germ_zero}
 use Rattle.law_complex.proofs.Ways.{between-way, between-rest, between-outer, same-itself}
 use Rattle.law_complex.proofs.Cones.{germ-label, near-germ, near-label, FlatAre, plane-sides}
 
 -- ---- at points close to p toward d, where the germs are those near d
-module _ (M : Map) (s : Set) (p : Place) (K : Cone M s p) (d : Vector) (some : IsDirection d) (q : Place) (near : (e : Vector) (l : Label) → Germ s q e l ↔ NearGerm s p d e l) where
+module _ (M : Map) (s : Set) (p : SpacePoint) (K : Cone M s p) (d : Vector) (some : IsDirection d) (q : SpacePoint) (near : (e : Vector) (l : Label) → Germ s q e l ↔ NearGerm s p d e l) where
   pub label-near : (m : Label) → HasLabel s q m → MapLabel M d m
   label-near m h =
       let a = (near zero_vector m).0 ((Germ-zero s q zero_vector m (refl, refl, refl)).1 h) in
@@ -49,14 +49,14 @@ module _ (M : Map) (s : Set) (p : Place) (K : Cone M s p) (d : Vector) (some : I
       by (suc (suc (suc (suc j)))) f = absurd f.0
 
 -- ---- a point close to p on the way to y
-module _ (s : Set) (p : Place) where
-  abbrev pub near_point : Place → Place
+module _ (s : Set) (p : SpacePoint) where
+  abbrev pub near_point : SpacePoint → SpacePoint
   near_point y = start (reach_all (carriers s) p) p y
 
-  pub near-between : (y : Place) → IsDirection (toward p y) → IsBetween p (near_point y) y
+  pub near-between : (y : SpacePoint) → IsDirection (toward p y) → IsBetween p (near_point y) y
   near-between y i = start-between (reach_all (carriers s) p) p y i
 
-  module _ (d : Vector) (y : Place) (w : SameDirection (toward p y) d) where
+  module _ (d : Vector) (y : SpacePoint) (w : SameDirection (toward p y) d) where
     pub way-near : SameDirection (toward p (near_point y)) d
     way-near = subst (λ (r : Vector). SameDirection r d) (sym (start-toward (reach_all (carriers s) p) p y)) w
 
@@ -73,28 +73,28 @@ module _ (s : Set) (p : Place) where
         Flat-from_cone s (near_point y) d (flat-by_signs s (near_point y) (toward p (near_point y)) d (λ h _ _. slope-same h (toward p (near_point y)) d way-near) f)
 
 -- ---- the points of an edge
-abbrev pub IsAlongSvertex : Set → Vertex → MapVertex → Label → Place → Type 0
+abbrev pub IsAlongSvertex : Set → Vertex → MapVertex → Label → SpacePoint → Type 0
 IsAlongSvertex s v u m y = FlatDim s y 1 × ((d : Vector) → Flat s y d ↔ IsZero (cross u.dir d)) × HasLabel s y m × ((d : Vector) (l : Label) → Germ s y d l ↔ NearLabel v.map u.dir d l)
 
 module _ (s : Set) (C : Complex) (S : Shows s C) where
   -- a point equal to a vertex of the set is the point of a listed vertex
-  pub vertex-listed : (p w x : Place) → IsVertex s x → IsBetween p x w → ((k : ℕ) (v : Vertex) → At C.vertices k v → IsBetween p v.point w → ⊥) → ⊥
+  pub vertex-listed : (p w x : SpacePoint) → IsVertex s x → IsBetween p x w → ((k : ℕ) (v : Vertex) → IsAt C.vertices k v → IsBetween p v.point w → ⊥) → ⊥
   vertex-listed p w x f b none =
       let u = S.complete x f in
-      none u.0 u.1 u.2 (between-same p x w p u.1.point w (same-itself p) (same-place_sym u.1.point x u.3) (same-itself w) b)
+      none u.0 u.1 u.2 (between-same p x w p u.1.point w (same-itself p) (same-point_sym u.1.point x u.3) (same-itself w) b)
 
-  module _ (i k : ℕ) (v : Vertex) (u : MapVertex) (a : At C.vertices i v) (b : At v.map.svertices k u) where
+  module _ (i k : ℕ) (v : Vertex) (u : MapVertex) (a : IsAt C.vertices i v) (b : IsAt v.map.svertices k u) where
     abbrev K : Cone v.map s v.point
     K = S.cones i v a
 
     some : IsDirection u.dir
     some = K.valid.shaped.svertex_dirs k u b
 
-    pub near-one : (y : Place) → SameDirection (toward v.point y) u.dir → FlatDim s (near_point s v.point y) 1
+    pub near-one : (y : SpacePoint) → SameDirection (toward v.point y) u.dir → FlatDim s (near_point s v.point y) 1
     near-one y w = one-at v.map s v.point K u.dir some (near_point s v.point y) (near-germs s v.point u.dir y w) ((S.least i v a).no_plain k u b) ((S.least i v a).no_straight k u b) (near-flat s v.point u.dir y w)
 
     -- up to the first vertex the cone is that near v
-    pub along-svertex : (w y : Place) → SameDirection (toward v.point w) u.dir → IsBetween v.point y w → ((j : ℕ) (x : Vertex) → At C.vertices j x → IsBetween v.point x.point w → ⊥) → IsAlongSvertex s v u u.mark y
+    pub along-svertex : (w y : SpacePoint) → SameDirection (toward v.point w) u.dir → IsBetween v.point y w → ((j : ℕ) (x : Vertex) → IsAt C.vertices j x → IsBetween v.point x.point w → ⊥) → IsAlongSvertex s v u u.mark y
     along-svertex w y way on none =
         let to_y : SameDirection (toward v.point y) u.dir = SameDirection-trans (toward v.point y) (toward v.point w) u.dir (between-way v.point y w on) way in
         let q = near_point s v.point y in
@@ -118,13 +118,13 @@ module _ (s : Set) (C : Complex) (S : Shows s C) where
         )
       where
         -- direction from q to w when y is between
-        way-end : (q y w : Place) → IsBetween q y w → SameDirection (toward q w) (toward y w)
+        way-end : (q y w : SpacePoint) → IsBetween q y w → SameDirection (toward q w) (toward y w)
         way-end q y w d = SameDirection-trans (toward q w) (toward q y) (toward y w) (SameDirection-turned (toward q y) (toward q w) (between-way q y w d)) d
 
-        between-outer-of : (w y q : Place) → IsBetween v.point q y → IsBetween v.point y w → IsBetween v.point q w
+        between-outer-of : (w y q : SpacePoint) → IsBetween v.point q y → IsBetween v.point y w → IsBetween v.point q w
         between-outer-of w y q c b = between-inner v.point y w q b c
 
-        go : (w q : Place) → FlatDim s q 1 → IsBetween v.point q w → ((j : ℕ) (x : Vertex) → At C.vertices j x → IsBetween v.point x.point w → ⊥) → Flat s q (toward q w) → (r : Place) → IsBetween q r w → FlatDim s r 1
+        go : (w q : SpacePoint) → FlatDim s q 1 → IsBetween v.point q w → ((j : ℕ) (x : Vertex) → IsAt C.vertices j x → IsBetween v.point x.point w → ⊥) → Flat s q (toward q w) → (r : SpacePoint) → IsBetween q r w → FlatDim s r 1
         go w q f c none flat = ⊎_elim (λ all. all) (λ z. absurd (drop z)) (even-until s 1 q w f flat)
           where
             drop : Drop s 1 q w → ⊥
@@ -133,18 +133,18 @@ module _ (s : Set) (C : Complex) (S : Shows s C) where
                 let l : z.drops.0 ≡ 0 = (let h = z.drops.1 in omega arith) in
                 vertex-listed v.point w x (subst (FlatDim s x) l z.drops.2) (between-outer v.point q x w c z.between) none
 
-        at-point : (w q y : Place) → FlatDim s q 1 → ((r : Place) → IsBetween q r w → FlatDim s r 1) → IsBetween q y w → (r : Place) → IsOnSegment q r y → FlatDim s r 1
-        at-point w q y f even d r (inl e) = FlatDim-by_germs s s q r (germs-by_cell s q r (signs-same (carriers s) q r (same-place_sym r q e))) 1 f
+        at-point : (w q y : SpacePoint) → FlatDim s q 1 → ((r : SpacePoint) → IsBetween q r w → FlatDim s r 1) → IsBetween q y w → (r : SpacePoint) → IsOnSegment q r y → FlatDim s r 1
+        at-point w q y f even d r (inl e) = FlatDim-by_germs s s q r (germs-by_cell s q r (signs-same (carriers s) q r (same-point_sym r q e))) 1 f
         at-point w q y f even d r (inr (inl c)) = even r (between-inner q y w r d c)
-        at-point w q y f even d r (inr (inr e)) = FlatDim-by_germs s s y r (germs-by_cell s y r (signs-same (carriers s) y r (same-place_sym r y e))) 1 (even y d)
+        at-point w q y f even d r (inr (inr e)) = FlatDim-by_germs s s y r (germs-by_cell s y r (signs-same (carriers s) y r (same-point_sym r y e))) 1 (even y d)
 
-        flat-parallel : (y : Place) → FlatDim s y 1 → Flat s y u.dir → (g : Vector) → Flat s y g ↔ IsZero (cross u.dir g)
+        flat-parallel : (y : SpacePoint) → FlatDim s y 1 → Flat s y u.dir → (g : Vector) → Flat s y g ↔ IsZero (cross u.dir g)
         flat-parallel y one flat g =
             let l = flat-line s y one in
             let p = (l.2 u.dir).0 flat in
             (λ h. parallel-both l.0 u.dir g l.1 p ((l.2 g).0 h), λ z. span-1 s y u.dir g some flat z)
 
-        near-mark : (y : Place) → (w : SameDirection (toward v.point y) u.dir) → HasLabel s (near_point s v.point y) u.mark
+        near-mark : (y : SpacePoint) → (w : SameDirection (toward v.point y) u.dir) → HasLabel s (near_point s v.point y) u.mark
         near-mark y w =
             let q = near_point s v.point y in
             let m = label_of s q in
@@ -152,14 +152,14 @@ module _ (s : Set) (C : Complex) (S : Shows s C) where
             subst (HasLabel s q) (label-unique v.map K.valid u.dir m.0 u.mark l (at_svertex k u b (dir-self u.dir some) refl)) m.1
 
 -- the svertices of an edge
-svertex-dir : (e : Edge) (v : Vertex) (u : MapVertex) → At v.map.svertices e.low_svertex u → dir_of v.map.svertices e.low_svertex ≡ u.dir
+svertex-dir : (e : Edge) (v : Vertex) (u : MapVertex) → IsAt v.map.svertices e.low_svertex u → dir_of v.map.svertices e.low_svertex ≡ u.dir
 svertex-dir e v u a = dir-at v.map.svertices e.low_svertex u a
 
-abbrev IsAlongEdge : Set → Edge → Vertex → Place → Type 0
+abbrev IsAlongEdge : Set → Edge → Vertex → SpacePoint → Type 0
 IsAlongEdge s e v y = FlatDim s y 1 × ((d : Vector) → Flat s y d ↔ IsZero (cross (dir_of v.map.svertices e.low_svertex) d)) × HasLabel s y e.mark
     × ((d : Vector) (l : Label) → Germ s y d l ↔ NearLabel v.map (dir_of v.map.svertices e.low_svertex) d l)
 
-edge-points_of : (s : Set) (C : Complex) (S : Shows s C) (e : Edge) (E : IsEdge C.vertices e) (y : Place) → IsBetween E.low_vertex.point y E.high_vertex.point → IsAlongEdge s e E.low_vertex y
+edge-points_of : (s : Set) (C : Complex) (S : Shows s C) (e : Edge) (E : IsEdge C.vertices e) (y : SpacePoint) → IsBetween E.low_vertex.point y E.high_vertex.point → IsAlongEdge s e E.low_vertex y
 edge-points_of s C S e E y b =
     let r = along-svertex s C S e.low e.low_svertex E.low_vertex E.low_end E.is_low E.leaves E.high_vertex.point y E.ahead b E.first in
     let w = sym (svertex-dir e E.low_vertex E.low_end E.leaves) in (
@@ -169,7 +169,7 @@ edge-points_of s C S e E y b =
       subst (λ (d : Vector). (g : Vector) (l : Label) → Germ s y g l ↔ NearLabel E.low_vertex.map d g l) w r.3,
     )
 
-pub edge-points : (s : Set) (C : Complex) (k : ℕ) (e : Edge) (v w : Vertex) (y : Place) → Shows s C → At C.edges k e → HasEnds C e v w → IsBetween v.point y w.point → IsAlongEdge s e v y
+pub edge-points : (s : Set) (C : Complex) (k : ℕ) (e : Edge) (v w : Vertex) (y : SpacePoint) → Shows s C → IsAt C.edges k e → HasEnds C e v w → IsBetween v.point y w.point → IsAlongEdge s e v y
 edge-points s C k e v w y S a H b =
     let E = S.edges.edges k e a in
     let f = at-one C.vertices e.low E.low_vertex v E.is_low H.low in
@@ -178,7 +178,7 @@ edge-points s C k e v w y S a H b =
     (subst (λ (x : Vertex). IsBetween E.low_vertex.point y x.point) (sym g) (subst (λ (x : Vertex). IsBetween x.point y w.point) (sym f) b)))
 
 -- the edge runs along its lower svertex
-pub edge-way : (s : Set) (C : Complex) (k : ℕ) (e : Edge) (v w : Vertex) → Shows s C → At C.edges k e → HasEnds C e v w → IsZero (cross (dir_of v.map.svertices e.low_svertex) (toward v.point w.point))
+pub edge-way : (s : Set) (C : Complex) (k : ℕ) (e : Edge) (v w : Vertex) → Shows s C → IsAt C.edges k e → HasEnds C e v w → IsZero (cross (dir_of v.map.svertices e.low_svertex) (toward v.point w.point))
 edge-way s C k e v w S a H =
     let E = S.edges.edges k e a in
     let f = at-one C.vertices e.low E.low_vertex v E.is_low H.low in
@@ -192,4 +192,4 @@ edge-way s C k e v w S a H =
 pub corner-one : (C : Complex) (k : Corner) (v w : Vertex) (x z : Item) → IsCorner C k v x → IsCorner C k w z → x ≡ z
 corner-one C k v w x z a b =
     let f = at-one C.vertices k.vertex v w a.vertex b.vertex in
-    at-one (items w.map) k.item x z (subst (λ (r : Vertex). At (items r.map) k.item x) f a.item) b.item
+    at-one (items w.map) k.item x z (subst (λ (r : Vertex). IsAt (items r.map) k.item x) f a.item) b.item

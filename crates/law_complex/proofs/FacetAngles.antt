@@ -1,5 +1,5 @@
 -- Angles in a plane by the signs of triple products, as forms of points; where a form is nought on a segment.
-use Rattle.law_complex.proofs.Prelude.{◌≡◌, ℕ, ◌+◌, ◌*◌, ◌<◌, ℤ, pos, ◌+ℤ◌, ◌-ℤ◌, ◌*ℤ◌, ◌<ℤ◌, ◌≤ℤ◌, nat_abs, arith, ap, sym, ◌∙◌, ◌∷◌, ⊎_elim, [], ints, mul-pos, ring, at, num, neg, ◌⊕◌, ◌⊖◌, ◌⊗◌, Poly, given, none, follows, follows_times, mul_pos, mul_nonneg, plus-of, nonneg-of, mul_neg, minus-of, Place, Form, form_at, slope, plane_through, toward, IsBetween, Vector, opposite, dot, cross, triple, IsZero, IsDirection, SameDirection, of_place, IsMixed, form-mix, form-sum, mixed-mix, mixed-of, between-of, dot-zero, self-pos, triple-dot, triple-turned, opposite-dot, cross-turned, zero-decided, in-span}
+use Rattle.law_complex.proofs.Prelude.{◌≡◌, ℕ, ◌+◌, ◌*◌, ◌<◌, ℤ, pos, ◌+ℤ◌, ◌-ℤ◌, ◌*ℤ◌, ◌<ℤ◌, ◌≤ℤ◌, nat_abs, arith, ap, sym, ◌∙◌, ◌∷◌, ⊎_elim, [], ints, mul-pos, ring, at, num, neg, ◌⊕◌, ◌⊖◌, ◌⊗◌, Poly, given, none, follows, follows_times, mul_pos, mul_nonneg, plus-of, nonneg-of, mul_neg, minus-of, SpacePoint, Form, form_at, slope, plane_through, toward, IsBetween, Vector, opposite, dot, cross, triple, IsZero, IsDirection, SameDirection, of_point, IsMixed, form-mix, form-sum, mixed-mix, mixed-of, between-of, dot-zero, self-pos, triple-dot, triple-turned, opposite-dot, cross-turned, zero-decided, in-span}
 use Rattle.law_sphere.proofs.Turning.{turns}
 
 -- ---- parallel vectors on one side of a plane go one way
@@ -34,7 +34,7 @@ pub same-by-minus : (m u v : Vector) → IsZero (cross u v) → dot m u <ℤ pos
 same-by-minus m u v z a b = same-by (opposite m) u v z (let e = opposite-dot m u in omega (arith, ints)) (let e = opposite-dot m v in omega (arith, ints))
 
 -- ---- points on one line
-pub cross-back : (d : Vector) (p q : Place) → IsZero (cross d (toward p q)) → IsZero (cross d (toward q p))
+pub cross-back : (d : Vector) (p q : SpacePoint) → IsZero (cross d (toward p q)) → IsZero (cross d (toward q p))
 cross-back d p q z = (each d.y d.z p.y q.y p.z q.z z.0, each d.z d.x p.z q.z p.x q.x z.1, each d.x d.y p.x q.x p.y q.y z.2)
   where
     each : (a b x y x' y' : ℤ) → a *ℤ (y' *ℤ pos p.w -ℤ x' *ℤ pos q.w) -ℤ b *ℤ (y *ℤ pos p.w -ℤ x *ℤ pos q.w) ≡ pos 0 → a *ℤ (x' *ℤ pos q.w -ℤ y' *ℤ pos p.w) -ℤ b *ℤ (x *ℤ pos q.w -ℤ y *ℤ pos p.w) ≡ pos 0
@@ -43,7 +43,7 @@ cross-back d p q z = (each d.y d.z p.y q.y p.z q.z z.0, each d.z d.x p.z q.z p.x
         (given (neg (num (pos 1))) (at 0 ⊗ (at 5 ⊗ at 6 ⊖ at 4 ⊗ at 7) ⊖ at 1 ⊗ (at 3 ⊗ at 6 ⊖ at 2 ⊗ at 7)) (num (pos 0)) e none) tt
 
 -- where y, z and r are on one line, so are the ways from y to z and from r to z
-pub aligned : (y z r : Place) → IsZero (cross (toward y z) (toward y r)) → IsZero (cross (toward y z) (toward r z))
+pub aligned : (y z r : SpacePoint) → IsZero (cross (toward y z) (toward y r)) → IsZero (cross (toward y z) (toward r z))
 aligned y z r e = (each y.y z.y r.y y.z z.z r.z e.0, each y.z z.z r.z y.x z.x r.x e.1, each y.x z.x r.x y.y z.y r.y e.2)
   where
     each : (a b c a' b' c' : ℤ) → (b *ℤ pos y.w -ℤ a *ℤ pos z.w) *ℤ (c' *ℤ pos y.w -ℤ a' *ℤ pos r.w) -ℤ (b' *ℤ pos y.w -ℤ a' *ℤ pos z.w) *ℤ (c *ℤ pos y.w -ℤ a *ℤ pos r.w) ≡ pos 0
@@ -56,33 +56,33 @@ aligned y z r e = (each y.y z.y r.y y.z z.z r.z e.0, each y.z z.z r.z y.x z.x r.
         (given (neg (at 7)) (u ⊗ v' ⊖ u' ⊗ v) (num (pos 0)) e none) (let h = y.proper in omega (arith, ints)) tt
 
 -- ---- the plane through p with the normal m
-pub through-at : (m : Vector) (p q : Place) → form_at (plane_through m p) q ≡ dot m (toward p q)
+pub through-at : (m : Vector) (p q : SpacePoint) → form_at (plane_through m p) q ≡ dot m (toward p q)
 through-at m p q = ring (m.x ∷ m.y ∷ m.z ∷ p.x ∷ p.y ∷ p.z ∷ pos p.w ∷ q.x ∷ q.y ∷ q.z ∷ pos q.w ∷ [])
     (at 0 ⊗ at 6 ⊗ at 7 ⊕ at 1 ⊗ at 6 ⊗ at 8 ⊕ at 2 ⊗ at 6 ⊗ at 9 ⊕ neg (at 0 ⊗ at 3 ⊕ at 1 ⊗ at 4 ⊕ at 2 ⊗ at 5) ⊗ at 10)
     (at 0 ⊗ (at 7 ⊗ at 6 ⊖ at 3 ⊗ at 10) ⊕ at 1 ⊗ (at 8 ⊗ at 6 ⊖ at 4 ⊗ at 10) ⊕ at 2 ⊗ (at 9 ⊗ at 6 ⊖ at 5 ⊗ at 10)) tt
 
-pub through-slope : (m : Vector) (p : Place) (d : Vector) → slope (plane_through m p) d ≡ pos p.w *ℤ dot m d
+pub through-slope : (m : Vector) (p : SpacePoint) (d : Vector) → slope (plane_through m p) d ≡ pos p.w *ℤ dot m d
 through-slope m p d = ring (m.x ∷ m.y ∷ m.z ∷ pos p.w ∷ d.x ∷ d.y ∷ d.z ∷ [])
     (at 0 ⊗ at 3 ⊗ at 4 ⊕ at 1 ⊗ at 3 ⊗ at 5 ⊕ at 2 ⊗ at 3 ⊗ at 6) (at 3 ⊗ (at 0 ⊗ at 4 ⊕ at 1 ⊗ at 5 ⊕ at 2 ⊗ at 6)) tt
 
 -- ---- angles about y, seen from the normal n: positive where q lies to the left of p
-abbrev pub angle : Vector → Place → Place → Place → ℤ
+abbrev pub angle : Vector → SpacePoint → SpacePoint → SpacePoint → ℤ
 angle n y p q = triple n (toward y p) (toward y q)
 
 -- the form of the line from y to p
-abbrev pub turn_form : Vector → Place → Place → Form
+abbrev pub turn_form : Vector → SpacePoint → SpacePoint → Form
 turn_form n y p = plane_through (cross n (toward y p)) y
 
-pub turn-at : (n : Vector) (y p q : Place) → form_at (turn_form n y p) q ≡ angle n y p q
+pub turn-at : (n : Vector) (y p q : SpacePoint) → form_at (turn_form n y p) q ≡ angle n y p q
 turn-at n y p q = through-at (cross n (toward y p)) y q ∙ sym (triple-dot n (toward y p) (toward y q))
 
-pub angle-turned : (n : Vector) (y p q : Place) → angle n y p q ≡ pos 0 -ℤ angle n y q p
+pub angle-turned : (n : Vector) (y p q : SpacePoint) → angle n y p q ≡ pos 0 -ℤ angle n y q p
 angle-turned n y p q = triple-turned n (toward y p) (toward y q)
 
-pub angle-self : (n : Vector) (y p : Place) → angle n y p p ≡ pos 0
+pub angle-self : (n : Vector) (y p : SpacePoint) → angle n y p p ≡ pos 0
 angle-self n y p = let e = angle-turned n y p p in omega (arith, ints)
 
-pub angle-start : (n : Vector) (y p : Place) → angle n y p y ≡ pos 0
+pub angle-start : (n : Vector) (y p : SpacePoint) → angle n y p y ≡ pos 0
 angle-start n y p = dot-zero n (cross (toward y p) (toward y y)) (each p.y p.z y.y y.z, each p.z p.x y.z y.x, each p.x p.y y.x y.y)
   where
     each : (a b c d : ℤ) → (a *ℤ pos y.w -ℤ c *ℤ pos p.w) *ℤ (d *ℤ pos y.w -ℤ d *ℤ pos y.w) -ℤ (b *ℤ pos y.w -ℤ d *ℤ pos p.w) *ℤ (c *ℤ pos y.w -ℤ c *ℤ pos y.w) ≡ pos 0
@@ -95,11 +95,11 @@ way-p p q k = at (q + k) ⊗ at (p + 3) ⊖ at (p + k) ⊗ at (q + 3)
 abbrev turn-p : ℕ → ℕ → ℕ → Poly
 turn-p y p q = at 0 ⊗ (way-p y p 1 ⊗ way-p y q 2 ⊖ way-p y p 2 ⊗ way-p y q 1) ⊕ at 1 ⊗ (way-p y p 2 ⊗ way-p y q 0 ⊖ way-p y p 0 ⊗ way-p y q 2) ⊕ at 2 ⊗ (way-p y p 0 ⊗ way-p y q 1 ⊖ way-p y p 1 ⊗ way-p y q 0)
 
-pub angle-cyclic : (n : Vector) (y z w : Place) → pos z.w *ℤ angle n y z w ≡ pos y.w *ℤ angle n z w y
+pub angle-cyclic : (n : Vector) (y z w : SpacePoint) → pos z.w *ℤ angle n y z w ≡ pos y.w *ℤ angle n z w y
 angle-cyclic n y z w = ring (n.x ∷ n.y ∷ n.z ∷ y.x ∷ y.y ∷ y.z ∷ pos y.w ∷ z.x ∷ z.y ∷ z.z ∷ pos z.w ∷ w.x ∷ w.y ∷ w.z ∷ pos w.w ∷ [])
     (at 10 ⊗ turn-p 3 7 11) (at 6 ⊗ turn-p 7 11 3) tt
 
-pub angle-inside : (n : Vector) (y z w : Place) → pos 0 <ℤ angle n y z w → pos 0 <ℤ angle n z w y
+pub angle-inside : (n : Vector) (y z w : SpacePoint) → pos 0 <ℤ angle n y z w → pos 0 <ℤ angle n z w y
 angle-inside n y z w h = plain (angle n y z w) (angle n z w y) (angle-cyclic n y z w) h
   where
     plain : (a b : ℤ) → pos z.w *ℤ a ≡ pos y.w *ℤ b → pos 0 <ℤ a → pos 0 <ℤ b
@@ -128,18 +128,18 @@ more za cb zc ab zb ca e h i j k l =
     let q = mul_pos zb ca k l in
     plus-of za cb h (omega (arith, ints))
 
-pub angle-trans : (n : Vector) (y z a b c : Place) → pos 0 <ℤ angle n y z a → pos 0 ≤ℤ angle n y z b → pos 0 ≤ℤ angle n y z c → pos 0 ≤ℤ angle n y c a → pos 0 ≤ℤ angle n y a b → pos 0 ≤ℤ angle n y c b
+pub angle-trans : (n : Vector) (y z a b c : SpacePoint) → pos 0 <ℤ angle n y z a → pos 0 ≤ℤ angle n y z b → pos 0 ≤ℤ angle n y z c → pos 0 ≤ℤ angle n y c a → pos 0 ≤ℤ angle n y a b → pos 0 ≤ℤ angle n y c b
 angle-trans n y z a b c h i j k l =
     at-least (angle n y z a) (angle n y c b) (angle n y z c) (angle n y a b) (angle n y z b) (angle n y c a) (order-by n (toward y z) (toward y a) (toward y b) (toward y c)) h j l i k
 
-pub angle-before : (n : Vector) (y z t w c : Place) → pos 0 <ℤ angle n y z t → pos 0 <ℤ angle n y z w → pos 0 ≤ℤ angle n y z c → pos 0 <ℤ angle n y c t → pos 0 ≤ℤ angle n y t w → pos 0 <ℤ angle n y c w
+pub angle-before : (n : Vector) (y z t w c : SpacePoint) → pos 0 <ℤ angle n y z t → pos 0 <ℤ angle n y z w → pos 0 ≤ℤ angle n y z c → pos 0 <ℤ angle n y c t → pos 0 ≤ℤ angle n y t w → pos 0 <ℤ angle n y c w
 angle-before n y z t w c h i j k l =
     more (angle n y z t) (angle n y c w) (angle n y z c) (angle n y t w) (angle n y z w) (angle n y c t) (order-by n (toward y z) (toward y t) (toward y w) (toward y c)) h j l i k
 
 -- ---- forms on a segment
-module _ (h : Form) (p r q : Place) (b : IsBetween p r q) where
-  sum-at : (m : IsMixed (of_place p) (of_place r) (of_place q)) → pos m.k *ℤ form_at h r ≡ pos m.i *ℤ form_at h p +ℤ pos m.j *ℤ form_at h q
-  sum-at m = form-sum h m.k (of_place r) m.i (of_place p) m.j (of_place q) m.sum
+module _ (h : Form) (p r q : SpacePoint) (b : IsBetween p r q) where
+  sum-at : (m : IsMixed (of_point p) (of_point r) (of_point q)) → pos m.k *ℤ form_at h r ≡ pos m.i *ℤ form_at h p +ℤ pos m.j *ℤ form_at h q
+  sum-at m = form-sum h m.k (of_point r) m.i (of_point p) m.j (of_point q) m.sum
 
   pub between-plus : pos 0 <ℤ form_at h p → pos 0 ≤ℤ form_at h q → pos 0 <ℤ form_at h r
   between-plus x y = let m = mixed-of p r q b in plain (form_at h p) (form_at h r) (form_at h q) m.k m.i m.j m.some_k m.some_i (sum-at m) x y
@@ -180,18 +180,18 @@ module _ (h : Form) (p r q : Place) (b : IsBetween p r q) where
           minus-of (pos j) d (omega (arith, ints)) (omega (arith, ints))
 
 -- where a form changes its sign it is nought between
-pub record Cut (h : Form) (p q : Place) : Type 0 where
-  pub place : Place
+pub record Cut (h : Form) (p q : SpacePoint) : Type 0 where
+  pub place : SpacePoint
   pub between : IsBetween p place q
   pub level : form_at h place ≡ pos 0
 
-pub cut-at : (h : Form) (p q : Place) → IsDirection (toward p q) → pos 0 <ℤ form_at h p → form_at h q <ℤ pos 0 → Cut h p q
+pub cut-at : (h : Form) (p q : SpacePoint) → IsDirection (toward p q) → pos 0 <ℤ form_at h p → form_at h q <ℤ pos 0 → Cut h p q
 cut-at h p q d x y =
     let i = nat_abs (form_at h q) in
     let j = nat_abs (form_at h p) in
     let si : 0 < i = omega (arith, ints) in
     let sj : 0 < j = omega (arith, ints) in
-    let r : Place = record {
+    let r : SpacePoint = record {
       x = pos i *ℤ p.x +ℤ pos j *ℤ q.x;
       y = pos i *ℤ p.y +ℤ pos j *ℤ q.y;
       z = pos i *ℤ p.z +ℤ pos j *ℤ q.z;
@@ -200,8 +200,8 @@ cut-at h p q d x y =
     } in
     record {
       place = r;
-      between = between-of p r q d (mixed-mix i (of_place p) j (of_place q) si sj);
-      level = form-mix h i (of_place p) j (of_place q) ∙ plain (form_at h p) (form_at h q) x y;
+      between = between-of p r q d (mixed-mix i (of_point p) j (of_point q) si sj);
+      level = form-mix h i (of_point p) j (of_point q) ∙ plain (form_at h p) (form_at h q) x y;
     }
   where
     plain : (a b : ℤ) → pos 0 <ℤ a → b <ℤ pos 0 → pos (nat_abs b) *ℤ a +ℤ pos (nat_abs a) *ℤ b ≡ pos 0

@@ -1,5 +1,5 @@
 -- An arc that is met close to a svertex ends there, on the side on which it is met; and each arc that ends there is met close to it on its side.
-use Rattle.law_complex.proofs.Prelude.{◌≡◌, ℕ, ◌≤◌, ℤ, pos, ◌<ℤ◌, arith, refl, ap, sym, ◌∙◌, inl, inr, ⊎_elim, ◌∷◌, subst, [], ints, sign, ring, at, num, ◌⊕◌, ◌⊖◌, ◌⊗◌, by_order, Vector, blend, dot, cross, triple, IsDirection, SameDirection, IsOnCircle, IsStrictlyOn, same-nought, Keeps, arc_forms, forms, At, MapVertex, Arc, Map, arc_item, items, dir_of, Shaped, normal-is, same-plus, same-minus, amount, far-keeps, kept-plus, kept-minus, SameDirection-decided, item-forms, dir-at, arc-at, opposite-triple, turn-plus, Beside, same_way, other_way, beside, IsStrictlyOn-back, direction-around, svertex-around, after-target, Ends, ends-of, dot-comm, dot-zero, self-pos, triple-dot, cross-turned, triple-middle, triple-turned, SameDirection-turned, SameDirection-trans, dir-signs, parallel-in_plane, direction-left}
+use Rattle.law_complex.proofs.Prelude.{◌≡◌, ℕ, ◌≤◌, ℤ, pos, ◌<ℤ◌, arith, refl, ap, sym, ◌∙◌, inl, inr, ⊎_elim, ◌∷◌, subst, [], ints, sign, ring, at, num, ◌⊕◌, ◌⊖◌, ◌⊗◌, by_order, Vector, blend, dot, cross, triple, IsDirection, SameDirection, IsOnCircle, IsStrictlyOn, same-nought, Keeps, arc_forms, forms, IsAt, MapVertex, Arc, Map, arc_item, items, dir_of, Shaped, normal-is, same-plus, same-minus, amount, far-keeps, kept-plus, kept-minus, SameDirection-decided, item-forms, dir-at, arc-at, opposite-triple, turn-plus, Beside, same_way, other_way, beside, IsStrictlyOn-back, direction-around, svertex-around, after-target, Ends, ends-of, dot-comm, dot-zero, self-pos, triple-dot, cross-turned, triple-middle, triple-turned, SameDirection-turned, SameDirection-trans, dir-signs, parallel-in_plane, direction-left}
 
 -- ---- close before its source an arc isn't met, unless it ends there too
 module _ (n s t y : Vector) (hs : IsDirection s) (ht : IsDirection t) (ls : dot n s ≡ pos 0) (lt : dot n t ≡ pos 0) (hn : IsDirection n)
@@ -18,7 +18,7 @@ module _ (n s t y : Vector) (hs : IsDirection s) (ht : IsDirection t) (ls : dot 
       by (other_way w) = let h = o.just_half w in absurd (omega (arith, ints))
 
 -- ---- close to the way of a svertex
-module _ (M : Map) (V : Shaped M) (j : ℕ) (u : MapVertex) (b : At M.svertices j u) (f : Vector) (K : ℕ) (large : amount (forms M) f ≤ K) where
+module _ (M : Map) (V : Shaped M) (j : ℕ) (u : MapVertex) (b : IsAt M.svertices j u) (f : Vector) (K : ℕ) (large : amount (forms M) f ≤ K) where
   abbrev w : Vector
   w = u.dir
 
@@ -45,7 +45,7 @@ module _ (M : Map) (V : Shaped M) (j : ℕ) (u : MapVertex) (b : At M.svertices 
   apart : (n : Vector) → (triple n w f ≡ pos 0 → ⊥) → SameDirection w c → ⊥
   apart n o q = o (sym (turn n) ∙ dot-zero n (cross w c) q.parallel)
 
-  module _ (i : ℕ) (a : Arc) (d : At (items M) i (arc_item a)) where
+  module _ (i : ℕ) (a : Arc) (d : IsAt (items M) i (arc_item a)) where
     abbrev n : Vector
     n = a.normal
 
@@ -108,7 +108,7 @@ module _ (M : Map) (V : Shaped M) (j : ℕ) (u : MapVertex) (b : At M.svertices 
 
       pub source-meets : a.source ≡ j → pos 0 <ℤ triple n w f → IsStrictlyOn n s t c
       source-meets e h =
-          let is : s ≡ w = dir-at M.svertices a.source u (subst (λ (r : ℕ). At M.svertices r u) (sym e) b) in
+          let is : s ≡ w = dir-at M.svertices a.source u (subst (λ (r : ℕ). IsAt M.svertices r u) (sym e) b) in
           subst (λ (r : Vector). IsStrictlyOn n r t c) (sym is) (record {
             on_circle = on-circle;
             not_source = off;
@@ -129,7 +129,7 @@ module _ (M : Map) (V : Shaped M) (j : ℕ) (u : MapVertex) (b : At M.svertices 
 
       pub target-meets : a.target ≡ j → triple n w f <ℤ pos 0 → IsStrictlyOn n s t c
       target-meets e h =
-          let is : t ≡ w = dir-at M.svertices a.target u (subst (λ (r : ℕ). At M.svertices r u) (sym e) b) in
+          let is : t ≡ w = dir-at M.svertices a.target u (subst (λ (r : ℕ). IsAt M.svertices r u) (sym e) b) in
           subst (λ (r : Vector). IsStrictlyOn n s r c) (sym is) (record {
             on_circle = on-circle;
             not_source = λ q. off (SameDirection-trans w s c (SameDirection-turned s w (back q)) q);

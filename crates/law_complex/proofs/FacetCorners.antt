@@ -1,5 +1,5 @@
 -- Where the labels near a direction of a least map are the germs of a facet point, an item of the facet's plane lies at that direction.
-use Rattle.law_complex.proofs.Prelude.{◌≡◌, ℕ, ◌+◌, ◌≤◌, pos, ◌+ℤ◌, ◌*ℤ◌, arith, refl, ap, sym, ◌∙◌, inr, ⊎_elim, ◌∷◌, subst, [], ints, sign, ring, at, num, ◌⊕◌, ◌⊗◌, sign-scaled, nought-or, HasLabel, Germ, FlatDim, Place, Set, Vector, zero_vector, opposite, blend, dot, IsDirection, IsNormal, SameDirection, Label, label_of, germ_of, Germ-zero, same-nought, same-off, SameSigns, forms, by_side, NearStraight, Least, At, Map, Item, items, item_normal, item_pos, item_mark, item_neg, OnItem, MapLabel, NearLabel, Valid, normal-direction, normal-is, dot-comb, amount, far-keeps, far-level, PlaceOf, svertex_place, item_place, free_place, place_of, label-by_signs, near-from_far, far-from_near, near-unique, near-free, near-item, svertex-neither, dot-zero}
+use Rattle.law_complex.proofs.Prelude.{◌≡◌, ℕ, ◌+◌, ◌≤◌, pos, ◌+ℤ◌, ◌*ℤ◌, arith, refl, ap, sym, ◌∙◌, inr, ⊎_elim, ◌∷◌, subst, [], ints, sign, ring, at, num, ◌⊕◌, ◌⊗◌, sign-scaled, nought-or, HasLabel, Germ, FlatDim, SpacePoint, Set, Vector, zero_vector, opposite, blend, dot, IsDirection, IsNormal, SameDirection, Label, label_of, germ_of, Germ-zero, same-nought, same-off, SameSigns, forms, by_side, NearStraight, Least, IsAt, Map, Item, items, item_normal, item_pos, item_mark, item_neg, OnItem, MapLabel, NearLabel, Valid, normal-direction, normal-is, dot-comb, amount, far-keeps, far-level, PlaceOf, svertex_place, item_place, free_place, place_of, label-by_signs, near-from_far, far-from_near, near-unique, near-free, near-item, svertex-neither, dot-zero}
 use Rattle.law_complex.proofs.Cones.{FlatAre, plane-sides}
 use Rattle.law_complex.proofs.FacetSides.{IsSided, one-label-not_two, sided-flats, flats-one}
 
@@ -48,19 +48,19 @@ module _ (M : Map) (V : Valid M) where
 
 -- ---- the item at a direction
 -- an item of the plane of n at the direction c, with the labels of the point q
-pub record ItemAt (s : Set) (M : Map) (c : Vector) (q : Place) (n : Vector) : Type 0 where
+pub record ItemAt (s : Set) (M : Map) (c : Vector) (q : SpacePoint) (n : Vector) : Type 0 where
   pub number : ℕ
   pub item : Item
-  pub listed : At (items M) number item
+  pub listed : IsAt (items M) number item
   pub on : OnItem M item c
   pub same : SameDirection (item_normal item) n
   pub sided : IsSided s q (item_normal item) (item_pos item) (item_mark item) (item_neg item)
 
-module _ (s : Set) (M : Map) (V : Valid M) (L : Least M) (c : Vector) (q : Place) (near : (e : Vector) (l : Label) → Germ s q e l → NearLabel M c e l) where
+module _ (s : Set) (M : Map) (V : Valid M) (L : Least M) (c : Vector) (q : SpacePoint) (near : (e : Vector) (l : Label) → Germ s q e l → NearLabel M c e l) where
   pub germ-there : (e : Vector) (l : Label) → NearLabel M c e l → Germ s q e l
   germ-there e l a = let g = germ_of s q e in subst (Germ s q e) (near-unique M V c e g.0 l (near e g.0 g.1) a) g.1
 
-  pub item-sided : (k : ℕ) (x : Item) → At (items M) k x → OnItem M x c → IsSided s q (item_normal x) (item_pos x) (item_mark x) (item_neg x)
+  pub item-sided : (k : ℕ) (x : Item) → IsAt (items M) k x → OnItem M x c → IsSided s q (item_normal x) (item_pos x) (item_mark x) (item_neg x)
   item-sided k x a o e = germ-there e (by_side (item_pos x) (item_mark x) (item_neg x) (sign (dot (item_normal x) e))) (near-item M V c k x a o e)
 
   module _ (some : IsDirection c) (n : Vector) (normal : IsNormal n) (flat : FlatAre s q n) (dim : FlatDim s q 2) (level : dot n c ≡ pos 0) where

@@ -1,5 +1,5 @@
 -- Beside an edge point: the labels of its lower end near the edge are the germs close to it; and turned ways.
-use Rattle.law_complex.proofs.Prelude.{◌≡◌, ℕ, ℤ, pos, ◌-ℤ◌, ◌*ℤ◌, ◌+ℤ◌, ◌<ℤ◌, arith, sym, ◌∙◌, inl, inr, ⊎_elim, ◌∷◌, subst, [], ints, sign, ring, at, num, neg, ◌⊕◌, ◌⊖◌, ◌⊗◌, given, none, follows, by_order, Germ, Flat, FlatDim, Place, SamePlace, toward, IsBetween, Set, Vector, opposite, blend, dot, cross, triple, IsZero, IsDirection, IsNormal, SameDirection, Label, SameGerms, FlatDim-by_germs, FlatDim-one, FlatCone-from_flat, near-of_flat, factor-same, forms, At, MapVertex, Arc, Item, arc_item, sloop_item, items, item_normal, dir_of, OnItem, NearLabel, Valid, normal-direction, dot-comb, same-plus, same-minus, amount, far-keeps, at-one, dir-at, arc-at, direction-around, turn-same, level-same, Vertex, Edge, Complex, HasEnds, Shows, IsArcOnSide, vector-same, SameDirection-turned, SameDirection-trans, dir-self, parallel-in_plane, opposite-same, direction-left, direction-right}
+use Rattle.law_complex.proofs.Prelude.{◌≡◌, ℕ, ℤ, pos, ◌-ℤ◌, ◌*ℤ◌, ◌+ℤ◌, ◌<ℤ◌, arith, sym, ◌∙◌, inl, inr, ⊎_elim, ◌∷◌, subst, [], ints, sign, ring, at, num, neg, ◌⊕◌, ◌⊖◌, ◌⊗◌, given, none, follows, by_order, Germ, Flat, FlatDim, SpacePoint, SamePoint, toward, IsBetween, Set, Vector, opposite, blend, dot, cross, triple, IsZero, IsDirection, IsNormal, SameDirection, Label, SameGerms, FlatDim-by_germs, FlatDim-one, FlatCone-from_flat, near-of_flat, factor-same, forms, IsAt, MapVertex, Arc, Item, arc_item, sloop_item, items, item_normal, dir_of, OnItem, NearLabel, Valid, normal-direction, dot-comb, same-plus, same-minus, amount, far-keeps, at-one, dir-at, arc-at, direction-around, turn-same, level-same, Vertex, Edge, Complex, HasEnds, Shows, IsArcOnSide, vector-same, SameDirection-turned, SameDirection-trans, dir-self, parallel-in_plane, opposite-same, direction-left, direction-right}
 use Rattle.law_complex.proofs.Cones.{FlatAre}
 use Rattle.law_complex.proofs.Edges.{edge-points, near_point, near-germs}
 use Rattle.law_complex.proofs.FacetSides.{IsSided}
@@ -7,11 +7,11 @@ use Rattle.law_complex.proofs.FacetCorners.{near-near, item-sided, item-at}
 use Rattle.law_complex.proofs.FacetArcs.{source-met, target-met, source-meets, target-meets}
 
 -- ---- turned ways
-pub ahead-back : (p q : Place) (d : Vector) → SameDirection (toward p q) d → SameDirection (toward q p) (opposite d)
+pub ahead-back : (p q : SpacePoint) (d : Vector) → SameDirection (toward p q) d → SameDirection (toward q p) (opposite d)
 ahead-back p q d w = subst (λ (e : Vector). SameDirection e (opposite d)) (vector-same (opposite (toward p q)) (toward q p) (omega (arith, ints)) (omega (arith, ints)) (omega (arith, ints))) (opposite-same (toward p q) d w)
 
 -- an equal point lies the same way
-pub ahead-same : (y z p : Place) (d : Vector) → SamePlace p z → SameDirection (toward y z) d → SameDirection (toward y p) d
+pub ahead-same : (y z p : SpacePoint) (d : Vector) → SamePoint p z → SameDirection (toward y z) d → SameDirection (toward y p) d
 ahead-same y z p d e w = SameDirection-trans (toward y p) (toward y z) d (SameDirection-turned (toward y z) (toward y p) (factor-same (toward y z) (toward y p) (record {
   k = p.w;
   l = z.w;
@@ -28,7 +28,7 @@ ahead-same y z p d e w = SameDirection-trans (toward y p) (toward y z) d (SameDi
         (given (neg (at 3)) (at 2 ⊗ at 4) (at 1 ⊗ at 5) f none) tt
 
 -- a way on which two directions are flat doesn't begin along an edge
-pub not-along : (s : Set) (t y : Place) (f : Vector) → SameDirection (toward t y) f → FlatDim s t 1 → FlatDim s (near_point s t y) 2 → Flat s t f → ⊥
+pub not-along : (s : Set) (t y : SpacePoint) (f : Vector) → SameDirection (toward t y) f → FlatDim s t 1 → FlatDim s (near_point s t y) 2 → Flat s t f → ⊥
 not-along s t y f w one two flat =
     let same : SameGerms s t (near_point s t y) = λ g l.
     let k = near-of_flat s t f (FlatCone-from_flat s t f flat) g l in
@@ -37,11 +37,11 @@ not-along s t y f w one two flat =
     let e = FlatDim-one s (near_point s t y) 1 2 (FlatDim-by_germs s s t (near_point s t y) same 1 one) two in cc
 
 -- ---- beside an edge
-module _ (s : Set) (C : Complex) (S : Shows s C) (i : ℕ) (e : Edge) (v w : Vertex) (z : Place) (a : At C.edges i e) (H : HasEnds C e v w) (b : IsBetween v.point z w.point) where
-  pub low-end : (u : MapVertex) × At v.map.svertices e.low_svertex u
+module _ (s : Set) (C : Complex) (S : Shows s C) (i : ℕ) (e : Edge) (v w : Vertex) (z : SpacePoint) (a : IsAt C.edges i e) (H : HasEnds C e v w) (b : IsBetween v.point z w.point) where
+  pub low-end : (u : MapVertex) × IsAt v.map.svertices e.low_svertex u
   low-end =
       let E = S.edges.edges i e a in
-      (E.low_end, subst (λ (x : Vertex). At x.map.svertices e.low_svertex E.low_end) (at-one C.vertices e.low E.low_vertex v E.is_low H.low) E.leaves)
+      (E.low_end, subst (λ (x : Vertex). IsAt x.map.svertices e.low_svertex E.low_end) (at-one C.vertices e.low E.low_vertex v E.is_low H.low) E.leaves)
 
   abbrev u : MapVertex
   u = low-end.0
@@ -56,8 +56,8 @@ module _ (s : Set) (C : Complex) (S : Shows s C) (i : ℕ) (e : Edge) (v w : Ver
   abbrev beside : Vector → Vector
   beside f = blend (amount (forms v.map) f) u.dir 1 f
 
-  module _ (f : Vector) (y : Place) (t : SameDirection (toward z y) f) where
-    abbrev q : Place
+  module _ (f : Vector) (y : SpacePoint) (t : SameDirection (toward z y) f) where
+    abbrev q : SpacePoint
     q = near_point s z y
 
     near-edge : (g : Vector) (l : Label) → Germ s q g l → NearLabel v.map (beside f) g l
@@ -89,12 +89,12 @@ module _ (s : Set) (C : Complex) (S : Shows s C) (i : ℕ) (e : Edge) (v w : Ver
           turn-same n m u.dir u.dir f f (SameDirection-turned m n x) (dir-self u.dir (V.shaped.svertex_dirs e.low_svertex u low-end.1)) (dir-self f j)
 
       -- ---- an arc of the plane leaves the edge on that side
-      pub arc-beside : FlatDim s q 2 → FlatAre s q n → (k : ℕ) × (c : Arc) × At v.map.arcs k c × SameDirection c.normal n × IsArcOnSide v e.low_svertex n f c
+      pub arc-beside : FlatDim s q 2 → FlatAre s q n → (k : ℕ) × (c : Arc) × IsAt v.map.arcs k c × SameDirection c.normal n × IsArcOnSide v e.low_svertex n f c
       arc-beside two flat =
           let x = item-at s v.map V (S.least e.low v H.low) (beside f) q near-edge beside-direction n normal flat two (beside-level n level along) in
           by x.item x.number x.listed x.on x.same
         where
-          arc : (c : Arc) (k : ℕ) → At (items v.map) k (arc_item c) → OnItem v.map (arc_item c) (beside f) → SameDirection c.normal n → IsArcOnSide v e.low_svertex n f c
+          arc : (c : Arc) (k : ℕ) → IsAt (items v.map) k (arc_item c) → OnItem v.map (arc_item c) (beside f) → SameDirection c.normal n → IsArcOnSide v e.low_svertex n f c
           arc c k l o r = by_order (triple n u.dir f) (pos 0)
               (λ h. inr (
                 target-met v.map V.shaped e.low_svertex u low-end.1 f (amount (forms v.map) f) (omega arith) k c l o (same-minus (triple n u.dir f) (triple c.normal u.dir f) (same-turn c.normal r) h),
@@ -106,14 +106,14 @@ module _ (s : Set) (C : Complex) (S : Shows s C) (i : ℕ) (e : Edge) (v w : Ver
                 subst (λ (d : Vector). pos 0 <ℤ triple n d f) (sym way-is) h,
               ))
 
-          by : (x : Item) (k : ℕ) → At (items v.map) k x → OnItem v.map x (beside f) → SameDirection (item_normal x) n → (k : ℕ) × (c : Arc) × At v.map.arcs k c × SameDirection c.normal n × IsArcOnSide v e.low_svertex n f c
+          by : (x : Item) (k : ℕ) → IsAt (items v.map) k x → OnItem v.map x (beside f) → SameDirection (item_normal x) n → (k : ℕ) × (c : Arc) × IsAt v.map.arcs k c × SameDirection c.normal n × IsArcOnSide v e.low_svertex n f c
           by (arc_item c) k l o r = (k, c, arc-at v.map.arcs v.map.sloop k c l, r, arc c k l o r)
           by (sloop_item c) k l o r =
               let j = V.shaped.svertex_dirs e.low_svertex u low-end.1 in
               absurd (V.shaped.no_svertex_on_item e.low_svertex k u (sloop_item c) low-end.1 l (record { direction = j; level = level-same n c.normal u.dir u.dir (SameDirection-turned c.normal n r) (dir-self u.dir j) level }))
 
       -- ---- and such an arc has the labels there
-      pub sided-beside : (k : ℕ) (c : Arc) → At (items v.map) k (arc_item c) → SameDirection c.normal n → IsArcOnSide v e.low_svertex n f c → IsSided s q c.normal c.pos c.mark c.neg
+      pub sided-beside : (k : ℕ) (c : Arc) → IsAt (items v.map) k (arc_item c) → SameDirection c.normal n → IsArcOnSide v e.low_svertex n f c → IsSided s q c.normal c.pos c.mark c.neg
       sided-beside k c l r side = item-sided s v.map V (S.least e.low v H.low) (beside f) q near-edge k (arc_item c) l (⊎_elim
           (λ h. source-meets v.map V.shaped e.low_svertex u low-end.1 f (amount (forms v.map) f) (omega arith) k c l on-plane h.0 (same-plus (triple n u.dir f) (triple c.normal u.dir f) (same-turn c.normal r) (subst (λ (d : Vector). pos 0 <ℤ triple n d f) way-is h.1)))
           (λ h. target-meets v.map V.shaped e.low_svertex u low-end.1 f (amount (forms v.map) f) (omega arith) k c l on-plane h.0 (same-minus (triple n u.dir f) (triple c.normal u.dir f) (same-turn c.normal r) (subst (λ (d : Vector). triple n d f <ℤ pos 0) way-is h.1))) side)

@@ -1,5 +1,5 @@
 -- What a ray within a facet first meets has an item of the facet's plane on the ray's side; and where such an item lies behind what is first met, the point lies in a facet.
-use Rattle.law_complex.proofs.Prelude.{◌≡◌, ℕ, pos, arith, refl, sym, ◌∙◌, ⊎_elim, subst, ints, sign, HasLabel, Germ, Flat, FlatDim, Place, Form, form_at, normal_of, slope, SamePlace, toward, IsBetween, Set, Vector, opposite, dot, IsDirection, IsNormal, SameDirection, Drop, IsFlatBelow, SameGerms, even-germs, between-turned, between-inner, flat_way-end, even-until, between-same, by_side, At, Item, arc_item, item_normal, item_pos, item_mark, item_neg, dir_of, at-one, at-arc, level-same, Vertex, Edge, Complex, Corner, HasEnds, IsCorner, Shows, IsVertexPoint, IsEdgePoint, PlaneMeet, meets_vertex, meets_edge, Meets, LiesIn, IsFirstInPlane, IsCornerAt, IsFlatIn, dot-comm, cross-turned, SameDirection-turned, SameDirection-trans, in-span, dot-opposite, level-way, direction-left, direction-right}
+use Rattle.law_complex.proofs.Prelude.{◌≡◌, ℕ, pos, arith, refl, sym, ◌∙◌, ⊎_elim, subst, ints, sign, HasLabel, Germ, Flat, FlatDim, SpacePoint, Form, form_at, normal_of, slope, SamePoint, toward, IsBetween, Set, Vector, opposite, dot, IsDirection, IsNormal, SameDirection, Drop, IsFlatBelow, SameGerms, even-germs, between-turned, between-inner, flat_way-end, even-until, between-same, by_side, IsAt, Item, arc_item, item_normal, item_pos, item_mark, item_neg, dir_of, at-one, at-arc, level-same, Vertex, Edge, Complex, Corner, HasEnds, IsCorner, Shows, IsVertexPoint, IsEdgePoint, PlaneMeet, meets_vertex, meets_edge, Meets, LiesIn, IsFirstInPlane, IsCornerAt, IsFlatIn, dot-comm, cross-turned, SameDirection-turned, SameDirection-trans, in-span, dot-opposite, level-way, direction-left, direction-right}
 use Rattle.law_complex.proofs.Cones.{FlatAre, near-label}
 use Rattle.law_complex.proofs.Planes.{plane-way}
 use Rattle.law_complex.proofs.Ways.{between-way, between-start, between-ends, same-itself}
@@ -11,12 +11,12 @@ use Rattle.law_complex.proofs.FacetPoints.{IsInFacetOf, in-facet, beside-vertex}
 use Rattle.law_complex.proofs.FacetEdges.{ahead-back, ahead-same, low-end, way-is, arc-beside, sided-beside}
 
 -- the lower end of an edge of a plane leads along the plane
-low-level : (s : Set) (C : Complex) (S : Shows s C) (h : Form) (i : ℕ) (e : Edge) (v w : Vertex) (z : Place) → (a : At C.edges i e) (H : HasEnds C e v w) (b : IsBetween v.point z w.point) → LiesIn C h i
+low-level : (s : Set) (C : Complex) (S : Shows s C) (h : Form) (i : ℕ) (e : Edge) (v w : Vertex) (z : SpacePoint) → (a : IsAt C.edges i e) (H : HasEnds C e v w) (b : IsBetween v.point z w.point) → LiesIn C h i
     → dot (normal_of h) (low-end s C S i e v w z a H b).0.dir ≡ pos 0
 low-level s C S h i e v w z a H b (g, x, y, c, G, p, q) =
     let same = at-one C.edges i e g a c in
-    let f = at-one C.vertices e.low x v (subst (λ (r : Edge). At C.vertices r.low x) (sym same) G.low) H.low in
-    let k = at-one C.vertices e.high y w (subst (λ (r : Edge). At C.vertices r.high y) (sym same) G.high) H.high in
+    let f = at-one C.vertices e.low x v (subst (λ (r : Edge). IsAt C.vertices r.low x) (sym same) G.low) H.low in
+    let k = at-one C.vertices e.high y w (subst (λ (r : Edge). IsAt C.vertices r.high y) (sym same) G.high) H.high in
     let on-v = subst (λ (r : Vertex). form_at h r.point ≡ pos 0) f p in
     let on-w = subst (λ (r : Vertex). form_at h r.point ≡ pos 0) k q in
     let way = edge-way s C i e v w S a H in
@@ -27,10 +27,10 @@ low-level s C S h i e v w z a H b (g, x, y, c, G, p, q) =
 level-normal : (n m v : Vector) → SameDirection n m → dot n v ≡ pos 0 → dot m v ≡ pos 0
 level-normal n m v w z = dot-comm m v ∙ level-way v n m w (dot-comm v n ∙ z)
 
-flats-normal : (s : Set) (q : Place) (n m : Vector) → SameDirection n m → FlatAre s q n → FlatAre s q m
+flats-normal : (s : Set) (q : SpacePoint) (n m : Vector) → SameDirection n m → FlatAre s q n → FlatAre s q m
 flats-normal s q n m w flat v = (λ f. level-normal n m v w ((flat v).0 f), λ z. (flat v).1 (level-normal m n v (SameDirection-turned n m w) z))
 
-module _ (s : Set) (C : Complex) (S : Shows s C) (h : Form) (y : Place) (normal : IsNormal (normal_of h)) (on : form_at h y ≡ pos 0) (d : Vector) (some : IsDirection d) (level : slope h d ≡ pos 0) where
+module _ (s : Set) (C : Complex) (S : Shows s C) (h : Form) (y : SpacePoint) (normal : IsNormal (normal_of h)) (on : form_at h y ≡ pos 0) (d : Vector) (some : IsDirection d) (level : slope h d ≡ pos 0) where
   abbrev n : Vector
   n = normal_of h
 
@@ -38,13 +38,13 @@ module _ (s : Set) (C : Complex) (S : Shows s C) (h : Form) (y : Place) (normal 
   level-back = let r = dot-opposite n d in let z = level in omega (arith, ints)
 
   -- ---- the corner behind what is met
-  module _ (F : IsFlatIn s h y) (z : Place) (ahead : SameDirection (toward y z) d) (all : (r : Place) → IsBetween y r z → FlatDim s r 2) where
+  module _ (F : IsFlatIn s h y) (z : SpacePoint) (ahead : SameDirection (toward y z) d) (all : (r : SpacePoint) → IsBetween y r z → FlatDim s r 2) where
     -- a point between y and z has the cone of y
-    same-until : (q : Place) → IsBetween y q z → SameGerms s y q
+    same-until : (q : SpacePoint) → IsBetween y q z → SameGerms s y q
     same-until q b = even-germs s 2 y q (even-by s 2 y q F.0 (λ r c. all r (between-inner y q z r b c)) (all q b))
 
     -- the item of a vertex at z on which y lies
-    pub item-seen : (i : ℕ) (v : Vertex) → At C.vertices i v → SamePlace v.point z → ItemAt s v.map (opposite d) (near_point s v.point y) n
+    pub item-seen : (i : ℕ) (v : Vertex) → IsAt C.vertices i v → SamePoint v.point z → ItemAt s v.map (opposite d) (near_point s v.point y) n
     item-seen i v a e =
         let p = v.point in
         let to-y = ahead-back y p d (ahead-same y z p d e ahead) in
@@ -75,11 +75,11 @@ module _ (s : Set) (C : Complex) (S : Shows s C) (h : Form) (y : Place) (normal 
 
   -- ---- back from what is met to y
   module _ (off : (n : PlaneMeet) → Meets C h n y → ⊥) (m : PlaneMeet) (k : Corner) (I : IsFirstInPlane C h y d m) where
-    abbrev z : Place
+    abbrev z : SpacePoint
     z = I.place
 
     -- from a point of the way that has the sides of an item of the plane, y has them too
-    module _ (v : Vertex) (x : Item) (c : IsCorner C k v x) (r : SameDirection (item_normal x) n) (q : Place) (b : IsBetween y q z) (at-q : IsInFacetOf s x q) where
+    module _ (v : Vertex) (x : Item) (c : IsCorner C k v x) (r : SameDirection (item_normal x) n) (q : SpacePoint) (b : IsBetween y q z) (at-q : IsInFacetOf s x q) where
       to-y : SameDirection (toward q y) (opposite d)
       to-y = ahead-back y q d (SameDirection-trans (toward y q) (toward y z) d (between-way y q z b) I.ahead)
 
@@ -94,7 +94,7 @@ module _ (s : Set) (C : Complex) (S : Shows s C) (h : Form) (y : Place) (normal 
           let e = end-meets s C S h q t (between-start q t y D.between) at-q.dim (flats-normal s q (item_normal x) n r at-q.flat) D.even_before on-t D.drops in
           I.first t e.0 between e.1
 
-      before-y : (t : Place) → IsBetween q t y → FlatDim s t 2
+      before-y : (t : SpacePoint) → IsBetween q t y → FlatDim s t 2
       before-y = ⊎_elim (λ all. all) (λ D. absurd (clear D)) (even-until s 2 q y at-q.dim flat-on)
 
       -- an edge through y would be flat up to q, and so lie in the plane
@@ -120,8 +120,8 @@ module _ (s : Set) (C : Complex) (S : Shows s C) (h : Form) (y : Place) (normal 
     by-vertex : (i : ℕ) → IsVertexPoint C i z → IsCornerAt C h (opposite d) (meets_vertex i) k
         → IsFlatIn s h y × ((u : Vertex) (o : Item) → IsCorner C k u o → HasLabel s y (item_mark o) × ((e : Vector) → Germ s y e (by_side (item_pos o) (item_mark o) (item_neg o) (sign (dot (item_normal o) e)))))
     by-vertex i (u, a, e) (v, x, f, c, r, o) =
-        let same = at-one C.vertices i u v a (subst (λ (j : ℕ). At C.vertices j v) f c.vertex) in
-        let at-z = subst (λ (w : Vertex). SamePlace w.point z) same e in
+        let same = at-one C.vertices i u v a (subst (λ (j : ℕ). IsAt C.vertices j v) f c.vertex) in
+        let at-z = subst (λ (w : Vertex). SamePoint w.point z) same e in
         let p = v.point in
         let way = ahead-back y p d (ahead-same y z p d at-z I.ahead) in
         let q = near_point s p y in
@@ -139,7 +139,7 @@ module _ (s : Set) (C : Complex) (S : Shows s C) (h : Form) (y : Place) (normal 
         let way = ahead-back y z d I.ahead in
         let q = near_point s z y in
         let m = near-between s z y (direction-left (toward z y) (opposite d) way) in
-        let corner : IsCorner C k v (arc_item c) = record { vertex = subst (λ (j : ℕ). At C.vertices j v) (sym f) l; item = at-arc v.map.arcs v.map.sloop k.item c o } in
+        let corner : IsCorner C k v (arc_item c) = record { vertex = subst (λ (j : ℕ). IsAt C.vertices j v) (sym f) l; item = at-arc v.map.arcs v.map.sloop k.item c o } in
         let all = sided-beside s C S i e v w z a H t' (opposite d) y way n normal (low-level s C S h i e v w z a H t' lies) level-back k.item c corner.item r side in
         settled v (arc_item c) corner r q (between-turned z y q m) (in-facet s C S k v (arc_item c) corner q all)
 

@@ -1,5 +1,5 @@
 -- Each point with two flat directions is a facet point of an item of a vertex that it sees, and has a corner.
-use Rattle.law_complex.proofs.Prelude.{◌≡◌, ℤ, pos, ◌*ℤ◌, ◌<ℤ◌, arith, refl, ap, sym, ◌∙◌, ⊎_elim, ◌↔◌, ◌∷◌, subst, Bool, true, false, cond, ◌&&◌, Decides, [], ints, ring, at, num, neg, ◌⊕◌, ◌⊗◌, mul_nonneg, mul_pos, nought-or, Flat, FlatDim, Place, Form, form_at, normal_of, slope, plane_through, toward, Set, Vector, vector, opposite, dot, IsDirection, IsNormal, plane_axis, beside_x, beside_y, flat-plane, between-turned, place-toward, Item, item_normal, OnItem, normal-direction, on-level, product-off, Vertex, Complex, Corner, IsCorner, Shows, IsFacetPoint, item_plane, RayNames, HasCorner, IsFlatIn, dot-zero, vector-same, dir-self, opposite-dot}
+use Rattle.law_complex.proofs.Prelude.{◌≡◌, ℤ, pos, ◌*ℤ◌, ◌<ℤ◌, arith, refl, ap, sym, ◌∙◌, ⊎_elim, ◌↔◌, ◌∷◌, subst, Bool, true, false, cond, ◌&&◌, Decides, [], ints, ring, at, num, neg, ◌⊕◌, ◌⊗◌, mul_nonneg, mul_pos, nought-or, Flat, FlatDim, SpacePoint, Form, form_at, normal_of, slope, plane_through, toward, Set, Vector, vector, opposite, dot, IsDirection, IsNormal, plane_axis, beside_x, beside_y, flat-plane, between-turned, point-toward, Item, item_normal, OnItem, normal-direction, on-level, product-off, Vertex, Complex, Corner, IsCorner, Shows, IsFacetPoint, item_plane, RayNames, HasCorner, IsFlatIn, dot-zero, vector-same, dir-self, opposite-dot}
 use Rattle.std.specs.Ordering.{int_eq}
 use Rattle.std.proofs.lemmas.Bool.Decides.{Decides-int_eq}
 use Rattle.law_complex.proofs.Cones.{FlatAre}
@@ -17,7 +17,7 @@ use Rattle.law_sphere.proofs.Builder.{normal-either}
 scaled-nought : (k x : ℤ) → pos 0 <ℤ k → x *ℤ k ≡ pos 0 → x ≡ pos 0
 scaled-nought k x h e = ⊎_elim (λ z. z) (λ f. absurd (product-off k x h f (ring (k ∷ x ∷ []) (at 0 ⊗ at 1) (at 1 ⊗ at 0) tt ∙ e))) (nought-or x)
 
-pub weight : (p : Place) → pos 0 <ℤ pos p.w
+pub weight : (p : SpacePoint) → pos 0 <ℤ pos p.w
 weight p = let l = p.proper in omega (arith, ints)
 
 pub normal-scaled : (n : Vector) (k : ℤ) → pos 0 <ℤ k → IsNormal n → IsNormal (vector (n.x *ℤ k) (n.y *ℤ k) (n.z *ℤ k))
@@ -28,13 +28,13 @@ normal-scaled n k h N = record {
 }
 
 -- its directions are those of the normal
-pub through-level : (n d : Vector) (p : Place) → (dot n d ≡ pos 0) ↔ (slope (plane_through n p) d ≡ pos 0)
+pub through-level : (n d : Vector) (p : SpacePoint) → (dot n d ≡ pos 0) ↔ (slope (plane_through n p) d ≡ pos 0)
 through-level n d p = (
   λ e. through-slope n p d ∙ ap (λ r. pos p.w *ℤ r) e ∙ ring (pos p.w ∷ []) (at 0 ⊗ num (pos 0)) (num (pos 0)) tt,
   λ e. scaled-nought (pos p.w) (dot n d) (weight p) (ring (dot n d ∷ pos p.w ∷ []) (at 0 ⊗ at 1) (at 1 ⊗ at 0) tt ∙ sym (through-slope n p d) ∙ e),
 )
 
-flats-through : (s : Set) (y p : Place) (n : Vector) → FlatAre s y n → (d : Vector) → Flat s y d ↔ (slope (plane_through n p) d ≡ pos 0)
+flats-through : (s : Set) (y p : SpacePoint) (n : Vector) → FlatAre s y n → (d : Vector) → Flat s y d ↔ (slope (plane_through n p) d ≡ pos 0)
 flats-through s y p n flat d = let l = through-level n d p in let f = flat d in ((λ g. l.0 (f.0 g)), (λ e. f.1 (l.1 e)))
 
 -- the axis of a plane is a direction of it
@@ -56,11 +56,11 @@ axis-in n i = by (int_eq n.z (pos 0)) (int_eq n.y (pos 0)) (Decides-int_eq n.z (
     by false true f g = ((λ z. let q : false ≡ true = f.1 z.1 in cc), level-x)
     by false false f g = ((λ z. let q : false ≡ true = f.1 z.1 in cc), level-x)
 
-pub toward-turned : (p q : Place) → opposite (toward p q) ≡ toward q p
+pub toward-turned : (p q : SpacePoint) → opposite (toward p q) ≡ toward q p
 toward-turned p q = vector-same (opposite (toward p q)) (toward q p) (omega (arith, ints)) (omega (arith, ints)) (omega (arith, ints))
 
 -- ---- an item beside a facet point
-pub record ItemBeside (C : Complex) (y : Place) : Type 0 where
+pub record ItemBeside (C : Complex) (y : SpacePoint) : Type 0 where
   pub corner : Corner
   pub vertex : Vertex
   pub item : Item
@@ -68,7 +68,7 @@ pub record ItemBeside (C : Complex) (y : Place) : Type 0 where
   pub facet_point : IsFacetPoint C vertex item y
 
 module _ (s : Set) (C : Complex) (S : Shows s C) where
-  module _ (h : Form) (normal : IsNormal (normal_of h)) (y : Place) (on : form_at h y ≡ pos 0) (F : IsFlatIn s h y) where
+  module _ (h : Form) (normal : IsNormal (normal_of h)) (y : SpacePoint) (on : form_at h y ≡ pos 0) (F : IsFlatIn s h y) where
     beside : ItemBeside C y
     beside =
         let v = sees-vertex s C S h (normal-direction (normal_of h) normal) y on F in
@@ -87,7 +87,7 @@ module _ (s : Set) (C : Complex) (S : Shows s C) where
         }
 
   -- ---- the corner that the ray along the axis names
-  named : (y : Place) (k : Corner) (v : Vertex) (x : Item) → IsCorner C k v x → IsFacetPoint C v x y → (j : Corner) × RayNames C (item_plane v x) y (plane_axis (item_normal x)) j
+  named : (y : SpacePoint) (k : Corner) (v : Vertex) (x : Item) → IsCorner C k v x → IsFacetPoint C v x y → (j : Corner) × RayNames C (item_plane v x) y (plane_axis (item_normal x)) j
   named y k v x c P =
       let n = item_normal x in
       let h = item_plane v x in
@@ -99,14 +99,14 @@ module _ (s : Set) (C : Complex) (S : Shows s C) where
       (F.dim, flats-through s y p n F.flat) in
       (m.2.0, (m.0, m.1, m.2.1))
 
-  pub facets-complete : (h : Form) (y : Place) → IsNormal (normal_of h) → form_at h y ≡ pos 0 → IsFlatIn s h y → (k : Corner) × HasCorner C y k
+  pub facets-complete : (h : Form) (y : SpacePoint) → IsNormal (normal_of h) → form_at h y ≡ pos 0 → IsFlatIn s h y → (k : Corner) × HasCorner C y k
   facets-complete h y normal on F =
       let B = beside h normal y on F in
       let k = named y B.corner B.vertex B.item B.is_corner B.facet_point in
       (k.0, record { beside = B.corner; vertex = B.vertex; item = B.item; is_beside = B.is_corner; facet_point = B.facet_point; named = k.1 })
 
   -- a point with two flat directions is a facet point
-  pub facet-of : (y : Place) → FlatDim s y 2 → (k : Corner) × (v : Vertex) × (x : Item) × IsCorner C k v x × IsFacetPoint C v x y
+  pub facet-of : (y : SpacePoint) → FlatDim s y 2 → (k : Corner) × (v : Vertex) × (x : Item) × IsCorner C k v x × IsFacetPoint C v x y
   facet-of y f =
       let p = flat-plane s y f in
       ⊎_elim (λ N. found p.0 N p.2) (λ N. found (opposite p.0) N (λ d. turned p.0 d (p.2 d))) (normal-either p.0 p.1)
@@ -117,7 +117,7 @@ module _ (s : Set) (C : Complex) (S : Shows s C) where
       found : (n : Vector) → IsNormal n → FlatAre s y n → (k : Corner) × (v : Vertex) × (x : Item) × IsCorner C k v x × IsFacetPoint C v x y
       found n N flat =
           let h = plane_through n y in
-          let on = through-at n y y ∙ dot-zero n (toward y y) (place-toward y y (same-itself y)) in
+          let on = through-at n y y ∙ dot-zero n (toward y y) (point-toward y y (same-itself y)) in
           let B = beside h (normal-scaled n (pos y.w) (weight y) N) y on (f, flats-through s y y n flat) in
           (B.corner, B.vertex, B.item, B.is_corner, B.facet_point)
 

@@ -1,5 +1,5 @@
 -- The points of a facet: from the item beside it on, two directions are flat, and the labels are those of the item.
-use Rattle.law_complex.proofs.Prelude.{sign, HasLabel, Flat, FlatDim, Place, toward, IsBetween, Set, Vector, dot, IsDirection, SameDirection, SameGerms, Drop, even-germs, by_side, Item, item_normal, item_pos, item_mark, item_neg, OnItem, normal-is, on-direction, on-level, near-item, Vertex, Complex, Corner, IsCorner, Shows, IsFacetPoint, SameDirection-turned, SameDirection-trans, dir-self, level-way, direction-right}
+use Rattle.law_complex.proofs.Prelude.{sign, HasLabel, Flat, FlatDim, SpacePoint, toward, IsBetween, Set, Vector, dot, IsDirection, SameDirection, SameGerms, Drop, even-germs, by_side, Item, item_normal, item_pos, item_mark, item_neg, OnItem, normal-is, on-direction, on-level, near-item, Vertex, Complex, Corner, IsCorner, Shows, IsFacetPoint, SameDirection-turned, SameDirection-trans, dir-self, level-way, direction-right}
 use Rattle.law_complex.proofs.Cones.{FlatAre, near-germ}
 use Rattle.law_complex.proofs.Ways.{between-outer}
 use Rattle.law_complex.proofs.Edges.{near_point, near-between, near-germs, way-near}
@@ -7,7 +7,7 @@ use Rattle.law_complex.proofs.FacetSides.{IsSided, sided-carried, sided-label, s
 use Rattle.law_complex.proofs.FacetWays.{even-to, below-on}
 
 -- y has two flat directions, those of the item's plane, and the item's labels
-pub record IsInFacetOf (s : Set) (x : Item) (y : Place) : Type 0 where
+pub record IsInFacetOf (s : Set) (x : Item) (y : SpacePoint) : Type 0 where
   pub dim : FlatDim s y 2
   pub flat : FlatAre s y (item_normal x)
   pub label : HasLabel s y (item_mark x)
@@ -15,7 +15,7 @@ pub record IsInFacetOf (s : Set) (x : Item) (y : Place) : Type 0 where
 
 module _ (s : Set) (C : Complex) (S : Shows s C) where
   -- what has the sides of an item has its flat directions
-  pub in-facet : (k : Corner) (v : Vertex) (x : Item) → IsCorner C k v x → (y : Place) → IsSided s y (item_normal x) (item_pos x) (item_mark x) (item_neg x) → IsInFacetOf s x y
+  pub in-facet : (k : Corner) (v : Vertex) (x : Item) → IsCorner C k v x → (y : SpacePoint) → IsSided s y (item_normal x) (item_pos x) (item_mark x) (item_neg x) → IsInFacetOf s x y
   in-facet k v x c y all =
       let i = normal-is (S.cones k.vertex v c.vertex).valid.shaped k.item x c.item in
       let o = (S.least k.vertex v c.vertex).items_differ k.item x c.item in
@@ -26,7 +26,7 @@ module _ (s : Set) (C : Complex) (S : Shows s C) where
         sided = all;
       }
 
-  module _ (k : Corner) (v : Vertex) (x : Item) (c : IsCorner C k v x) (d : Vector) (o : OnItem v.map x d) (y : Place) (w : SameDirection (toward v.point y) d) where
+  module _ (k : Corner) (v : Vertex) (x : Item) (c : IsCorner C k v x) (d : Vector) (o : OnItem v.map x d) (y : SpacePoint) (w : SameDirection (toward v.point y) d) where
     -- close to the vertex, on the way to y
     pub beside-vertex : IsInFacetOf s x (near_point s v.point y)
     beside-vertex =
@@ -35,11 +35,11 @@ module _ (s : Set) (C : Complex) (S : Shows s C) where
         let l = by_side (item_pos x) (item_mark x) (item_neg x) (sign (dot (item_normal x) e)) in
         (near-germs s v.point d y w e l).1 (near-germ v.map s v.point K d e l (near-item v.map K.valid d k.item x c.item o e)))
 
-  module _ (k : Corner) (v : Vertex) (x : Item) (y : Place) (c : IsCorner C k v x) (F : IsFacetPoint C v x y) where
-    abbrev p : Place
+  module _ (k : Corner) (v : Vertex) (x : Item) (y : SpacePoint) (c : IsCorner C k v x) (F : IsFacetPoint C v x y) where
+    abbrev p : SpacePoint
     p = v.point
 
-    abbrev q : Place
+    abbrev q : SpacePoint
     q = near_point s p y
 
     i : IsDirection (toward p y)

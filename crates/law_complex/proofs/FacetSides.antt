@@ -1,23 +1,23 @@
 -- Germs by the sides of a plane: where they aren't all one, the flat directions are those of the plane, and two planes with these flat directions are one.
-use Rattle.law_complex.proofs.Prelude.{◌≡◌, pos, neg_ℤ, arith, refl, ap, sym, ◌∙◌, ⊎_elim, ◌∷◌, subst, [], ints, Sign, minus, nought, plus, sign, ring, at, neg, ◌⊕◌, ◌⊗◌, sign-plus, sign-minus, nought-or, HasLabel, Germ, Flat, HasFlat, FlatDim, Place, Set, Vector, zero_vector, opposite, dot, cross, IsZero, IsDirection, IsNormal, SameDirection, Label, SameGerms, Germ-zero, Germ-unique, flat-germ, Flat-by_germs, span-3, flat-plane, by_side, product-off, row_x, row_y, row_z, row_x-is, row_y-is, row_z-is, circle-point, row-level, normals-same, dot-comm, dot-zero, self-pos, square-cross}
+use Rattle.law_complex.proofs.Prelude.{◌≡◌, pos, neg_ℤ, arith, refl, ap, sym, ◌∙◌, ⊎_elim, ◌∷◌, subst, [], ints, Sign, minus, nought, plus, sign, ring, at, neg, ◌⊕◌, ◌⊗◌, sign-plus, sign-minus, nought-or, HasLabel, Germ, Flat, HasFlat, FlatDim, SpacePoint, Set, Vector, zero_vector, opposite, dot, cross, IsZero, IsDirection, IsNormal, SameDirection, Label, SameGerms, Germ-zero, Germ-unique, flat-germ, Flat-by_germs, span-3, flat-plane, by_side, product-off, row_x, row_y, row_z, row_x-is, row_y-is, row_z-is, circle-point, row-level, normals-same, dot-comm, dot-zero, self-pos, square-cross}
 use Rattle.law_complex.proofs.Cones.{FlatAre, sided-flat, sided-two}
 use Rattle.law_sphere.proofs.StarKinds.{turn-ahead}
 
 -- a is the label above the plane of n, m in it, b below
-abbrev pub IsSided : Set → Place → Vector → Label → Label → Label → Type 0
+abbrev pub IsSided : Set → SpacePoint → Vector → Label → Label → Label → Type 0
 IsSided s q n a m b = (e : Vector) → Germ s q e (by_side a m b (sign (dot n e)))
 
-pub sided-carried : (s : Set) (q y : Place) (n : Vector) (a m b : Label) → SameGerms s q y → IsSided s q n a m b → IsSided s y n a m b
+pub sided-carried : (s : Set) (q y : SpacePoint) (n : Vector) (a m b : Label) → SameGerms s q y → IsSided s q n a m b → IsSided s y n a m b
 sided-carried s q y n a m b same all e = (same e (by_side a m b (sign (dot n e)))).0 (all e)
 
-pub flats-carried : (s : Set) (q y : Place) (n : Vector) → SameGerms s q y → FlatAre s q n → FlatAre s y n
+pub flats-carried : (s : Set) (q y : SpacePoint) (n : Vector) → SameGerms s q y → FlatAre s q n → FlatAre s y n
 flats-carried s q y n same flat v = (
   λ f. (flat v).0 (Flat-by_germs s s y q (λ d l. let g = same d l in (g.1, g.0)) v f),
   λ z. Flat-by_germs s s q y same v ((flat v).1 z),
 )
 
 -- ---- where there is one label, not just two directions are flat
-pub one-label-flat : (s : Set) (q : Place) (m : Label) → ((e : Vector) → Germ s q e m) → (v d : Vector) → dot d v ≡ pos 0 → Flat s q v
+pub one-label-flat : (s : Set) (q : SpacePoint) (m : Label) → ((e : Vector) → Germ s q e m) → (v d : Vector) → dot d v ≡ pos 0 → Flat s q v
 one-label-flat s q m all v d z = sided-flat s q d m m m (λ e. by e (sign (dot d e))) v z
   where
     by : (e : Vector) (t : Sign) → Germ s q e (by_side m m m t)
@@ -25,7 +25,7 @@ one-label-flat s q m all v d z = sided-flat s q d m m m (λ e. by e (sign (dot d
     by e nought = all e
     by e minus = all e
 
-pub one-label-not_two : (s : Set) (q : Place) (m : Label) → ((e : Vector) → Germ s q e m) → FlatDim s q 2 → ⊥
+pub one-label-not_two : (s : Set) (q : SpacePoint) (m : Label) → ((e : Vector) → Germ s q e m) → FlatDim s q 2 → ⊥
 one-label-not_two s q m all two =
     let p = flat-plane s q two in
     let c = circle-point p.0 p.1 in
@@ -33,7 +33,7 @@ one-label-not_two s q m all two =
     let h = self-pos p.0 p.1 in omega (arith, ints)
 
 -- ---- where the labels aren't all one
-module _ (s : Set) (q : Place) (n : Vector) (a m b : Label) (all : IsSided s q n a m b) where
+module _ (s : Set) (q : SpacePoint) (n : Vector) (a m b : Label) (all : IsSided s q n a m b) where
   pub sided-label : HasLabel s q m
   sided-label = (Germ-zero s q zero_vector m (refl, refl, refl)).0 (subst (λ (t : Sign). Germ s q zero_vector (by_side a m b t)) (ap sign (dot-zero n zero_vector (refl, refl, refl))) (all zero_vector))
 
@@ -73,7 +73,7 @@ module _ (s : Set) (q : Place) (n : Vector) (a m b : Label) (all : IsSided s q n
             not-three (d, cross n d, v, (λ z. product-off (dot d d) (dot n v) (self-pos d c.1.direction) o (sym r ∙ z)), sided-flat s q n a m b all d c.1.level, sided-flat s q n a m b all (cross n d) (square-cross n d), f)
 
 -- ---- two planes with the same flat directions are one
-flats-parallel : (s : Set) (q : Place) (n m : Vector) → FlatAre s q n → FlatAre s q m → IsZero (cross n m)
+flats-parallel : (s : Set) (q : SpacePoint) (n m : Vector) → FlatAre s q n → FlatAre s q m → IsZero (cross n m)
 flats-parallel s q n m f g =
     let r = row-level n in
     let on : (v : Vector) → dot n v ≡ pos 0 → dot m v ≡ pos 0 = λ v z. (g v).0 ((f v).1 z) in (
@@ -83,5 +83,5 @@ flats-parallel s q n m f g =
     )
 
 -- normals point to one side
-pub flats-one : (s : Set) (q : Place) (n m : Vector) → IsNormal n → IsNormal m → FlatAre s q n → FlatAre s q m → SameDirection n m
+pub flats-one : (s : Set) (q : SpacePoint) (n m : Vector) → IsNormal n → IsNormal m → FlatAre s q n → FlatAre s q m → SameDirection n m
 flats-one s q n m h k f g = normals-same n m h k (flats-parallel s q n m f g)

@@ -1,12 +1,12 @@
 -- Two vertices between which one direction is flat are the ends of an edge; so each point with one flat direction lies on an edge, and each svertex is an end of one.
-use Rattle.law_complex.proofs.Prelude.{◌≡◌, ℕ, ◌<◌, ℤ, pos, ◌-ℤ◌, ◌*ℤ◌, neg_ℤ, arith, refl, ap, sym, ◌∙◌, ◌⊎◌, inl, inr, ⊎_elim, ◌∷◌, subst, [], ints, cases_order, Sign, minus, nought, plus, sign, ring, at, num, neg, ◌⊕◌, ◌⊖◌, ◌⊗◌, Germ, FlatDim, IsVertex, Place, SamePlace, toward, IsBetween, Set, Vector, dot, cross, IsZero, IsDirection, SameDirection, IsOpposite, Label, label_of, FlatDim-one, FlatDim-by_germs, germs-by_cell, flat-germ, span-1, between-turned, ray-cell, carriers, reach_all, between-same, toward-place, place-toward, same-place_sym, signs-same, start-close, flat_way-end, edge-around, WayEnd, by_side, NearPlain, NearStraight, Least, Cone, At, Map, MapVertex, MapLabel, Matched, neither-svertex, label-unique, at-one, circle-point, Vertex, Edge, Complex, IsEdge, Shows, IsEdgePoint, zero-decided, self-pos, SameDirection-turned, SameDirection-trans, dir-self, in-span, dot-comm, direction-right, IsOpposite-same}
+use Rattle.law_complex.proofs.Prelude.{◌≡◌, ℕ, ◌<◌, ℤ, pos, ◌-ℤ◌, ◌*ℤ◌, neg_ℤ, arith, refl, ap, sym, ◌∙◌, ◌⊎◌, inl, inr, ⊎_elim, ◌∷◌, subst, [], ints, cases_order, Sign, minus, nought, plus, sign, ring, at, num, neg, ◌⊕◌, ◌⊖◌, ◌⊗◌, Germ, FlatDim, IsVertex, SpacePoint, SamePoint, toward, IsBetween, Set, Vector, dot, cross, IsZero, IsDirection, SameDirection, IsOpposite, Label, label_of, FlatDim-one, FlatDim-by_germs, germs-by_cell, flat-germ, span-1, between-turned, ray-cell, carriers, reach_all, between-same, toward-point, point-toward, same-point_sym, signs-same, start-close, flat_way-end, edge-around, WayEnd, by_side, NearPlain, NearStraight, Least, Cone, IsAt, Map, MapVertex, MapLabel, Matched, neither-svertex, label-unique, at-one, circle-point, Vertex, Edge, Complex, IsEdge, Shows, IsEdgePoint, zero-decided, self-pos, SameDirection-turned, SameDirection-trans, dir-self, in-span, dot-comm, direction-right, IsOpposite-same}
 use Rattle.law_complex.proofs.Cones.{near-germ, sided-two}
 use Rattle.law_complex.proofs.Ways.{between-way, between-ends, between-cases, same-itself, onward, onward-way}
 use Rattle.law_complex.proofs.Edges.{near_point, near-between, near-germs, near-flat, way-near, near-one, label-near}
 
 -- ---- a direction of a map is a svertex where close to p one direction is flat
-module _ (s : Set) (p : Place) (M : Map) (K : Cone M s p) (L : Least M) (d : Vector) (y : Place) (w : SameDirection (toward p y) d) (one : FlatDim s (near_point s p y) 1) where
-  abbrev q : Place
+module _ (s : Set) (p : SpacePoint) (M : Map) (K : Cone M s p) (L : Least M) (d : Vector) (y : SpacePoint) (w : SameDirection (toward p y) d) (one : FlatDim s (near_point s p y) 1) where
+  abbrev q : SpacePoint
   q = near_point s p y
 
   some : IsDirection d
@@ -47,10 +47,10 @@ module _ (s : Set) (p : Place) (M : Map) (K : Cone M s p) (L : Least M) (d : Vec
 
 -- ---- an edge between two vertices
 -- the edge joins svertex a of vertex i to svertex b of vertex j, in the one order or the other
-pub record Joins (C : Complex) (i a j b : ℕ) : Type 0 where
+pub record EdgeJoins (C : Complex) (i a j b : ℕ) : Type 0 where
   pub number : ℕ
   pub edge : Edge
-  pub listed : At C.edges number edge
+  pub listed : IsAt C.edges number edge
   pub joins : ((edge.low ≡ i) × (edge.low_svertex ≡ a) × (edge.high ≡ j) × (edge.high_svertex ≡ b)) ⊎ ((edge.low ≡ j) × (edge.low_svertex ≡ b) × (edge.high ≡ i) × (edge.high_svertex ≡ a))
 
 -- an edge whose ends are vertex i and vertex j, with the svertices that lead from the one to the other
@@ -59,16 +59,16 @@ pub record EdgeBetween (C : Complex) (i j : ℕ) (v w : Vertex) : Type 0 where
   pub target : ℕ
   pub source_end : MapVertex
   pub target_end : MapVertex
-  pub leaves : At v.map.svertices source source_end
-  pub arrives : At w.map.svertices target target_end
+  pub leaves : IsAt v.map.svertices source source_end
+  pub arrives : IsAt w.map.svertices target target_end
   pub ahead : SameDirection source_end.dir (toward v.point w.point)
   pub behind : SameDirection target_end.dir (toward w.point v.point)
-  pub edge : Joins C i source j target
+  pub edge : EdgeJoins C i source j target
 
 module _ (s : Set) (C : Complex) (S : Shows s C) where
-  module _ (i j : ℕ) (v w : Vertex) (a : At C.vertices i v) (b : At C.vertices j w) (leads : IsDirection (toward v.point w.point)) (one : (r : Place) → IsBetween v.point r w.point → FlatDim s r 1) where
+  module _ (i j : ℕ) (v w : Vertex) (a : IsAt C.vertices i v) (b : IsAt C.vertices j w) (leads : IsDirection (toward v.point w.point)) (one : (r : SpacePoint) → IsBetween v.point r w.point → FlatDim s r 1) where
     back : IsDirection (toward w.point v.point)
-    back z = leads (place-toward v.point w.point (same-place_sym w.point v.point (toward-place w.point v.point z)))
+    back z = leads (point-toward v.point w.point (same-point_sym w.point v.point (toward-point w.point v.point z)))
 
     pub from-v : Matched v.map (toward v.point w.point)
     from-v = svertex-toward s v.point v.map (S.cones i v a) (S.least i v a) (toward v.point w.point) w.point (dir-self (toward v.point w.point) leads)
@@ -78,10 +78,10 @@ module _ (s : Set) (C : Complex) (S : Shows s C) where
     from-w = svertex-toward s w.point w.map (S.cones j w b) (S.least j w b) (toward w.point v.point) v.point (dir-self (toward w.point v.point) back)
         (one (near_point s w.point v.point) (between-turned w.point v.point (near_point s w.point v.point) (near-between s w.point v.point back)))
 
-    none-between : (k : ℕ) (x : Vertex) → At C.vertices k x → IsBetween v.point x.point w.point → ⊥
+    none-between : (k : ℕ) (x : Vertex) → IsAt C.vertices k x → IsBetween v.point x.point w.point → ⊥
     none-between k x c d = let e = FlatDim-one s x.point 0 1 (S.vertices k x c) (one x.point d) in cc
 
-    opposite-ends : (p q : Place) → IsDirection (toward p q) → IsOpposite (toward p q) (toward q p)
+    opposite-ends : (p q : SpacePoint) → IsDirection (toward p q) → IsOpposite (toward p q) (toward q p)
     opposite-ends p q i = record {
       parallel = (each p.y q.y p.z q.z (pos p.w) (pos q.w), each p.z q.z p.x q.x (pos p.w) (pos q.w), each p.x q.x p.y q.y (pos p.w) (pos q.w));
       backward =
@@ -131,14 +131,14 @@ module _ (s : Set) (C : Complex) (S : Shows s C) where
           edge = record { number = k.0; edge = edge-up; listed = k.1; joins = inl (refl, refl, refl, refl) };
         }
 
-  module _ (i j : ℕ) (v w : Vertex) (a : At C.vertices i v) (b : At C.vertices j w) (leads : IsDirection (toward v.point w.point)) (one : (r : Place) → IsBetween v.point r w.point → FlatDim s r 1) where
+  module _ (i j : ℕ) (v w : Vertex) (a : IsAt C.vertices i v) (b : IsAt C.vertices j w) (leads : IsDirection (toward v.point w.point)) (one : (r : SpacePoint) → IsBetween v.point r w.point → FlatDim s r 1) where
     pub edge-between : EdgeBetween C i j v w
     edge-between = ⊎_elim (λ e. absurd (apart e)) (λ o. ⊎_elim (λ l. joined-up i j v w a b leads one l) (λ l. turned (joined-up j i w v b a (back i j v w a b leads one) (λ r h. one r (between-turned w.point v.point r h)) l)) o) (cases_order i j)
       where
         apart : i ≡ j → ⊥
         apart e =
-            let same = at-one C.vertices j v w (subst (λ (k : ℕ). At C.vertices k v) e a) b in
-            leads (place-toward v.point w.point (subst (λ (x : Vertex). SamePlace v.point x.point) same (same-itself v.point)))
+            let same = at-one C.vertices j v w (subst (λ (k : ℕ). IsAt C.vertices k v) e a) b in
+            leads (point-toward v.point w.point (subst (λ (x : Vertex). SamePoint v.point x.point) same (same-itself v.point)))
 
         turned : EdgeBetween C j i w v → EdgeBetween C i j v w
         turned E = record {
@@ -154,24 +154,24 @@ module _ (s : Set) (C : Complex) (S : Shows s C) where
         }
 
   -- ---- each point with one flat direction lies on an edge
-  pub edges-complete : (y : Place) → FlatDim s y 1 → (k : ℕ) × IsEdgePoint C k y
+  pub edges-complete : (y : SpacePoint) → FlatDim s y 1 → (k : ℕ) × IsEdgePoint C k y
   edges-complete y f =
       let A = edge-around s y f in
       let v = S.complete A.source A.source_is_vertex in
       let w = S.complete A.target A.target_is_vertex in
-      let b = between-same A.source y A.target v.1.point y w.1.point (same-place_sym v.1.point A.source v.3) (same-itself y) (same-place_sym w.1.point A.target w.3) A.between in
+      let b = between-same A.source y A.target v.1.point y w.1.point (same-point_sym v.1.point A.source v.3) (same-itself y) (same-point_sym w.1.point A.target w.3) A.between in
       let E = edge-between v.0 w.0 v.1 w.1 v.2 w.2 (between-ends v.1.point y w.1.point b) (λ r h. A.even r (between-same v.1.point r w.1.point A.source r A.target v.3 (same-itself r) w.3 h)) in
       point v.0 w.0 v.1 w.1 v.2 w.2 E b E.edge.joins
     where
-      point : (i j : ℕ) (v w : Vertex) → At C.vertices i v → At C.vertices j w → (E : EdgeBetween C i j v w) → IsBetween v.point y w.point
+      point : (i j : ℕ) (v w : Vertex) → IsAt C.vertices i v → IsAt C.vertices j w → (E : EdgeBetween C i j v w) → IsBetween v.point y w.point
           → ((E.edge.edge.low ≡ i) × (E.edge.edge.low_svertex ≡ E.source) × (E.edge.edge.high ≡ j) × (E.edge.edge.high_svertex ≡ E.target)) ⊎ ((E.edge.edge.low ≡ j) × (E.edge.edge.low_svertex ≡ E.target) × (E.edge.edge.high ≡ i) × (E.edge.edge.high_svertex ≡ E.source))
           → (k : ℕ) × IsEdgePoint C k y
-      point i j v w a b E h (inl c) = (E.edge.number, (E.edge.edge, v, w, E.edge.listed, record { low = subst (λ (k : ℕ). At C.vertices k v) (sym c.0) a; high = subst (λ (k : ℕ). At C.vertices k w) (sym c.2) b }, h))
-      point i j v w a b E h (inr c) = (E.edge.number, (E.edge.edge, w, v, E.edge.listed, record { low = subst (λ (k : ℕ). At C.vertices k w) (sym c.0) b; high = subst (λ (k : ℕ). At C.vertices k v) (sym c.2) a }, between-turned v.point w.point y h))
+      point i j v w a b E h (inl c) = (E.edge.number, (E.edge.edge, v, w, E.edge.listed, record { low = subst (λ (k : ℕ). IsAt C.vertices k v) (sym c.0) a; high = subst (λ (k : ℕ). IsAt C.vertices k w) (sym c.2) b }, h))
+      point i j v w a b E h (inr c) = (E.edge.number, (E.edge.edge, w, v, E.edge.listed, record { low = subst (λ (k : ℕ). IsAt C.vertices k w) (sym c.0) b; high = subst (λ (k : ℕ). IsAt C.vertices k v) (sym c.2) a }, between-turned v.point w.point y h))
 
   -- ---- each svertex is an end of an edge
-  module _ (i k : ℕ) (v : Vertex) (u : MapVertex) (a : At C.vertices i v) (b : At v.map.svertices k u) where
-    abbrev ahead_of : Place
+  module _ (i k : ℕ) (v : Vertex) (u : MapVertex) (a : IsAt C.vertices i v) (b : IsAt v.map.svertices k u) where
+    abbrev ahead_of : SpacePoint
     ahead_of = onward v.point u.dir
 
     way_out : IsDirection u.dir
@@ -180,7 +180,7 @@ module _ (s : Set) (C : Complex) (S : Shows s C) where
     ahead-way : SameDirection (toward v.point ahead_of) u.dir
     ahead-way = onward-way v.point u.dir way_out
 
-    abbrev close : Place
+    abbrev close : SpacePoint
     close = near_point s v.point ahead_of
 
     close-one : FlatDim s close 1
@@ -197,19 +197,19 @@ module _ (s : Set) (C : Complex) (S : Shows s C) where
     close-between : IsBetween v.point close way_end.at_place
     close-between = SameDirection-trans (toward v.point close) u.dir (toward close way_end.at_place) (way-near s v.point u.dir ahead_of ahead-way) (SameDirection-turned (toward close way_end.at_place) u.dir way_end.is_ahead)
 
-    all-one : (r : Place) → IsBetween v.point r way_end.at_place → FlatDim s r 1
+    all-one : (r : SpacePoint) → IsBetween v.point r way_end.at_place → FlatDim s r 1
     all-one r h = by (between-cases v.point close way_end.at_place r close-between h)
       where
-        by : IsBetween v.point r close ⊎ SamePlace r close ⊎ IsBetween close r way_end.at_place → FlatDim s r 1
+        by : IsBetween v.point r close ⊎ SamePoint r close ⊎ IsBetween close r way_end.at_place → FlatDim s r 1
         by (inl c) = FlatDim-by_germs s s close r (germs-by_cell s close r (ray-cell (carriers s) v.point close r (start-close (reach_all (carriers s) v.point) v.point ahead_of) c)) 1 close-one
-        by (inr (inl e)) = FlatDim-by_germs s s close r (germs-by_cell s close r (signs-same (carriers s) close r (same-place_sym r close e))) 1 close-one
+        by (inr (inl e)) = FlatDim-by_germs s s close r (germs-by_cell s close r (signs-same (carriers s) close r (same-point_sym r close e))) 1 close-one
         by (inr (inr c)) = way_end.even_before r c
 
-    pub svertex-edge : (n : ℕ) × (e : Edge) × At C.edges n e × (((e.low ≡ i) × (e.low_svertex ≡ k)) ⊎ ((e.high ≡ i) × (e.high_svertex ≡ k)))
+    pub svertex-edge : (n : ℕ) × (e : Edge) × IsAt C.edges n e × (((e.low ≡ i) × (e.low_svertex ≡ k)) ⊎ ((e.high ≡ i) × (e.high_svertex ≡ k)))
     svertex-edge =
         let w = S.complete way_end.at_place end-vertex in
         let x = way_end.at_place in
-        let t : IsBetween v.point close w.1.point = between-same v.point close x v.point close w.1.point (same-itself v.point) (same-itself close) (same-place_sym w.1.point x w.3) close-between in
+        let t : IsBetween v.point close w.1.point = between-same v.point close x v.point close w.1.point (same-itself v.point) (same-itself close) (same-point_sym w.1.point x w.3) close-between in
         let E = edge-between i w.0 v w.1 a w.2 (between-ends v.point close w.1.point t) (λ r h. all-one r (between-same v.point r w.1.point v.point r x (same-itself v.point) (same-itself r) w.3 h)) in
         let way : SameDirection E.source_end.dir u.dir = SameDirection-trans E.source_end.dir (toward v.point w.1.point) u.dir E.ahead
         (SameDirection-trans (toward v.point w.1.point) (toward v.point close) u.dir (SameDirection-turned (toward v.point close) (toward v.point w.1.point) (between-way v.point close w.1.point t)) (way-near s v.point u.dir ahead_of ahead-way)) in

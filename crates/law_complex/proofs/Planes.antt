@@ -1,5 +1,5 @@
 -- Forms of one plane are nought at the same points and along the same directions.
-use Rattle.law_complex.proofs.Prelude.{◌≡◌, ℤ, pos, ◌+ℤ◌, ◌*ℤ◌, sym, ◌∙◌, ⊎_elim, ◌∷◌, [], ring, at, num, ◌⊕◌, ◌⊖◌, ◌⊗◌, given, none, follows, Place, Form, form_at, slope, toward, Vector, product-off, SamePlane, nought-or, square_pos}
+use Rattle.law_complex.proofs.Prelude.{◌≡◌, ℤ, pos, ◌+ℤ◌, ◌*ℤ◌, sym, ◌∙◌, ⊎_elim, ◌∷◌, [], ring, at, num, ◌⊕◌, ◌⊖◌, ◌⊗◌, given, none, follows, SpacePoint, Form, form_at, slope, toward, Vector, product-off, SamePlane, nought-or, square_pos}
 
 nought-factor : (a x : ℤ) → (x ≡ pos 0 → ⊥) → a *ℤ x ≡ pos 0 → a ≡ pos 0
 nought-factor a x f e = ⊎_elim (λ z. z) (λ n. absurd (product-off (x *ℤ x) a (square_pos x f) n
@@ -45,7 +45,7 @@ plane-turned g h S = record {
     turned : (a b c d : ℤ) → a *ℤ d ≡ b *ℤ c → c *ℤ b ≡ d *ℤ a
     turned a b c d e = ring (c ∷ b ∷ []) (at 0 ⊗ at 1) (at 1 ⊗ at 0) tt ∙ sym e ∙ ring (a ∷ d ∷ []) (at 0 ⊗ at 1) (at 1 ⊗ at 0) tt
 
-pub plane-point : (g h : Form) (p : Place) → SamePlane g h → form_at g p ≡ pos 0 → form_at h p ≡ pos 0
+pub plane-point : (g h : Form) (p : SpacePoint) → SamePlane g h → form_at g p ≡ pos 0 → form_at h p ≡ pos 0
 plane-point g h p S e = same-nought g h S p.x p.y p.z (pos p.w) e
 
 pub plane-slope : (g h : Form) (d : Vector) → SamePlane g h → slope g d ≡ pos 0 → slope h d ≡ pos 0
@@ -54,7 +54,7 @@ plane-slope g h d S e =
     ring (h.a ∷ h.b ∷ h.c ∷ h.d ∷ d.x ∷ d.y ∷ d.z ∷ []) (at 0 ⊗ at 4 ⊕ at 1 ⊗ at 5 ⊕ at 2 ⊗ at 6) (at 0 ⊗ at 4 ⊕ at 1 ⊗ at 5 ⊕ at 2 ⊗ at 6 ⊕ at 3 ⊗ num (pos 0)) tt ∙ f
 
 -- the way from a point of a plane to another lies in the plane
-pub plane-way : (h : Form) (p q : Place) → form_at h p ≡ pos 0 → form_at h q ≡ pos 0 → slope h (toward p q) ≡ pos 0
+pub plane-way : (h : Form) (p q : SpacePoint) → form_at h p ≡ pos 0 → form_at h q ≡ pos 0 → slope h (toward p q) ≡ pos 0
 plane-way h p q e f = follows (h.a ∷ h.b ∷ h.c ∷ h.d ∷ p.x ∷ p.y ∷ p.z ∷ pos p.w ∷ q.x ∷ q.y ∷ q.z ∷ pos q.w ∷ [])
     (at 0 ⊗ (at 8 ⊗ at 7 ⊖ at 4 ⊗ at 11) ⊕ at 1 ⊗ (at 9 ⊗ at 7 ⊖ at 5 ⊗ at 11) ⊕ at 2 ⊗ (at 10 ⊗ at 7 ⊖ at 6 ⊗ at 11)) (num (pos 0))
     (given (num (pos 0) ⊖ at 11) (at 0 ⊗ at 4 ⊕ at 1 ⊗ at 5 ⊕ at 2 ⊗ at 6 ⊕ at 3 ⊗ at 7) (num (pos 0)) e

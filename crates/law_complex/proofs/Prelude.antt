@@ -1,10 +1,10 @@
 -- The names that most proofs cite, passed on from one place. Declares nothing.
-pub use Rattle.law_near.proofs.Prelude.{Drop, EdgeSupport, FacetSupport, Holds, In, InClosedFrame, InFrame, IsBetween, IsEven, IsFlatBelow, IsMixed, IsOnSegment, IsVertex, NearGerm, Out, SameGerms, SamePlace, SameUpToFactor, WayEnd, cases_order, form, form_at, half_side, label_and, label_less, label_one_of, label_or, of_place, parallel-both, sign_at, sign_of_product, sign_times, slide, slope, step, toward, zero_vector}
-pub use Rattle.law_sphere.proofs.Prelude.{Arc, At, Bool, Cone, Decided, Flat, Flat-from_cone, FlatCone-from_flat, FlatDim, Form, Germ, Germ-by_signs, Germ-unique, HasFlat, HasLabel, IsDirection, IsNormal, IsOnCircle, IsOpposite, IsOpposite-same, IsStrictlyOn, IsZero, Item, Keeps, Label, Least, Lies, List, Map, MapLabel, MapVertex, NearLabel, NearPlain, NearStraight, OnItem, Place, Poly, SameDirection, SameDirection-trans, SameDirection-turned, SameSigns, Set, Shaped, Valid, Vector, [], ap, apart, arc_forms, arc_item, arith, at, at_svertex, blend, by_order, by_side, carriers, cond, cross, cross-turned, decided-both, dir-self, dir-signs, dir_of, direction-left, direction-opposite, direction-right, dot, dot-comm, dot-opposite, dot-zero, false, follows, follows_times, forms, germ_of, given, in-span, inl, inr, ints, is-at_first, is-at_none, item_mark, item_neg, item_normal, item_pos, items, label-one, level-way, level_cross_second, mul-pos, mul_le_right, mul_neg, mul_nonneg, mul_pos, nat_abs, neg, neg_ℤ, negsuc, none, normal_of, nought-if, nought-is, nought-or, num, of_direction, opposite, opposite-dot, parallel-in_plane, pos, refl, ring, same-nought, same-off, self-pos, sign-minus, sign-plus, sign-scaled, sloop_item, square-cross, square_pos, subst, suc, sym, triple, triple-dot, triple-middle, triple-turned, true, vector, vector-same, zero, zero-decided, ℕ, ℤ, ⊎_elim, ◌*ℤ◌, ◌*◌, ◌+ℤ◌, ◌+◌, ◌-ℤ◌, ◌<ℤ◌, ◌<◌, ◌↔◌, ◌∙◌, ◌∷◌, ◌≡◌, ◌≤ℤ◌, ◌≤◌, ◌⊎◌, ◌⊕◌, ◌⊖◌, ◌⊗◌}
+pub use Rattle.law_near.proofs.Prelude.{Drop, EdgeSupport, FacetSupport, Holds, In, InClosedFrame, InFrame, IsBetween, IsEven, IsFlatBelow, IsMixed, IsOnSegment, IsVertex, NearGerm, Out, SameGerms, SamePoint, SameUpToFactor, WayEnd, cases_order, form, form_at, half_side, label_and, label_less, label_one_of, label_or, of_point, parallel-both, sign_at, sign_of_product, sign_times, slide, slope, step, toward, zero_vector}
+pub use Rattle.law_sphere.proofs.Prelude.{Arc, Bool, Cone, Decided, Flat, Flat-from_cone, FlatCone-from_flat, FlatDim, Form, Germ, Germ-by_signs, Germ-unique, HasFlat, HasLabel, IsAt, IsDirection, IsNormal, IsOnCircle, IsOpposite, IsOpposite-same, IsStrictlyOn, IsZero, Item, Keeps, Label, Least, Lies, List, Map, MapLabel, MapVertex, NearLabel, NearPlain, NearStraight, OnItem, Poly, SameDirection, SameDirection-trans, SameDirection-turned, SameSigns, Set, Shaped, SpacePoint, Valid, Vector, [], ap, apart, arc_forms, arc_item, arith, at, at_svertex, blend, by_order, by_side, carriers, cond, cross, cross-turned, decided-both, dir-self, dir-signs, dir_of, direction-left, direction-opposite, direction-right, dot, dot-comm, dot-opposite, dot-zero, false, follows, follows_times, forms, germ_of, given, in-span, inl, inr, ints, is-at_first, is-at_none, item_mark, item_neg, item_normal, item_pos, items, label-one, level-way, level_cross_second, mul-pos, mul_le_right, mul_neg, mul_nonneg, mul_pos, nat_abs, neg, neg_ℤ, negsuc, none, normal_of, nought-if, nought-is, nought-or, num, of_direction, opposite, opposite-dot, parallel-in_plane, pos, refl, ring, same-nought, same-off, self-pos, sign-minus, sign-plus, sign-scaled, sloop_item, square-cross, square_pos, subst, suc, sym, triple, triple-dot, triple-middle, triple-turned, true, vector, vector-same, zero, zero-decided, ℕ, ℤ, ⊎_elim, ◌*ℤ◌, ◌*◌, ◌+ℤ◌, ◌+◌, ◌-ℤ◌, ◌<ℤ◌, ◌<◌, ◌↔◌, ◌∙◌, ◌∷◌, ◌≡◌, ◌≤ℤ◌, ◌≤◌, ◌⊎◌, ◌⊕◌, ◌⊖◌, ◌⊗◌}
 pub use Rattle.std.proofs.Common.{Decides, ◌&&◌}
 pub use Rattle.nef_space.proofs.Order.{cancel_le, minus-of, nonneg-of, plus-of}
 pub use Rattle.nef_space.proofs.Vectors.{opposite-same}
-pub use Rattle.nef_space.specs.Place.{IsAhead, plane_through}
+pub use Rattle.nef_space.specs.Points.{IsAhead, plane_through}
 pub use Rattle.nef_space.specs.Signs.{Sign, minus, nought, plus, sign}
 pub use Rattle.nef_space.specs.Vectors.{beside_x, beside_y, plane_axis, up}
 pub use Rattle.law_near.proofs.Alike.{Flat-by_germs, FlatDim-by_germs, FlatDim-one, HasFlat-fewer, flat-germ, germs-by_cell}
@@ -16,9 +16,9 @@ pub use Rattle.law_near.proofs.Even.{even-germs, flat-nearby, flat-toward, germ-
 pub use Rattle.law_near.proofs.FlatDecided.{flat-by_signs, flat_dim-of, near-by_signs, near-of_flat}
 pub use Rattle.law_near.proofs.Flats.{germ-toward, slope-slide}
 pub use Rattle.law_near.proofs.Germs.{Label-cells}
-pub use Rattle.law_near.proofs.Mixed.{between-same, factor-place, from-start, place-factor, place-toward, toward-place}
+pub use Rattle.law_near.proofs.Mixed.{between-same, factor-point, from-start, point-factor, point-toward, toward-point}
 pub use Rattle.law_near.proofs.Near.{reach_all, slope-toward}
-pub use Rattle.law_near.proofs.Rays.{Germ-zero, same-place_sym, sign-same, signs-same, slope-same}
+pub use Rattle.law_near.proofs.Rays.{Germ-zero, same-point_sym, sign-same, signs-same, slope-same}
 pub use Rattle.law_near.proofs.Sums.{before-at-after, form-mix, form-sum, mixed-mix, past-mixed, same-trans}
 pub use Rattle.law_near.proofs.Supports.{edge-support, facet-support, flat-line, flat-plane}
 pub use Rattle.law_sphere.proofs.Arcs.{Ends, at-arc, ends-of, level-same}

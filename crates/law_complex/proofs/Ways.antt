@@ -1,8 +1,8 @@
 -- Directions from point to point along a segment.
-use Rattle.law_complex.proofs.Prelude.{◌≡◌, ℕ, ◌*◌, ℤ, pos, neg_ℤ, ◌+ℤ◌, ◌-ℤ◌, ◌*ℤ◌, arith, refl, ◌⊎◌, inl, inr, ⊎_elim, ◌∷◌, [], mul-pos, ring, at, num, neg, ◌⊕◌, ◌⊖◌, ◌⊗◌, ints, given, none, follows, Place, step, SamePlace, toward, IsBetween, Vector, SameDirection, IsDirection, SameUpToFactor, of_place, of_direction, from-start, place-factor, factor-place, same-trans, past-mixed, before-at-after, factor-same, mixed-of, between-of, between-turned, between-inner, SameDirection-turned, SameDirection-trans, direction-left, direction-right}
+use Rattle.law_complex.proofs.Prelude.{◌≡◌, ℕ, ◌*◌, ℤ, pos, neg_ℤ, ◌+ℤ◌, ◌-ℤ◌, ◌*ℤ◌, arith, refl, ◌⊎◌, inl, inr, ⊎_elim, ◌∷◌, [], mul-pos, ring, at, num, neg, ◌⊕◌, ◌⊖◌, ◌⊗◌, ints, given, none, follows, SpacePoint, step, SamePoint, toward, IsBetween, Vector, SameDirection, IsDirection, SameUpToFactor, of_point, of_direction, from-start, point-factor, factor-point, same-trans, past-mixed, before-at-after, factor-same, mixed-of, between-of, between-turned, between-inner, SameDirection-turned, SameDirection-trans, direction-left, direction-right}
 
 -- from p the point u between p and q lies in the direction of q
-pub between-way : (p u q : Place) → IsBetween p u q → SameDirection (toward p u) (toward p q)
+pub between-way : (p u q : SpacePoint) → IsBetween p u q → SameDirection (toward p u) (toward p q)
 between-way p u q b =
     let m = mixed-of p u q b in
     let f : SameUpToFactor (of_direction (toward p u)) (of_direction (toward p q)) = record {
@@ -18,46 +18,46 @@ between-way p u q b =
     factor-same (toward p u) (toward p q) f (direction-left (toward p u) (toward u q) b)
 
 -- with r between p and q, and u between p and r, r lies between u and q
-pub between-rest : (p u r q : Place) → IsBetween p u r → IsBetween p r q → IsBetween u r q
+pub between-rest : (p u r q : SpacePoint) → IsBetween p u r → IsBetween p r q → IsBetween u r q
 between-rest p u r q b c =
     SameDirection-trans (toward u r) (toward p u) (toward r q) (SameDirection-turned (toward p u) (toward u r) b)
     (SameDirection-trans (toward p u) (toward p r) (toward r q) (between-way p u r b) c)
 
 -- what is between u and q, with u between p and q, is between p and q
-pub between-outer : (p u r q : Place) → IsBetween p u q → IsBetween u r q → IsBetween p r q
+pub between-outer : (p u r q : SpacePoint) → IsBetween p u q → IsBetween u r q → IsBetween p r q
 between-outer p u r q b c = between-turned q p r (between-inner q u p r (between-turned p q u b) (between-turned u q r c))
 
 -- the ends of a segment with a point between are different points
-pub between-ends : (p u q : Place) → IsBetween p u q → IsDirection (toward p q)
+pub between-ends : (p u q : SpacePoint) → IsBetween p u q → IsDirection (toward p q)
 between-ends p u q b = direction-right (toward p u) (toward p q) (between-way p u q b)
 
-pub between-start : (p u q : Place) → IsBetween p u q → IsDirection (toward p u)
+pub between-start : (p u q : SpacePoint) → IsBetween p u q → IsDirection (toward p u)
 between-start p u q b = direction-left (toward p u) (toward u q) b
 
 -- each point is the same as itself
-pub same-itself : (p : Place) → SamePlace p p
+pub same-itself : (p : SpacePoint) → SamePoint p p
 same-itself p = record { along_x = refl; along_y = refl; along_z = refl }
 
-pub same-place_trans : (p q r : Place) → SamePlace p q → SamePlace q r → SamePlace p r
-same-place_trans p q r e f = factor-place p r (same-trans (of_place p) (of_place q) (of_place r) (place-factor p q e) (place-factor q r f))
+pub same-point_trans : (p q r : SpacePoint) → SamePoint p q → SamePoint q r → SamePoint p r
+same-point_trans p q r e f = factor-point p r (same-trans (of_point p) (of_point q) (of_point r) (point-factor p q e) (point-factor q r f))
 
 -- with m between p and q, a point between p and q is before, at or after m
-pub between-cases : (p m q r : Place) → IsBetween p m q → IsBetween p r q → IsBetween p r m ⊎ SamePlace r m ⊎ IsBetween m r q
+pub between-cases : (p m q r : SpacePoint) → IsBetween p m q → IsBetween p r q → IsBetween p r m ⊎ SamePoint r m ⊎ IsBetween m r q
 between-cases p m q r b c =
-    let t = past-mixed (of_place p) (of_place m) (of_place q) (mixed-of p m q b) in
+    let t = past-mixed (of_point p) (of_point m) (of_point q) (mixed-of p m q b) in
     let u = mixed-of p r q c in
     ⊎_elim
     (λ l. inl (between-of p r m (direction-left (toward p m) (toward m q) b) l))
     (λ o. ⊎_elim
-    (λ e. inr (inl (factor-place r m e)))
+    (λ e. inr (inl (factor-point r m e)))
     (λ l. inr (inr (between-of m r q (direction-right (toward p m) (toward m q) b) l))) o)
-    (before-at-after (of_place p) (of_place q) (of_place m) (of_place r) t u)
+    (before-at-after (of_point p) (of_point q) (of_point m) (of_point r) t u)
 
 -- p + d
-abbrev pub onward : Place → Vector → Place
+abbrev pub onward : SpacePoint → Vector → SpacePoint
 onward p d = step p (record { a = pos 1; b = 1; proper = omega arith }) d
 
-pub onward-way : (p : Place) (d : Vector) → IsDirection d → SameDirection (toward p (onward p d)) d
+pub onward-way : (p : SpacePoint) (d : Vector) → IsDirection d → SameDirection (toward p (onward p d)) d
 onward-way p d i = SameDirection-turned d (toward p (onward p d)) (factor-same d (toward p (onward p d)) (record {
   k = p.w * p.w;
   l = 1;

@@ -1,5 +1,5 @@
 -- The map of a labelling, put together from its svertices, arcs and sloop.
-use Rattle.law_cones.proofs.Prelude.{◌≡◌, ℕ, pos, refl, sym, ◌∙◌, ◌⊎◌, inl, inr, ⊎_elim, List, ◌++◌, subst, Option, Some, None, [], none-some, same_Some, lies-left, lies-right, Vector, IsDirection, cross, dot, SameDirection, IsNormal, Label, Decided, IsStrictlyOn, IsPrimitive, At, MapVertex, Arc, MapSloop, Map, Item, arc_item, sloop_item, items, item_normal, dir_of, OnItem, ArcBetween, HasArc, axes, Ordered, Labelling, Near, StraightAfter, IsBuilt, Kept, lowest-same, sloop-at, Axial, labelling-more, SameDirection-turned, none-at, none-empty}
+use Rattle.law_cones.proofs.Prelude.{◌≡◌, ℕ, pos, refl, sym, ◌∙◌, ◌⊎◌, inl, inr, ⊎_elim, List, ◌++◌, subst, Option, Some, None, [], none-some, same_Some, lies-left, lies-right, Vector, IsDirection, cross, dot, SameDirection, IsNormal, Label, Decided, IsStrictlyOn, IsPrimitive, IsAt, MapVertex, Arc, MapSloop, Map, Item, arc_item, sloop_item, items, item_normal, dir_of, OnItem, ArcBetween, HasArc, axes, Ordered, Labelling, Near, StraightAfter, IsBuilt, NoneSmooth, lowest-same, sloop-at, Axial, labelling-more, SameDirection-turned, none-at, none-empty}
 use Rattle.law_sphere.proofs.Shot.{dir-at, arc-at}
 use Rattle.law_sphere.proofs.Unique.{HasArc-decided, beside-d}
 use Rattle.law_cones.proofs.Listing.{Mapped, map-list}
@@ -15,7 +15,7 @@ use Rattle.law_cones.proofs.Ground.{Ground, ground}
 pub record BuiltMap (F : Vector → Label → Type 0) (mark : Label) : Type 0 where
   pub map : Map
   pub built : IsBuilt map F
-  pub kept : Kept map F
+  pub kept : NoneSmooth map F
   pub ordered : Ordered map
   pub marked : map.mark ≡ mark
 
@@ -37,7 +37,7 @@ module _ (gs : List Vector) (F : Vector → Label → Type 0) (L : Labelling gs 
   abbrev bare : Map
   bare = record { mark = mark; svertices = []; arcs = A.list; sloop = None; ground = None }
 
-  shown : (k : ℕ) (w : Vector) → At W.list k w → (v : MapVertex) × Shown k w v
+  shown : (k : ℕ) (w : Vector) → IsAt W.list k w → (v : MapVertex) × Shown k w v
   shown k w h = by (HasArc-decided bare k) (L.exists w hw) (beside-d w hw)
     where
       hw : IsDirection w
@@ -61,45 +61,45 @@ module _ (gs : List Vector) (F : Vector → Label → Type 0) (L : Labelling gs 
   abbrev M : Map
   M = record { mark = mark; svertices = svertices.list; arcs = A.list; sloop = S.sloop; ground = K.label }
 
-  shows : (k : ℕ) (v : MapVertex) → At svertices.list k v → Shown k v.dir v
+  shows : (k : ℕ) (v : MapVertex) → IsAt svertices.list k v → Shown k v.dir v
   shows k v a = let r = svertices.sound k v a in subst (λ (w : Vector). Shown k w v) (sym r.2.dir) r.2
 
-  listed : (k : ℕ) (v : MapVertex) → At svertices.list k v → At W.list k v.dir
-  listed k v a = let r = svertices.sound k v a in subst (At W.list k) (sym r.2.dir) r.1
+  listed : (k : ℕ) (v : MapVertex) → IsAt svertices.list k v → IsAt W.list k v.dir
+  listed k v a = let r = svertices.sound k v a in subst (IsAt W.list k) (sym r.2.dir) r.1
 
-  at-dir : (k : ℕ) (w : Vector) → At W.list k w → (v : MapVertex) × At svertices.list k v × (v.dir ≡ w)
+  at-dir : (k : ℕ) (w : Vector) → IsAt W.list k w → (v : MapVertex) × IsAt svertices.list k v × (v.dir ≡ w)
   at-dir k w h = let r = svertices.all k w h in (r.0, r.1, r.2.dir)
 
-  dir-is : (k : ℕ) (w : Vector) → At W.list k w → dir_of svertices.list k ≡ w
+  dir-is : (k : ℕ) (w : Vector) → IsAt W.list k w → dir_of svertices.list k ≡ w
   dir-is k w h = let r = at-dir k w h in dir-at svertices.list k r.0 r.1 ∙ r.2
 
   -- the svertices decide the directions without them
-  off-dirs : (n : Vector) → ((k : ℕ) (v : MapVertex) → At svertices.list k v → dot n v.dir ≡ pos 0 → ⊥) → (k : ℕ) (w : Vector) → At W.list k w → dot n w ≡ pos 0 → ⊥
+  off-dirs : (n : Vector) → ((k : ℕ) (v : MapVertex) → IsAt svertices.list k v → dot n v.dir ≡ pos 0 → ⊥) → (k : ℕ) (w : Vector) → IsAt W.list k w → dot n w ≡ pos 0 → ⊥
   off-dirs n f k w h z = let r = at-dir k w h in f k r.0 r.1 (subst (λ (u : Vector). dot n u ≡ pos 0) (sym r.2) z)
 
   -- ---- items
-  an_arc : (k : ℕ) (a : Arc) → At (items M) k (arc_item a) → IsArc gs F L axial W a
+  an_arc : (k : ℕ) (a : Arc) → IsAt (items M) k (arc_item a) → IsArc gs F L axial W a
   an_arc k a h = A.each k a (arc-at A.list S.sloop k a h)
 
-  a_sloop : (k : ℕ) (l : MapSloop) → At (items M) k (sloop_item l) → IsSloop gs F L axial W l
+  a_sloop : (k : ℕ) (l : MapSloop) → IsAt (items M) k (sloop_item l) → IsSloop gs F L axial W l
   a_sloop k l h = S.each l (sloop-at A.list S.sloop k l h)
 
-  normals : (k : ℕ) (x : Item) → At (items M) k x → IsNormal (item_normal x)
+  normals : (k : ℕ) (x : Item) → IsAt (items M) k x → IsNormal (item_normal x)
   normals k (arc_item a) h = (an_arc k a h).normal
   normals k (sloop_item l) h = (a_sloop k l h).normal
 
-  lowest_normals : (k : ℕ) (x : Item) → At (items M) k x → IsPrimitive (item_normal x)
+  lowest_normals : (k : ℕ) (x : Item) → IsAt (items M) k x → IsPrimitive (item_normal x)
   lowest_normals k (arc_item a) h = (an_arc k a h).primitive
   lowest_normals k (sloop_item l) h = (a_sloop k l h).primitive
 
-  no-svertex : (i k : ℕ) (v : MapVertex) (x : Item) → At svertices.list i v → At (items M) k x → OnItem M x v.dir → ⊥
+  no-svertex : (i k : ℕ) (v : MapVertex) (x : Item) → IsAt svertices.list i v → IsAt (items M) k x → OnItem M x v.dir → ⊥
   no-svertex i k v (arc_item a) b h o =
       let e = an_arc k a h in
       e.clear i v.dir (listed i v b) (subst (λ (t : Vector). IsStrictlyOn a.normal e.source t v.dir) (dir-is a.target e.target e.has_target)
       (subst (λ (s : Vector). IsStrictlyOn a.normal s (dir_of svertices.list a.target) v.dir) (dir-is a.source e.source e.has_source) o))
   no-svertex i k v (sloop_item l) b h o = (a_sloop k l h).clear i v.dir (listed i v b) o.level
 
-  between : (k : ℕ) (a : Arc) → At A.list k a → ArcBetween M a
+  between : (k : ℕ) (a : Arc) → IsAt A.list k a → ArcBetween M a
   between k a h =
       let e = A.each k a h in
       let s = at-dir a.source e.source e.has_source in
@@ -113,17 +113,17 @@ module _ (gs : List Vector) (F : Vector → Label → Type 0) (L : Labelling gs 
         level_target = subst (λ (u : Vector). dot a.normal u ≡ pos 0) (sym t.2) e.level_target;
       }
 
-  after-source : (k : ℕ) (a : Arc) → At A.list k a → StraightAfter F a.normal a.pos a.mark a.neg (dir_of svertices.list a.source)
+  after-source : (k : ℕ) (a : Arc) → IsAt A.list k a → StraightAfter F a.normal a.pos a.mark a.neg (dir_of svertices.list a.source)
   after-source k a h = let e = A.each k a h in subst (StraightAfter F a.normal a.pos a.mark a.neg) (sym (dir-is a.source e.source e.has_source)) e.labels
 
   -- ---- the faces round svertices
-  around-lone : (k : ℕ) (v : MapVertex) → At svertices.list k v → (HasArc M k → ⊥) → (m : Label) × (v.around ≡ Some m)
+  around-lone : (k : ℕ) (v : MapVertex) → IsAt svertices.list k v → (HasArc M k → ⊥) → (m : Label) × (v.around ≡ Some m)
   around-lone k v a f = ⊎_elim (λ x. absurd (f x.0)) (λ l. (l.label, l.is)) (shows k v a).around
 
-  around-not : (k : ℕ) (v : MapVertex) → At svertices.list k v → HasArc M k → v.around ≡ None
+  around-not : (k : ℕ) (v : MapVertex) → IsAt svertices.list k v → HasArc M k → v.around ≡ None
   around-not k v a x = ⊎_elim (λ y. y.1) (λ l. absurd (l.lone x)) (shows k v a).around
 
-  around-near : (k : ℕ) (v : MapVertex) (m : Label) (e : Vector) → At svertices.list k v → v.around ≡ Some m → IsDirection (cross v.dir e) → Near F v.dir e m
+  around-near : (k : ℕ) (v : MapVertex) (m : Label) (e : Vector) → IsAt svertices.list k v → v.around ≡ Some m → IsDirection (cross v.dir e) → Near F v.dir e m
   around-near k v m e a q off = ⊎_elim
       (λ y. absurd (none-some m (sym y.1 ∙ q)))
       (λ l. subst (Near F v.dir e) (same_Some l.label m (sym l.is ∙ q)) (l.near e off))
@@ -156,7 +156,7 @@ module _ (gs : List Vector) (F : Vector → Label → Type 0) (L : Labelling gs 
     ground_label = λ m d q h. K.everywhere m d q h;
   }
     where
-      same-normals : (i k : ℕ) (a b : Arc) → At A.list i a → At A.list k b → SameDirection a.normal b.normal → a.normal ≡ b.normal
+      same-normals : (i k : ℕ) (a b : Arc) → IsAt A.list i a → IsAt A.list k b → SameDirection a.normal b.normal → a.normal ≡ b.normal
       same-normals i k a b x y w = lowest-same a.normal b.normal w (A.each i a x).primitive (A.each k b y).primitive
 
   pub assembled : BuiltMap F mark

@@ -1,9 +1,9 @@
 -- Every point has a least map of every set, and every operation on two maps has one.
-use Rattle.law_cones.proofs.Prelude.{◌≡◌, sym, ◌↔◌, ◌++◌, subst, Place, Vector, IsDirection, Set, Label, HasLabel, Germ, carriers, label_of, Map, MapLabel, Valid, forms, Least, Ordered, Cone, ByOp, op-build, set-build}
+use Rattle.law_cones.proofs.Prelude.{◌≡◌, sym, ◌↔◌, ◌++◌, subst, SpacePoint, Vector, IsDirection, Set, Label, HasLabel, Germ, carriers, label_of, Map, MapLabel, Valid, forms, Least, Ordered, Cone, ByOp, op-build, set-build}
 use Rattle.law_sphere.proofs.Labellings.{normals_of, germ-labelling, op-labelling}
 use Rattle.law_cones.proofs.Assembled.{labelling-map}
 
-pub point-map : (s : Set) (p : Place) → (M : Map) × Cone M s p × Least M × Ordered M
+pub point-map : (s : Set) (p : SpacePoint) → (M : Map) × Cone M s p × Least M × Ordered M
 point-map s p = by (label_of s p)
   where
     by : ((m : Label) × HasLabel s p m) → (M : Map) × Cone M s p × Least M × Ordered M

@@ -1,5 +1,5 @@
 -- The svertices of a labelling: in order, the directions in lowest terms that are neither plain nor straight; and the planes of the forms.
-use Rattle.law_cones.proofs.Prelude.{◌≡◌, ℕ, pos, arith, refl, ◌⊎◌, inl, inr, ⊎_elim, List, subst, ints, cases_lt, pairs, lies-pairs, Lies, Vector, IsDirection, cross, dot, IsZero, SameDirection, IsNormal, opposite, Label, Decided, decided-both, IsPrimitive, VectorBelow, At, InOrder, Labelling, IsSmooth, normal-direction, below-itself, Found, search_list, lies-at, at-lies, direction-decided, normals-same, lowest-same, Axial, nought-or, SameDirection-turned, SameDirection-trans, direction-right, parallel-trans, opposite-cross, cross-turned, dot-opposite, opposite-dot, parallel-opposite, normal-either}
+use Rattle.law_cones.proofs.Prelude.{◌≡◌, ℕ, pos, arith, refl, ◌⊎◌, inl, inr, ⊎_elim, List, subst, ints, cases_lt, pairs, lies-pairs, Lies, Vector, IsDirection, cross, dot, IsZero, SameDirection, IsNormal, opposite, Label, Decided, decided-both, IsPrimitive, VectorBelow, IsAt, InOrder, Labelling, IsSmooth, normal-direction, below-itself, Found, search_list, lies-at, at-lies, direction-decided, normals-same, lowest-same, Axial, nought-or, SameDirection-turned, SameDirection-trans, direction-right, parallel-trans, opposite-cross, cross-turned, dot-opposite, opposite-dot, parallel-opposite, normal-either}
 use Rattle.law_cyclic.proofs.Directions.{two_meets}
 use Rattle.law_cones.proofs.Listing.{Collected, collect, Sorted, sort, chain-order}
 use Rattle.law_cones.proofs.Lowest.{Lowest, lowest, below-trans, below-either}
@@ -7,7 +7,7 @@ use Rattle.law_cones.proofs.Smooth.{FormOf, smooth-off}
 use Rattle.law_cones.proofs.SmoothDecided.{smooth-decided, smooth-same}
 
 -- no direction of an ordered list stands twice
-pub order-one : (ws : List Vector) → InOrder VectorBelow ws → (i k : ℕ) (w : Vector) → At ws i w → At ws k w → i ≡ k
+pub order-one : (ws : List Vector) → InOrder VectorBelow ws → (i k : ℕ) (w : Vector) → IsAt ws i w → IsAt ws k w → i ≡ k
 order-one ws o i k w a b = ⊎_elim
     (λ l. absurd (below-itself w (o i k w w l a b)))
     (λ l. ⊎_elim (λ m. absurd (below-itself w (o k i w w m b a))) (λ m. omega arith) (cases_lt k i))
@@ -62,13 +62,13 @@ module _ (gs : List Vector) (F : Vector → Label → Type 0) (L : Labelling gs 
   pub record Dirs : Type 0 where
     pub list : List Vector
     pub order : InOrder VectorBelow list
-    pub primitive : (k : ℕ) (w : Vector) → At list k w → IsPrimitive w
-    pub direction : (k : ℕ) (w : Vector) → At list k w → IsDirection w
-    pub rough : (k : ℕ) (w : Vector) → At list k w → IsSmooth F w → ⊥
-    pub all : (d : Vector) → IsDirection d → (IsSmooth F d → ⊥) → (k : ℕ) × (w : Vector) × At list k w × SameDirection d w
+    pub primitive : (k : ℕ) (w : Vector) → IsAt list k w → IsPrimitive w
+    pub direction : (k : ℕ) (w : Vector) → IsAt list k w → IsDirection w
+    pub rough : (k : ℕ) (w : Vector) → IsAt list k w → IsSmooth F w → ⊥
+    pub all : (d : Vector) → IsDirection d → (IsSmooth F d → ⊥) → (k : ℕ) × (w : Vector) × IsAt list k w × SameDirection d w
 
-  pub dirs-one : (W : Dirs) (i k : ℕ) (u w : Vector) → At W.list i u → At W.list k w → SameDirection u w → i ≡ k
-  dirs-one W i k u w a b s = order-one W.list W.order i k w (subst (At W.list i) (lowest-same u w s (W.primitive i u a) (W.primitive k w b)) a) b
+  pub dirs-one : (W : Dirs) (i k : ℕ) (u w : Vector) → IsAt W.list i u → IsAt W.list k w → SameDirection u w → i ≡ k
+  dirs-one W i k u w a b s = order-one W.list W.order i k w (subst (IsAt W.list i) (lowest-same u w s (W.primitive i u a) (W.primitive k w b)) a) b
 
   -- two forms whose planes cross at d
   pub record Crossing (d : Vector) : Type 0 where
@@ -98,7 +98,7 @@ module _ (gs : List Vector) (F : Vector → Label → Type 0) (L : Labelling gs 
         cases g h a b (inl s) = record { first = g; second = h; first_listed = a; second_listed = b; same = s }
         cases g h a b (inr s) = record { first = h; second = g; first_listed = b; second_listed = a; same = subst (λ (v : Vector). SameDirection v d) (opposite-cross g h) s }
 
-        by : Found gs (λ i g. Crossed g) ⊎ ((i : ℕ) (g : Vector) → At gs i g → Crossed g → ⊥) → Crossing d
+        by : Found gs (λ i g. Crossed g) ⊎ ((i : ℕ) (g : Vector) → IsAt gs i g → Crossed g → ⊥) → Crossing d
         by (inl f) =
             let g = f.element in
             let h = f.holds.element in
@@ -145,5 +145,5 @@ module _ (gs : List Vector) (F : Vector → Label → Type 0) (L : Labelling gs 
                 (k.0, s.0, k.1, subst (SameDirection d) s.2 (SameDirection-trans d v g.0 (SameDirection-turned v d x.same) g.2.0));
           }
             where
-              gives : (k : ℕ) (w : Vector) → At r.list k w → (v : Vector) × Gives v w
+              gives : (k : ℕ) (w : Vector) → IsAt r.list k w → (v : Vector) × Gives v w
               gives k w a = let g = c.sound w (r.sound w (at-lies r.list k w a)) in (g.0, g.2)

@@ -1,8 +1,8 @@
 -- Lists of exactly the elements that are wanted, in order.
-use Rattle.law_cones.proofs.Prelude.{◌≡◌, ℕ, zero, suc, arith, refl, sym, ◌⊎◌, inl, inr, ⊎_elim, List, ◌∷◌, subst, [], Lies, each, lies-each, At, InOrder, at-lies, is-at_none, is-at_first}
+use Rattle.law_cones.proofs.Prelude.{◌≡◌, ℕ, zero, suc, arith, refl, sym, ◌⊎◌, inl, inr, ⊎_elim, List, ◌∷◌, subst, [], Lies, each, lies-each, IsAt, InOrder, at-lies, is-at_none, is-at_first}
 
 -- ---- places
-pub at-or : {A : Type 0} (xs : List A) (k : ℕ) → ((x : A) × At xs k x) ⊎ ((x : A) → At xs k x → ⊥)
+pub at-or : {A : Type 0} (xs : List A) (k : ℕ) → ((x : A) × IsAt xs k x) ⊎ ((x : A) → IsAt xs k x → ⊥)
 at-or [] k = inr (λ x a. is-at_none a)
 at-or (y ∷ ys) zero = inl (y, refl)
 at-or (y ∷ ys) (suc k) = at-or ys k
@@ -12,7 +12,7 @@ abbrev pub numbers : {A : Type 0} → List A → List ℕ
 numbers [] = []
 numbers (y ∷ ys) = zero ∷ each suc (numbers ys)
 
-pub at-number : {A : Type 0} (xs : List A) (k : ℕ) (x : A) → At xs k x → Lies (numbers xs) k
+pub at-number : {A : Type 0} (xs : List A) (k : ℕ) (x : A) → IsAt xs k x → Lies (numbers xs) k
 at-number [] k x a = absurd (is-at_none a)
 at-number (y ∷ ys) zero x e = inl refl
 at-number (y ∷ ys) (suc k) x a = inr (lies-each suc (numbers ys) k (at-number ys k x a))
@@ -20,21 +20,21 @@ at-number (y ∷ ys) (suc k) x a = inr (lies-each suc (numbers ys) k (at-number 
 -- ---- one for each element, at the same place
 pub record Mapped {X A : Type 0} (xs : List X) (S : ℕ → X → A → Type 0) : Type 0 where
   pub list : List A
-  pub sound : (k : ℕ) (a : A) → At list k a → (x : X) × At xs k x × S k x a
-  pub all : (k : ℕ) (x : X) → At xs k x → (a : A) × At list k a × S k x a
+  pub sound : (k : ℕ) (a : A) → IsAt list k a → (x : X) × IsAt xs k x × S k x a
+  pub all : (k : ℕ) (x : X) → IsAt xs k x → (a : A) × IsAt list k a × S k x a
 
-pub map-list : {X A : Type 0} (xs : List X) (S : ℕ → X → A → Type 0) → ((k : ℕ) (x : X) → At xs k x → (a : A) × S k x a) → Mapped xs S
+pub map-list : {X A : Type 0} (xs : List X) (S : ℕ → X → A → Type 0) → ((k : ℕ) (x : X) → IsAt xs k x → (a : A) × S k x a) → Mapped xs S
 map-list [] S f = record { list = []; sound = λ k a l. absurd (is-at_none l); all = λ k x l. absurd (is-at_none l) }
 map-list {X} {A} (y ∷ ys) S f = by (f zero y refl) (map-list ys (λ k x a. S (suc k) x a) (λ k x l. f (suc k) x l))
   where
     by : ((a : A) × S zero y a) → Mapped ys (λ k x a. S (suc k) x a) → Mapped (y ∷ ys) S
     by (b, s) r = record { list = b ∷ r.list; sound = sound; all = all }
       where
-        sound : (k : ℕ) (a : A) → At (b ∷ r.list) k a → (x : X) × At (y ∷ ys) k x × S k x a
+        sound : (k : ℕ) (a : A) → IsAt (b ∷ r.list) k a → (x : X) × IsAt (y ∷ ys) k x × S k x a
         sound zero a e = (y, refl, subst (S zero y) (is-at_first e) s)
         sound (suc k) a l = r.sound k a l
 
-        all : (k : ℕ) (x : X) → At (y ∷ ys) k x → (a : A) × At (b ∷ r.list) k a × S k x a
+        all : (k : ℕ) (x : X) → IsAt (y ∷ ys) k x → (a : A) × IsAt (b ∷ r.list) k a × S k x a
         all zero x e = (b, refl, subst (λ (z : X). S zero z b) (is-at_first e) s)
         all (suc k) x l = r.all k x l
 

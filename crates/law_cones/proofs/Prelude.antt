@@ -1,6 +1,6 @@
 -- The names that most proofs cite, passed on from one place. Declares nothing.
 pub use Rattle.law_near.proofs.Prelude.{by_lt_z, sign_of_product, triple-cycle}
-pub use Rattle.law_sphere.proofs.Prelude.{Arc, ArcBelow, At, ByOp, Cone, Decided, Germ, HasArc, HasLabel, InOrder, IsBuilt, IsDirection, IsNormal, IsOnCircle, IsOpposite, IsPrimitive, IsSmooth, IsStrictlyOn, IsZero, Item, Kept, Label, Labelling, Least, Lies, List, Map, MapLabel, MapSloop, MapVertex, Near, None, OnItem, Option, Ordered, Place, Plain, Proper, SameDirection, SameDirection-trans, SameDirection-turned, SameSigns, Set, Sign, Some, StraightAfter, StraightAt, Valid, Vector, VectorBelow, [], ap, arc_item, arith, at, axes, blend, by_order, by_side, cancel_eq, cancel_lt, carriers, cases_lt, cross, cross-turned, cross_of, decided-both, dir-self, dir-signs, dir_of, direction-left, direction-opposite, direction-right, dot, dot-comm, dot-opposite, dot-scaled, dot-zero, dot_of, dot_poly, each, follows, forms, given, in-span, inl, inr, ints, is-at_first, is-at_none, item_normal, items, level-both, level-opposite, level-opposite-back, level_cross_second, lies-each, lies-left, lies-right, minus, mul_pos, nat_abs, neg, negsuc, none, nought, nought-if, nought-is, nought-or, num, numbers, opposite, opposite-cross, opposite-dot, opposite-twice, parallel-in_plane, parallel-trans, plain, plus, pos, refl, ring, same-nought, self-pos, sign, sign-minus, sign-plus, sign-scaled, sloop_item, square-cross, straight, subst, suc, sym, triple, triple-dot, triple-turned, vec, vector, vector-same, zero, zero-decided, zero-dot, ℕ, ℤ, ⊎_elim, ◌*ℤ◌, ◌++◌, ◌+ℤ◌, ◌+◌, ◌-ℤ◌, ◌<ℤ◌, ◌<◌, ◌↔◌, ◌∙◌, ◌∷◌, ◌≡◌, ◌≤ℤ◌, ◌≤◌, ◌⊎◌, ◌⊕◌, ◌⊖◌, ◌⊗◌}
+pub use Rattle.law_sphere.proofs.Prelude.{Arc, ArcBelow, ByOp, Cone, Decided, Germ, HasArc, HasLabel, InOrder, IsAt, IsBuilt, IsDirection, IsNormal, IsOnCircle, IsOpposite, IsPrimitive, IsSmooth, IsStrictlyOn, IsZero, Item, Label, Labelling, Least, Lies, List, Map, MapLabel, MapSloop, MapVertex, Near, None, NoneSmooth, OnItem, Option, Ordered, Plain, Proper, SameDirection, SameDirection-trans, SameDirection-turned, SameSigns, Set, Sign, Some, SpacePoint, StraightAfter, StraightAt, Valid, Vector, VectorBelow, [], ap, arc_item, arith, at, axes, blend, by_order, by_side, cancel_eq, cancel_lt, carriers, cases_lt, cross, cross-turned, cross_of, decided-both, dir-self, dir-signs, dir_of, direction-left, direction-opposite, direction-right, dot, dot-comm, dot-opposite, dot-scaled, dot-zero, dot_of, dot_poly, each, follows, forms, given, in-span, inl, inr, ints, is-at_first, is-at_none, item_normal, items, level-both, level-opposite, level-opposite-back, level_cross_second, lies-each, lies-left, lies-right, minus, mul_pos, nat_abs, neg, negsuc, none, nought, nought-if, nought-is, nought-or, num, numbers, opposite, opposite-cross, opposite-dot, opposite-twice, parallel-in_plane, parallel-trans, plain, plus, pos, refl, ring, same-nought, self-pos, sign, sign-minus, sign-plus, sign-scaled, sloop_item, square-cross, straight, subst, suc, sym, triple, triple-dot, triple-turned, vec, vector, vector-same, zero, zero-decided, zero-dot, ℕ, ℤ, ⊎_elim, ◌*ℤ◌, ◌++◌, ◌+ℤ◌, ◌+◌, ◌-ℤ◌, ◌<ℤ◌, ◌<◌, ◌↔◌, ◌∙◌, ◌∷◌, ◌≡◌, ◌≤ℤ◌, ◌≤◌, ◌⊎◌, ◌⊕◌, ◌⊖◌, ◌⊗◌}
 pub use Rattle.std.proofs.lemmas.Option.{none-some, same_Some}
 pub use Rattle.nef_space.proofs.Lists.{lies-pairs, pairs}
 pub use Rattle.nef_space.proofs.Order.{sign_times}

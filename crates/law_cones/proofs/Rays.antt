@@ -1,5 +1,5 @@
 -- The arcs of a labelling: one from each svertex along each circle that is needed close after it, to the first svertex; in order.
-use Rattle.law_cones.proofs.Prelude.{◌≡◌, ℕ, pos, arith, refl, sym, ◌∙◌, ◌⊎◌, inl, inr, ⊎_elim, List, subst, cases_lt, pairs, lies-pairs, Vector, dot, SameDirection, IsNormal, Label, Decided, IsStrictlyOn, IsPrimitive, VectorBelow, At, Arc, ArcBelow, InOrder, Labelling, StraightAfter, Proper, normal-direction, below-itself, at-one, lies-at, at-lies, level-same, First, first-after, Axial, nought-or, dir-self}
+use Rattle.law_cones.proofs.Prelude.{◌≡◌, ℕ, pos, arith, refl, sym, ◌∙◌, ◌⊎◌, inl, inr, ⊎_elim, List, subst, cases_lt, pairs, lies-pairs, Vector, dot, SameDirection, IsNormal, Label, Decided, IsStrictlyOn, IsPrimitive, VectorBelow, IsAt, Arc, ArcBelow, InOrder, Labelling, StraightAfter, Proper, normal-direction, below-itself, at-one, lies-at, at-lies, level-same, First, first-after, Axial, nought-or, dir-self}
 use Rattle.law_cones.proofs.Listing.{at-or, numbers, at-number, Collected, collect, Sorted, sort, chain-order}
 use Rattle.law_cones.proofs.Lowest.{below-trans, below-either}
 use Rattle.law_cones.proofs.Smooth.{proper-decided}
@@ -35,7 +35,7 @@ same-normal : (n p : Vector) (a b : Arc) → SameArc a b → a.normal ≡ p → 
 same-normal n p a b s e w = subst (SameDirection n) (sym e ∙ s.0) w
 
 -- no normal stands twice with one source
-pub arc-one : (as' : List Arc) → InOrder ArcBelow as' → (i k : ℕ) (a b : Arc) → At as' i a → At as' k b → SameArc a b → i ≡ k
+pub arc-one : (as' : List Arc) → InOrder ArcBelow as' → (i k : ℕ) (a b : Arc) → IsAt as' i a → IsAt as' k b → SameArc a b → i ≡ k
 arc-one as' o i k a b x y s = ⊎_elim
     (λ l. absurd (arc-itself a b s (o i k a b l x y)))
     (λ l. ⊎_elim (λ m. absurd (arc-itself b a (sym s.0, sym s.1) (o k i b a m y x))) (λ m. omega arith) (cases_lt k i))
@@ -50,18 +50,18 @@ module _ (gs : List Vector) (F : Vector → Label → Type 0) (L : Labelling gs 
     pub primitive : IsPrimitive a.normal
     pub source : Vector
     pub target : Vector
-    pub has_source : At W.list a.source source
-    pub has_target : At W.list a.target target
+    pub has_source : IsAt W.list a.source source
+    pub has_target : IsAt W.list a.target target
     pub level_source : dot a.normal source ≡ pos 0
     pub level_target : dot a.normal target ≡ pos 0
     pub labels : StraightAfter F a.normal a.pos a.mark a.neg source
     pub proper : Proper a.pos a.mark a.neg
-    pub clear : (j : ℕ) (x : Vector) → At W.list j x → IsStrictlyOn a.normal source target x → ⊥
+    pub clear : (j : ℕ) (x : Vector) → IsAt W.list j x → IsStrictlyOn a.normal source target x → ⊥
 
   -- a circle that is needed close after a svertex
   pub record Needed (n : Vector) (k : ℕ) : Type 0 where
     pub dir : Vector
-    pub listed : At W.list k dir
+    pub listed : IsAt W.list k dir
     pub level : dot n dir ≡ pos 0
     pub pos : Label
     pub mark : Label
@@ -72,8 +72,8 @@ module _ (gs : List Vector) (F : Vector → Label → Type 0) (L : Labelling gs 
   pub record Arcs : Type 0 where
     pub list : List Arc
     pub order : InOrder ArcBelow list
-    pub each : (i : ℕ) (a : Arc) → At list i a → IsArc a
-    pub all : (n : Vector) (k : ℕ) → IsNormal n → Needed n k → (i : ℕ) × (c : Arc) × At list i c × (c.source ≡ k) × SameDirection n c.normal
+    pub each : (i : ℕ) (a : Arc) → IsAt list i a → IsArc a
+    pub all : (n : Vector) (k : ℕ) → IsNormal n → Needed n k → (i : ℕ) × (c : Arc) × IsAt list i c × (c.source ≡ k) × SameDirection n c.normal
 
   record Made (p : Plane) (k : ℕ) (a : Arc) : Type 0 where
     is_arc : IsArc a
@@ -84,9 +84,9 @@ module _ (gs : List Vector) (F : Vector → Label → Type 0) (L : Labelling gs 
   made p k e = by (first-after p.normal e.dir (plane-direction p) (W.direction k e.dir e.listed) e.level W.list)
     where
       by : First p.normal e.dir W.list → (a : Arc) × Made p k a
-      by f = ⊎_elim (λ q. arc k (subst (At W.list k) q e.listed)) (λ j. arc j.0 j.1) f.listed
+      by f = ⊎_elim (λ q. arc k (subst (IsAt W.list k) q e.listed)) (λ j. arc j.0 j.1) f.listed
         where
-          arc : (j : ℕ) → At W.list j f.target → (a : Arc) × Made p k a
+          arc : (j : ℕ) → IsAt W.list j f.target → (a : Arc) × Made p k a
           arc j t = (
             record { normal = p.normal; source = k; target = j; pos = e.pos; mark = e.mark; neg = e.neg },
             record {
@@ -111,7 +111,7 @@ module _ (gs : List Vector) (F : Vector → Label → Type 0) (L : Labelling gs 
   needed-decided : (p : Plane) (k : ℕ) → Decided (Needed p.normal k)
   needed-decided p k = by (at-or W.list k)
     where
-      on : (w : Vector) → At W.list k w → (q : dot p.normal w ≡ pos 0) → After gs F L axial p.normal w → Decided (Needed p.normal k)
+      on : (w : Vector) → IsAt W.list k w → (q : dot p.normal w ≡ pos 0) → After gs F L axial p.normal w → Decided (Needed p.normal k)
       on w h q r = ⊎_elim
           (λ x. inl (record { dir = w; listed = h; level = q; pos = r.pos; mark = r.mark; neg = r.neg; labels = r.labels; proper = x }))
           (λ f. inr (λ e.
@@ -120,7 +120,7 @@ module _ (gs : List Vector) (F : Vector → Label → Type 0) (L : Labelling gs 
           f (λ x y. e.proper (sym s.0 ∙ x ∙ s.1) (sym s.2 ∙ y ∙ s.1))))
           (proper-decided r.pos r.mark r.neg)
 
-      by : ((w : Vector) × At W.list k w) ⊎ ((w : Vector) → At W.list k w → ⊥) → Decided (Needed p.normal k)
+      by : ((w : Vector) × IsAt W.list k w) ⊎ ((w : Vector) → IsAt W.list k w → ⊥) → Decided (Needed p.normal k)
       by (inr f) = inr (λ e. f e.dir e.listed)
       by (inl (w, h)) = ⊎_elim
           (λ q. on w h q (after-of gs F L axial p.normal w (plane-direction p) (W.direction k w h) q))

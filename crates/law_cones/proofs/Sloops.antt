@@ -1,5 +1,5 @@
 -- The sloop of a labelling: where a circle that is needed holds no svertex it is the only one.
-use Rattle.law_cones.proofs.Prelude.{◌≡◌, ℕ, pos, refl, sym, ◌∙◌, ◌⊎◌, inl, inr, ⊎_elim, List, subst, Option, Some, None, none-some, same_Some, Lies, Vector, IsDirection, cross, dot, IsZero, SameDirection, IsNormal, opposite, Label, Decided, IsOnCircle, IsPrimitive, At, MapSloop, Labelling, StraightAt, IsSmooth, Proper, normal-direction, Found, search_list, lies-at, circle-point, Beside, same_way, other_way, beside, normals-not_opposite, level-same, straight-same_way, Axial, planes-parallel, sloop-along, nought-or, zero-decided, square-cross, level_cross_second, SameDirection-turned, SameDirection-trans, dir-self}
+use Rattle.law_cones.proofs.Prelude.{◌≡◌, ℕ, pos, refl, sym, ◌∙◌, ◌⊎◌, inl, inr, ⊎_elim, List, subst, Option, Some, None, none-some, same_Some, Lies, Vector, IsDirection, cross, dot, IsZero, SameDirection, IsNormal, opposite, Label, Decided, IsOnCircle, IsPrimitive, IsAt, MapSloop, Labelling, StraightAt, IsSmooth, Proper, normal-direction, Found, search_list, lies-at, circle-point, Beside, same_way, other_way, beside, normals-not_opposite, level-same, straight-same_way, Axial, planes-parallel, sloop-along, nought-or, zero-decided, square-cross, level_cross_second, SameDirection-turned, SameDirection-trans, dir-self}
 use Rattle.law_cones.proofs.Smooth.{proper-form, proper-decided, label, beyond}
 use Rattle.law_cones.proofs.SmoothDecided.{straight-decided, straight-named, named, smooth-decided}
 use Rattle.law_cones.proofs.Dirs.{Plane, plane-direction, Planes, planes, Dirs}
@@ -7,7 +7,7 @@ use Rattle.law_cones.proofs.Dirs.{Plane, plane-direction, Planes, planes, Dirs}
 module _ (gs : List Vector) (F : Vector → Label → Type 0) (L : Labelling gs F) (axial : Axial gs) (W : Dirs gs F L axial) where
   -- a circle without svertices that is needed at one of its directions
   pub record Round (n : Vector) : Type 0 where
-    pub clear : (k : ℕ) (w : Vector) → At W.list k w → dot n w ≡ pos 0 → ⊥
+    pub clear : (k : ℕ) (w : Vector) → IsAt W.list k w → dot n w ≡ pos 0 → ⊥
     pub point : Vector
     pub direction : IsDirection point
     pub pos : Label
@@ -19,7 +19,7 @@ module _ (gs : List Vector) (F : Vector → Label → Type 0) (L : Labelling gs 
   pub record IsSloop (l : MapSloop) : Type 0 where
     pub normal : IsNormal l.normal
     pub primitive : IsPrimitive l.normal
-    pub clear : (k : ℕ) (w : Vector) → At W.list k w → dot l.normal w ≡ pos 0 → ⊥
+    pub clear : (k : ℕ) (w : Vector) → IsAt W.list k w → dot l.normal w ≡ pos 0 → ⊥
     pub point : Vector
     pub direction : IsDirection point
     pub labels : StraightAt F l.normal l.pos l.mark l.neg point
@@ -31,7 +31,7 @@ module _ (gs : List Vector) (F : Vector → Label → Type 0) (L : Labelling gs 
     pub all : (n : Vector) → IsNormal n → Round n → (l : MapSloop) × (sloop ≡ Some l) × SameDirection n l.normal
 
   -- ---- all round
-  round-smooth : (n : Vector) → ((k : ℕ) (w : Vector) → At W.list k w → dot n w ≡ pos 0 → ⊥) → IsDirection n → (d : Vector) → IsOnCircle n d → IsSmooth F d
+  round-smooth : (n : Vector) → ((k : ℕ) (w : Vector) → IsAt W.list k w → dot n w ≡ pos 0 → ⊥) → IsDirection n → (d : Vector) → IsOnCircle n d → IsSmooth F d
   round-smooth n clear hn d o = ⊎_elim (λ s. s)
       (λ f. let v = W.all d o.direction f in absurd (clear v.0 v.1 v.2 (level-same n n d v.1 (dir-self n hn) v.3 o.level)))
       (smooth-decided gs F L axial d o.direction)
@@ -62,7 +62,7 @@ module _ (gs : List Vector) (F : Vector → Label → Type 0) (L : Labelling gs 
   round-decided : (p : Plane) → Decided (Round p.normal)
   round-decided p = by (search_list W.list (λ k w. dot p.normal w ≡ pos 0) (λ k w. nought-or (dot p.normal w))) (circle-point p.normal (plane-direction p))
     where
-      on : ((k : ℕ) (w : Vector) → At W.list k w → dot p.normal w ≡ pos 0 → ⊥) → (y : Vector) (o : IsOnCircle p.normal y) (a b : Label) → a ≡ beyond gs F L axial y p.normal o.direction
+      on : ((k : ℕ) (w : Vector) → IsAt W.list k w → dot p.normal w ≡ pos 0 → ⊥) → (y : Vector) (o : IsOnCircle p.normal y) (a b : Label) → a ≡ beyond gs F L axial y p.normal o.direction
           → b ≡ beyond gs F L axial y (opposite p.normal) o.direction
           → Decided (StraightAt F p.normal a (label gs F L axial y o.direction) b y) → Decided (Proper a (label gs F L axial y o.direction) b) → Decided (Round p.normal)
       on clear y o a b ea eb (inl s) (inl q) = inl (record { clear = clear; point = y; direction = o.direction; pos = a; mark = label gs F L axial y o.direction; neg = b; labels = s; proper = q })
@@ -73,7 +73,7 @@ module _ (gs : List Vector) (F : Vector → Label → Type 0) (L : Labelling gs 
           let e = straight-named gs F L axial y o.direction p.normal r.pos r.mark r.neg (plane-direction p) (round-along p.normal (plane-direction p) r y o) in
           f (λ u v. r.proper (e.0 ∙ sym ea ∙ u ∙ sym e.1) (e.2 ∙ sym eb ∙ v ∙ sym e.1)))
 
-      by : Found W.list (λ k w. dot p.normal w ≡ pos 0) ⊎ ((k : ℕ) (w : Vector) → At W.list k w → dot p.normal w ≡ pos 0 → ⊥) → ((y : Vector) × IsOnCircle p.normal y) → Decided (Round p.normal)
+      by : Found W.list (λ k w. dot p.normal w ≡ pos 0) ⊎ ((k : ℕ) (w : Vector) → IsAt W.list k w → dot p.normal w ≡ pos 0 → ⊥) → ((y : Vector) × IsOnCircle p.normal y) → Decided (Round p.normal)
       by (inl f) c = inr (λ r. r.clear f.number f.element f.listed f.holds)
       by (inr clear) (y, o) =
           let a = beyond gs F L axial y p.normal o.direction in
@@ -116,7 +116,7 @@ module _ (gs : List Vector) (F : Vector → Label → Type 0) (L : Labelling gs 
             all = λ n h t. (l, refl, let q = round-plane ps n h t in SameDirection-trans n q.0.normal p.normal q.2 (round-one q.0.normal p.normal q.0.is_normal p.is_normal q.3 r));
           }
 
-      never : (ps : Planes gs F L axial) → ((k : ℕ) (p : Plane) → At ps.list k p → Round p.normal → ⊥) → SloopThere
+      never : (ps : Planes gs F L axial) → ((k : ℕ) (p : Plane) → IsAt ps.list k p → Round p.normal → ⊥) → SloopThere
       never ps f = record {
         sloop = None;
         each = λ c e. absurd (none-some c e);

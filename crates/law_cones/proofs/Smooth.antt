@@ -1,5 +1,5 @@
 -- A direction is plain or straight about it, or not: it is decided, and a plane that is needed there is that of a form.
-use Rattle.law_cones.proofs.Prelude.{◌≡◌, ℕ, ◌≤◌, ◌⊎◌, pos, ◌+ℤ◌, ◌*ℤ◌, arith, refl, ap, sym, ◌∙◌, inl, inr, ⊎_elim, List, ◌∷◌, subst, ◌-ℤ◌, [], ints, ring, at, num, ◌⊕◌, ◌⊗◌, Sign, minus, nought, plus, sign, sign-plus, sign-minus, by_order, nought-or, Lies, Vector, IsDirection, cross, dot, IsZero, blend, opposite, Label, Decided, decided-both, At, by_side, Labelling, Near, StraightAt, IsSmooth, plain, straight, Proper, dot-comb, amount, Found, search_list, lies-at, at-lies, direction-decided, Axial, zero-decided, zero-dot, self-pos, square-cross, nought-if, dot-comm, dot-opposite, level-both, triple-cycle, triple-turned, same-label_or}
+use Rattle.law_cones.proofs.Prelude.{◌≡◌, ℕ, ◌≤◌, ◌⊎◌, pos, ◌+ℤ◌, ◌*ℤ◌, arith, refl, ap, sym, ◌∙◌, inl, inr, ⊎_elim, List, ◌∷◌, subst, ◌-ℤ◌, [], ints, ring, at, num, ◌⊕◌, ◌⊗◌, Sign, minus, nought, plus, sign, sign-plus, sign-minus, by_order, nought-or, Lies, Vector, IsDirection, cross, dot, IsZero, blend, opposite, Label, Decided, decided-both, IsAt, by_side, Labelling, Near, StraightAt, IsSmooth, plain, straight, Proper, dot-comb, amount, Found, search_list, lies-at, at-lies, direction-decided, Axial, zero-decided, zero-dot, self-pos, square-cross, nought-if, dot-comm, dot-opposite, level-both, triple-cycle, triple-turned, same-label_or}
 use Rattle.law_cones.proofs.Signs.{leading, leading-self, leading-same, leading-off, far-leading, parallel-signs, near-of, near-at, near-by_signs, straight-pos, straight-neg}
 
 -- where two planes meet in a line and a form is nought both there and across, it is a multiple of the first plane's
@@ -71,7 +71,7 @@ module _ (gs : List Vector) (F : Vector → Label → Type 0) (L : Labelling gs 
     pub proper-form : FormOf n
     proper-form = by (search_list gs (λ k g. IsDirection g × IsZero (cross n g)) (λ k g. decided-both (direction-decided g) (zero-decided (cross n g))))
       where
-        by : Found gs (λ k g. IsDirection g × IsZero (cross n g)) ⊎ ((k : ℕ) (g : Vector) → At gs k g → IsDirection g × IsZero (cross n g) → ⊥) → FormOf n
+        by : Found gs (λ k g. IsDirection g × IsZero (cross n g)) ⊎ ((k : ℕ) (g : Vector) → IsAt gs k g → IsDirection g × IsZero (cross n g) → ⊥) → FormOf n
         by (inl f) = record { form = f.element; listed = at-lies gs f.number f.element f.listed; direction = f.holds.0; parallel = f.holds.1 }
         by (inr never) = absurd (needless (λ g i h z. let r = lies-at gs g i in never r.0 g r.1 (h, z)))
 
@@ -107,7 +107,7 @@ module _ (gs : List Vector) (F : Vector → Label → Type 0) (L : Labelling gs 
   pub smooth-off : (z : Vector) → IsDirection z → ((g h : Vector) → Lies gs g → Lies gs h → dot g z ≡ pos 0 → dot h z ≡ pos 0 → IsDirection (cross g h) → ⊥) → IsSmooth F z
   smooth-off z h off = by (search_list gs (λ k g. IsDirection g × (dot g z ≡ pos 0)) (λ k g. decided-both (direction-decided g) (nought-or (dot g z))))
     where
-      by : Found gs (λ k g. IsDirection g × (dot g z ≡ pos 0)) ⊎ ((k : ℕ) (g : Vector) → At gs k g → IsDirection g × (dot g z ≡ pos 0) → ⊥) → IsSmooth F z
+      by : Found gs (λ k g. IsDirection g × (dot g z ≡ pos 0)) ⊎ ((k : ℕ) (g : Vector) → IsAt gs k g → IsDirection g × (dot g z ≡ pos 0) → ⊥) → IsSmooth F z
       by (inl f) =
           let g = f.element in
           straight g _ _ _ f.holds.0 (straight-if g z f.holds.0 h f.holds.1 (λ k l w. ⊎_elim (λ x. x) (λ i. absurd (off g k (at-lies gs f.number g f.listed) l f.holds.1 w i)) (zero-decided (cross g k))))

@@ -1,5 +1,5 @@
 -- It is decided whether a direction is plain or straight about it, and the same for all vectors of its way.
-use Rattle.law_cones.proofs.Prelude.{◌≡◌, ℕ, pos, arith, refl, ap, sym, ◌∙◌, ◌⊎◌, inl, inr, ⊎_elim, List, ◌∷◌, subst, ints, sign, nought-or, Lies, Vector, IsDirection, dot, SameDirection, opposite, Label, Decided, every, decided-both, same-nought, At, SameSigns, by_side, Labelling, Near, PlainAt, StraightAt, IsSmooth, plain, straight, Proper, Found, search_list, lies-at, direction-decided, Beside, same_way, other_way, beside, flipped, straight-same_way, Axial, self-pos, dir-self, dir-signs, direction-right, parallel-opposite, direction-opposite, dot-opposite, opposite-dot, same-label_or}
+use Rattle.law_cones.proofs.Prelude.{◌≡◌, ℕ, pos, arith, refl, ap, sym, ◌∙◌, ◌⊎◌, inl, inr, ⊎_elim, List, ◌∷◌, subst, ints, sign, nought-or, Lies, Vector, IsDirection, dot, SameDirection, opposite, Label, Decided, every, decided-both, same-nought, IsAt, SameSigns, by_side, Labelling, Near, PlainAt, StraightAt, IsSmooth, plain, straight, Proper, Found, search_list, lies-at, direction-decided, Beside, same_way, other_way, beside, flipped, straight-same_way, Axial, self-pos, dir-self, dir-signs, direction-right, parallel-opposite, direction-opposite, dot-opposite, opposite-dot, same-label_or}
 use Rattle.law_near.proofs.Representatives.{representative_directions, representative}
 use Rattle.law_cones.proofs.Signs.{leading, near-of, near-by_signs, near-one, straight-carried, straight-pos, straight-neg}
 use Rattle.law_cones.proofs.Smooth.{FormOf, proper-form, proper-decided, even-side, even-or, label, beyond}
@@ -76,13 +76,13 @@ module _ (gs : List Vector) (F : Vector → Label → Type 0) (L : Labelling gs 
     pub smooth-decided : Decided (IsSmooth F d)
     smooth-decided = by plain-decided (search_list gs (λ k g. IsDirection g × Straight g) (λ k g. decided-both (direction-decided g) (straight-decided g (beyond gs F L axial d g h) (beyond gs F L axial d (opposite g) h))))
       where
-        never : (PlainAt F d m → ⊥) → ((k : ℕ) (g : Vector) → At gs k g → IsDirection g × Straight g → ⊥) → IsSmooth F d → ⊥
+        never : (PlainAt F d m → ⊥) → ((k : ℕ) (g : Vector) → IsAt gs k g → IsDirection g × Straight g → ⊥) → IsSmooth F d → ⊥
         never f g (plain l p) = f (subst (PlainAt F d) (L.one d l m h p.at_d (L.exists d h).1) p)
         never f g (straight n a c b hn p) = ⊎_elim
             (λ q. let r = by_form n a c b hn q p in let k = lies-at gs r.0 r.1 in g k.0 r.0 k.1 (r.2, r.3))
             (λ q. let e = even-or a c b q in f (flat-plain n a c b e.0 e.1 p)) (proper-decided a c b)
 
-        by : Decided (PlainAt F d m) → Found gs (λ k g. IsDirection g × Straight g) ⊎ ((k : ℕ) (g : Vector) → At gs k g → IsDirection g × Straight g → ⊥) → Decided (IsSmooth F d)
+        by : Decided (PlainAt F d m) → Found gs (λ k g. IsDirection g × Straight g) ⊎ ((k : ℕ) (g : Vector) → IsAt gs k g → IsDirection g × Straight g → ⊥) → Decided (IsSmooth F d)
         by (inl p) r = inl (plain m p)
         by (inr f) (inl r) = inl (straight r.element _ _ _ r.holds.0 r.holds.1)
         by (inr f) (inr g) = inr (never f g)

@@ -2,7 +2,7 @@
 -- computing it at all signs that they can have, and each law of the order is such a test.
 use Rattle.law_cyclic.proofs.Prelude.{◌≡◌, zero, suc, ℤ, neg_ℤ, Bool, true, false, cond, List, [], ◌∷◌, arith, refl, ap, ◌∙◌, inl, inr, ◌⊎◌, All, IsSign, every_key, passes_at, Vector, dot, triple, IsDirection, SameDirection, IsOnCircle, Passes, AboutThree, AboutFour, OneIsFirst, NeverBothWays, OrderIsTransitive, SameInPlace, OrderIsCyclic, WaysGlue, WaysSplit, NearerOnes, SeenFromLater, SeenFromBetween, SeenFromAfter, NextRises, InSector, SectorHolds, NoRayBetween, dot-comm, triple-back}
 use lib.Dec.{T}
-use Rattle.law_cyclic.proofs.Signs.{sgn, is_not, both, one_of, rule, consistent, every_three, ThreeTest, holds_at_signs, sgn_is_sign, use_test, related_consistent, sgn-neg_ℤ, both_of, both_left, both_right, one_of_left, one_of_right, either_of, not_of, not_is}
+use Rattle.law_cyclic.proofs.Signs.{sgn, is_not, both, one_of, rule, consistent, every_three, ThreeTest, holds_at_signs, sgn_is_sign, use_test, related_consistent, sgn-neg_ℤ, both_of, both_left, both_right, one_of_left, one_of_right, either_sign, not_of, not_is}
 use Rattle.law_cyclic.proofs.StrictlyOn.{Setting, related, passes_test, same_test, is_same, same_is, is_same_if, strict_from_rule, rule_from_strict}
 
 -- ---- a fact that a test decides
@@ -14,7 +14,7 @@ pub says_both : {P Q : Type 0} {s t : Bool} → Says P s → Says Q t → Says (
 says_both {P} {Q} {s} {t} p q = record { test = λ h. both_of s t (p.test h.0) (q.test h.1); fact = λ h. (p.fact (both_left s t h), q.fact (both_right s t h)) }
 
 pub says_one : {P Q : Type 0} {s t : Bool} → Says P s → Says Q t → Says (P ⊎ Q) (one_of s t)
-says_one {P} {Q} {s} {t} p q = record { test = λ h. elim h [ inl x ↦ one_of_left s t (p.test x) | inr y ↦ one_of_right s t (q.test y) ]; fact = λ h. either_of s t p.fact q.fact h }
+says_one {P} {Q} {s} {t} p q = record { test = λ h. elim h [ inl x ↦ one_of_left s t (p.test x) | inr y ↦ one_of_right s t (q.test y) ]; fact = λ h. either_sign s t p.fact q.fact h }
 
 pub says_not : {P : Type 0} {s : Bool} → Says P s → Says (P → ⊥) (is_not s)
 says_not {P} {s} p = record { test = λ f. not_of s (λ x. f (p.fact x)); fact = λ h x. not_is s h (p.test x) }

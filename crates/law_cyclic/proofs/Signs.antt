@@ -2,27 +2,27 @@
 use Rattle.law_cyclic.proofs.Prelude.{◌≡◌, zero, suc, ℤ, pos, negsuc, neg_ℤ, ◌+ℤ◌, ◌*ℤ◌, ◌<ℤ◌, Bool, true, false, cond, List, [], ◌∷◌, arith, refl, ap, ◌∙◌, inl, inr, ◌⊎◌, ints, All, IsSign, between_signs, every_key, passes_at}
 use lib.Dec.{T}
 use Rattle.nef_space.proofs.Order.{Sign, minus, nought, plus, sign, sign_times, sign_of_product, sign-scaled, sign_of_sum}
-use Rattle.law_cyclic.specs.Signs.{number_of, sign_number}
+use Rattle.law_cyclic.specs.Signs.{number_of_sign, sign_of_number}
 
 abbrev pub sgn : ℤ → ℤ
-sgn = sign_number
+sgn = sign_of_number
 
-number_of-times : (s t : Sign) → number_of (sign_times s t) ≡ number_of s *ℤ number_of t
-number_of-times minus minus = refl
-number_of-times minus nought = refl
-number_of-times minus plus = refl
-number_of-times nought minus = refl
-number_of-times nought nought = refl
-number_of-times nought plus = refl
-number_of-times plus minus = refl
-number_of-times plus nought = refl
-number_of-times plus plus = refl
+number_of_sign-times : (s t : Sign) → number_of_sign (sign_times s t) ≡ number_of_sign s *ℤ number_of_sign t
+number_of_sign-times minus minus = refl
+number_of_sign-times minus nought = refl
+number_of_sign-times minus plus = refl
+number_of_sign-times nought minus = refl
+number_of_sign-times nought nought = refl
+number_of_sign-times nought plus = refl
+number_of_sign-times plus minus = refl
+number_of_sign-times plus nought = refl
+number_of_sign-times plus plus = refl
 
 pub sgn-mul : (a b : ℤ) → sgn (a *ℤ b) ≡ sgn a *ℤ sgn b
-sgn-mul a b = ap number_of (sign_of_product a b) ∙ number_of-times (sign a) (sign b)
+sgn-mul a b = ap number_of_sign (sign_of_product a b) ∙ number_of_sign-times (sign a) (sign b)
 
 pub sgn-scaled : (k x : ℤ) → pos 0 <ℤ k → sgn (k *ℤ x) ≡ sgn x
-sgn-scaled k x h = ap number_of (sign-scaled k x h)
+sgn-scaled k x h = ap number_of_sign (sign-scaled k x h)
 
 pub sgn-neg_ℤ : (a : ℤ) → sgn (neg_ℤ a) ≡ neg_ℤ (sgn a)
 sgn-neg_ℤ (pos zero) = refl
@@ -76,7 +76,7 @@ same_sign_refl (negsuc n) = tt
 pub adds_signs : (x y : ℤ) → T (adds (sgn x) (sgn y) (sgn (x +ℤ y)))
 adds_signs (pos zero) y = let e : pos 0 +ℤ y ≡ y = omega (arith, ints) in rw e (same_sign_refl y)
 adds_signs (pos (suc m)) (pos zero) = let e : pos (suc m) +ℤ pos 0 ≡ pos (suc m) = omega (arith, ints) in rw e tt
-adds_signs (pos (suc m)) (pos (suc n)) = let e : sgn (pos (suc m) +ℤ pos (suc n)) ≡ pos 1 = ap number_of (sign_of_sum (pos (suc m)) (pos (suc n)) plus refl refl) in rw e tt
+adds_signs (pos (suc m)) (pos (suc n)) = let e : sgn (pos (suc m) +ℤ pos (suc n)) ≡ pos 1 = ap number_of_sign (sign_of_sum (pos (suc m)) (pos (suc n)) plus refl refl) in rw e tt
 adds_signs (pos (suc m)) (negsuc n) = tt
 adds_signs (negsuc m) (pos zero) = let e : negsuc m +ℤ pos 0 ≡ negsuc m = omega (arith, ints) in rw e tt
 adds_signs (negsuc m) (pos (suc n)) = tt
@@ -121,9 +121,9 @@ pub not_is : (a : Bool) → T (is_not a) → ¬ (T a)
 not_is true t u = absurd t
 not_is false t u = absurd u
 
-pub either_of : (p q : Bool) {P Q : Type 0} → (T p → P) → (T q → Q) → T (one_of p q) → P ⊎ Q
-either_of true q f g t = inl (f tt)
-either_of false q f g t = inr (g t)
+pub either_sign : (p q : Bool) {P Q : Type 0} → (T p → P) → (T q → Q) → T (one_of p q) → P ⊎ Q
+either_sign true q f g t = inl (f tt)
+either_sign false q f g t = inr (g t)
 
 pub one_of_left : (p q : Bool) → T p → T (one_of p q)
 one_of_left true q t = tt
@@ -232,7 +232,7 @@ cases_from_test (pos (suc m)) b c e t = record {
 }
 cases_from_test (negsuc m) b c e t = record {
   less = λ h. absurd (omega (arith, ints));
-  more = λ h. either_of (is_plus (sgn c)) (is_plus (sgn e)) (plus_is c) (plus_is e) t;
+  more = λ h. either_sign (is_plus (sgn c)) (is_plus (sgn e)) (plus_is c) (plus_is e) t;
   half = λ h k. absurd (omega (arith, ints));
 }
 cases_from_test (pos zero) (pos n) c e t = record {

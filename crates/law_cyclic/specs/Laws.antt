@@ -2,14 +2,14 @@
 use Rattle.std.specs.Prelude.{◌⊎◌, ◌↔◌, T}
 use Rattle.nef_space.specs.Vectors.{Vector, dot, cross, triple, opposite, IsDirection, IsParallel, SameDirection}
 use Rattle.nef_case.specs.Between.{between_signs}
-use Rattle.law_cyclic.specs.Signs.{sign_number}
+use Rattle.law_cyclic.specs.Signs.{sign_of_number}
 use Rattle.law_cyclic.specs.Arcs.{IsOnCircle, IsStrictlyOn, Passes, AboutThree, AboutFour}
 
 -- ---- arcs
 -- the rule of the eight classes of five signs says whether d is strictly on the arc
 abbrev pub ClassesAreArcs : Type 0
 ClassesAreArcs = (n s t d : Vector) → IsDirection n → IsOnCircle n s → IsOnCircle n t → IsOnCircle n d
-    → T (between_signs (sign_number (triple n s t)) (sign_number (dot s t)) (sign_number (triple n s d)) (sign_number (dot s d)) (sign_number (triple n d t))) ↔ IsStrictlyOn n s t d
+    → T (between_signs (sign_of_number (triple n s t)) (sign_of_number (dot s t)) (sign_of_number (triple n s d)) (sign_of_number (dot s d)) (sign_of_number (triple n d t))) ↔ IsStrictlyOn n s t d
 
 -- whether d is strictly on an arc depends on the direction of d alone, and not on its length
 abbrev pub ArcsAreOfDirections : Type 0

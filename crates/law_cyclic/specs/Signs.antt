@@ -2,10 +2,10 @@
 use Rattle.std.specs.Prelude.{ℤ, pos, negsuc}
 use Rattle.nef_space.specs.Signs.{Sign, minus, nought, plus, sign}
 
-abbrev pub number_of : Sign → ℤ
-number_of minus = negsuc 0
-number_of nought = pos 0
-number_of plus = pos 1
+abbrev pub number_of_sign : Sign → ℤ
+number_of_sign minus = negsuc 0
+number_of_sign nought = pos 0
+number_of_sign plus = pos 1
 
-abbrev pub sign_number : ℤ → ℤ
-sign_number z = number_of (sign z)
+abbrev pub sign_of_number : ℤ → ℤ
+sign_of_number z = number_of_sign (sign z)

@@ -1,39 +1,39 @@
 -- Every set whose carriers are planes has a complex that shows it: its vertices are finitely many, each point has a least map, and so there are all edges.
-use Rattle.law_exist.proofs.Prelude.{◌≡◌, ℕ, ℤ, ◌*ℤ◌, refl, sym, List, ◌∷◌, subst, map, [], ring, at, ◌⊗◌, Lies, Place, Form, normal_of, SamePlace, IsPlaceBelow, Set, IsVertex, IsDirection, carriers, place_below-trans, same-place_sym, all-vertices, InOrder, Least, Ordered, Cone, At, Mapped, map-list, Sorted, sort, chain-order, same-itself, same-place_trans, Vertex, Edge, Edges, SamePlane, Carriers, Shows, AreVertices, EverySetHasVertices, VerticesHaveEdges, HasPlanes, EverySetIsShown, lies-at, at-lies}
+use Rattle.law_exist.proofs.Prelude.{◌≡◌, ℕ, ℤ, ◌*ℤ◌, refl, sym, List, ◌∷◌, subst, map, [], ring, at, ◌⊗◌, Lies, SpacePoint, Form, normal_of, SamePoint, IsPointBelow, Set, IsVertex, IsDirection, carriers, point_below-trans, same-point_sym, all-vertices, InOrder, Least, Ordered, Cone, IsAt, Mapped, map-list, Sorted, sort, chain-order, same-itself, same-point_trans, Vertex, Edge, Edges, SamePlane, Carriers, Shows, AreVertices, EverySetHasVertices, VerticesHaveEdges, HasPlanes, EverySetIsShown, lies-at, at-lies}
 use Rattle.law_cones.proofs.Cones.{point-map}
 use Rattle.nef_edges.proofs.Existing.{edges-exist}
-use Rattle.law_exist.proofs.Orders.{FormBelow, form-trans, form-either, place-either}
+use Rattle.law_exist.proofs.Orders.{FormBelow, form-trans, form-either, point-either}
 
 -- ---- vertices
-pub record IsVertexAt (s : Set) (p : Place) (v : Vertex) : Type 0 where
+pub record IsVertexAt (s : Set) (p : SpacePoint) (v : Vertex) : Type 0 where
   pub point : v.point ≡ p
   pub cone : Cone v.map s v.point
   pub least : Least v.map
   pub ordered : Ordered v.map
 
-vertex-at : (s : Set) (p : Place) → (v : Vertex) × IsVertexAt s p v
+vertex-at : (s : Set) (p : SpacePoint) → (v : Vertex) × IsVertexAt s p v
 vertex-at s p = let m = point-map s p in (record { point = p; map = m.0 }, record { point = refl; cone = m.1; least = m.2; ordered = m.3 })
 
-abbrev pub Sound : Set → List Place → Type 0
-Sound s ps = (q : Place) → Lies ps q → IsVertex s q
+abbrev pub AreAllVertices : Set → List SpacePoint → Type 0
+AreAllVertices s ps = (q : SpacePoint) → Lies ps q → IsVertex s q
 
-abbrev pub Complete : Set → List Place → Type 0
-Complete s ps = (p : Place) → IsVertex s p → (q : Place) × Lies ps q × SamePlace q p
+abbrev pub Complete : Set → List SpacePoint → Type 0
+Complete s ps = (p : SpacePoint) → IsVertex s p → (q : SpacePoint) × Lies ps q × SamePoint q p
 
 -- the vertices of the set, each at one of the points of the list
-pub record VerticesAt (s : Set) (ps : List Place) : Type 0 where
+pub record VerticesAt (s : Set) (ps : List SpacePoint) : Type 0 where
   pub list : List Vertex
   pub are : AreVertices s list
-  pub point : (k : ℕ) (v : Vertex) → At list k v → Lies ps v.point
+  pub point : (k : ℕ) (v : Vertex) → IsAt list k v → Lies ps v.point
 
-pub vertices-at : (s : Set) (ps : List Place) → Sound s ps → Complete s ps → VerticesAt s ps
-vertices-at s ps sound all = then (sort IsPlaceBelow SamePlace (λ p q r. place_below-trans p q r) same-itself place-either ps)
+pub vertices-at : (s : Set) (ps : List SpacePoint) → AreAllVertices s ps → Complete s ps → VerticesAt s ps
+vertices-at s ps sound all = then (sort IsPointBelow SamePoint (λ p q r. point_below-trans p q r) same-itself point-either ps)
   where
-    then : Sorted IsPlaceBelow SamePlace ps → VerticesAt s ps
+    then : Sorted IsPointBelow SamePoint ps → VerticesAt s ps
     then r = last (map-list r.list (λ k p v. IsVertexAt s p v) (λ k p l. vertex-at s p))
       where
-        order : InOrder IsPlaceBelow r.list
-        order = chain-order IsPlaceBelow SamePlace r.list r.chain
+        order : InOrder IsPointBelow r.list
+        order = chain-order IsPointBelow SamePoint r.list r.chain
 
         last : Mapped r.list (λ k p v. IsVertexAt s p v) → VerticesAt s ps
         last m = record {
@@ -45,11 +45,11 @@ vertices-at s ps sound all = then (sort IsPlaceBelow SamePlace (λ p q r. place_
                 let g = r.all f.0 f.1 in
                 let k = lies-at r.list g.0 g.1 in
                 let v = m.all k.0 g.0 k.1 in
-                (k.0, v.0, v.1, subst (λ q. SamePlace q p) (sym v.2.point) (same-place_trans g.0 f.0 p (same-place_sym f.0 g.0 g.2) f.2));
+                (k.0, v.0, v.1, subst (λ q. SamePoint q p) (sym v.2.point) (same-point_trans g.0 f.0 p (same-point_sym f.0 g.0 g.2) f.2));
             ordered = λ i k u v l a b.
                 let f = m.sound i u a in
                 let g = m.sound k v b in
-                subst (λ q. IsPlaceBelow q v.point) (sym f.2.point) (subst (λ q. IsPlaceBelow f.0 q) (sym g.2.point) (order i k f.0 g.0 l f.1 g.1));
+                subst (λ q. IsPointBelow q v.point) (sym f.2.point) (subst (λ q. IsPointBelow f.0 q) (sym g.2.point) (order i k f.0 g.0 l f.1 g.1));
             cones = λ k v a. (m.sound k v a).2.cone;
             least = λ k v a. (m.sound k v a).2.least;
             maps_ordered = λ k v a. (m.sound k v a).2.ordered;

@@ -1,5 +1,5 @@
 -- The cycles of the facets of a complex that shows a set exist: the orbits of its next corners.
-use Rattle.law_exist.proofs.Prelude.{◌≡◌, ℕ, zero, suc, ◌+◌, ◌<◌, ◌≤◌, arith, refl, sym, ◌∙◌, inl, inr, ⊎_elim, List, ◌∷◌, ◌++◌, length, Bool, true, false, subst, replicate, set, [], length-set, IsAt, Set, At, Item, arc_item, sloop_item, items, Arc, at-one, arc-at, at-arc, ends-of, Vertex, Edge, Complex, Corner as PlainCorner, IsCorner, Shows, svertex-edge, is-at_one, is-at_some, corner_of, Leads, NextCorner, Cycles, IsFacetOf, FacetNumbers, cycle_corners, Cycle, corners_at, corner_from, HasItem, AreCorners, AreFirsts, AreNext, IsStep, AreOrbits, AreCornersOf, AreNumbered, IsCycleOf, AreGrouped, at-within, at-some, eq-decided}
+use Rattle.law_exist.proofs.Prelude.{◌≡◌, ℕ, zero, suc, ◌+◌, ◌<◌, ◌≤◌, arith, refl, sym, ◌∙◌, inl, inr, ⊎_elim, List, ◌∷◌, ◌++◌, length, Bool, true, false, subst, replicate, set, [], length-set, IsAt, Set, Item, arc_item, sloop_item, items, Arc, at-one, arc-at, at-arc, ends-of, Vertex, Edge, Complex, Corner as PlainCorner, IsCorner, Shows, svertex-edge, is-at_one, is-at_some, corner_of, Leads, NextCorner, Cycles, IsFacetOf, FacetNumbers, cycle_corners, Cycle, corners_at, corner_from, HasItem, AreCorners, AreFirsts, AreNext, IsStep, AreOrbits, AreCornersOf, AreNumberedOrbits, IsCycleOf, AreCycleRows, at-within, at-some, eq-decided}
 use Rattle.nef_complex.specs.declared.complex.Corner.{Corner}
 use Rattle.nef_facets.proofs.CornerLists.{AreCornersTo, no-corners, corners-next, all-corners}
 use Rattle.nef_facets.proofs.CyclesOf.{next-step, are-numbered, facet-cycles}
@@ -27,11 +27,11 @@ plain : ℕ → ℕ → PlainCorner
 plain i n = record { vertex = i; item = n }
 
 module _ (s : Set) (C : Complex) (S : Shows s C) where
-  next-along : (k : PlainCorner) (v : Vertex) (r : Arc) → At C.vertices k.vertex v → At v.map.arcs k.item r → (n : ℕ) (e : Edge) → At C.edges n e → (j b : ℕ) → Leads e k.vertex r.source j b → (l : PlainCorner) × HasItem C l × NextCorner C k l
+  next-along : (k : PlainCorner) (v : Vertex) (r : Arc) → IsAt C.vertices k.vertex v → IsAt v.map.arcs k.item r → (n : ℕ) (e : Edge) → IsAt C.edges n e → (j b : ℕ) → Leads e k.vertex r.source j b → (l : PlainCorner) × HasItem C l × NextCorner C k l
   next-along k v r a h n e at j b leads =
       let V = edge-from s C S n e at k.vertex r.source j b leads in
       let f = at-one C.vertices k.vertex v V.from a V.is_from in
-      let A = next-arc s C S k.vertex r.source j b V k.item r (subst (λ (w : Vertex). At w.map.arcs k.item r) f h) refl in (
+      let A = next-arc s C S k.vertex r.source j b V k.item r (subst (λ (w : Vertex). IsAt w.map.arcs k.item r) f h) refl in (
         record { vertex = j; item = A.number },
         (V.to, arc_item A.arc, record { vertex = V.is_to; item = at-arc V.to.map.arcs V.to.map.sloop A.number A.arc A.listed }),
         inl (record {
@@ -150,7 +150,7 @@ module _ (C : Complex) (rows : List (List ℕ)) (N : FacetNumbers C rows) (ks : 
   firsts = let (js, F) = firsts-to (length ks) (omega arith) in (js, firsts-all rows ks (length ks) js F (omega arith))
 
 -- ---- the cycles of each facet
-module _ (rows : List (List ℕ)) (ks : List Corner) (orbits : List (List ℕ)) (count : ℕ) (N : AreNumbered rows ks orbits count) where
+module _ (rows : List (List ℕ)) (ks : List Corner) (orbits : List (List ℕ)) (count : ℕ) (N : AreNumberedOrbits rows ks orbits count) where
   corners-of : (m : ℕ) (x : List ℕ) → IsAt orbits m x → (xs : List Corner) × AreCornersOf ks x xs
   corners-of m x a =
       let M = make-each x (λ (i : ℕ) (y : Corner). IsAt ks i y) (λ k i b. is-at_some ks i (N.within m k i x a b)) in
@@ -168,7 +168,7 @@ module _ (rows : List (List ℕ)) (ks : List Corner) (orbits : List (List ℕ)) 
   record Grouped (i : ℕ) : Type 0 where
     list : List (List Cycle)
     as_many : length list ≡ count
-    are : AreGrouped rows ks orbits i list
+    are : AreCycleRows rows ks orbits i list
 
   none : (c : ℕ) → (ys : List (List Cycle)) × (length ys ≡ c) × ((n : ℕ) (row : List Cycle) → IsAt ys n row → row ≡ [])
   none c = let M = make-list c (λ (k : ℕ) (r : List Cycle). r ≡ []) (λ k l. ([], refl)) in (M.list, M.as_many, M.each)
@@ -182,7 +182,7 @@ module _ (rows : List (List ℕ)) (ks : List Corner) (orbits : List (List ℕ)) 
       let e : i + 1 ≡ suc i = omega arith in
       subst Grouped e (record { list = set G.list n (row ++ y ∷ []); as_many = length-set G.list n (row ++ y ∷ []) ∙ G.as_many; are = grouped-more rows ks orbits i G.list G.are n row a y Y })
 
-  pub grouped : (ys : List (List Cycle)) × (length ys ≡ count) × AreGrouped rows ks orbits (length orbits) ys
+  pub grouped : (ys : List (List Cycle)) × (length ys ≡ count) × AreCycleRows rows ks orbits (length orbits) ys
   grouped = let G = grouped-to (length orbits) (omega arith) in (G.list, G.as_many, G.are)
 
 -- THE CYCLES OF FACETS EXIST

@@ -1,5 +1,5 @@
 -- Elements of a table, in order: one for each row and column.
-use Rattle.law_exist.proofs.Prelude.{◌≡◌, ℕ, zero, suc, ◌<◌, refl, sym, ◌∙◌, ◌⊎◌, inl, inr, List, ◌∷◌, ◌++◌, subst, [], Lies, each, lies-each, lies-left, lies-right, lies-append, At, InOrder, Mapped, map-list, Sorted, sort, chain-order, lies-at, at-lies, is-at_none, is-at_first}
+use Rattle.law_exist.proofs.Prelude.{◌≡◌, ℕ, zero, suc, ◌<◌, refl, sym, ◌∙◌, ◌⊎◌, inl, inr, List, ◌∷◌, ◌++◌, subst, [], Lies, each, lies-each, lies-left, lies-right, lies-append, IsAt, InOrder, Mapped, map-list, Sorted, sort, chain-order, lies-at, at-lies, is-at_none, is-at_first}
 use Rattle.law_exist.proofs.Classes.{numbers-to, in-numbers, number-in}
 use Rattle.law_exist.proofs.Numbering.{PairBelow, pair-trans, pair-either}
 use Rattle.law_exist.proofs.Planes.{lies-image}
@@ -12,33 +12,33 @@ pairs-of : {V : Type 0} → (V → ℕ) → List V → List (ℕ × ℕ)
 pairs-of count [] = []
 pairs-of count (v ∷ vs) = each (λ k. (0, k)) (numbers-to (count v)) ++ each shifted (pairs-of count vs)
 
-pairs-have : {V : Type 0} (count : V → ℕ) (vs : List V) (i k : ℕ) (v : V) → At vs i v → k < count v → Lies (pairs-of count vs) (i, k)
+pairs-have : {V : Type 0} (count : V → ℕ) (vs : List V) (i k : ℕ) (v : V) → IsAt vs i v → k < count v → Lies (pairs-of count vs) (i, k)
 unfolding pairs-of
 pairs-have count [] i k v a l = absurd (is-at_none a)
 pairs-have {V} count (w ∷ vs) zero k v a l =
     lies-left (each (λ j. (0, j)) (numbers-to (count w))) (each shifted (pairs-of count vs)) (0, k) (lies-each (λ j. (0, j)) (numbers-to (count w)) k (in-numbers (count w) k (subst (λ (u : V). k < count u) (sym (is-at_first a)) l)))
 pairs-have count (w ∷ vs) (suc i) k v a l = lies-right (each (λ j. (0, j)) (numbers-to (count w))) (each shifted (pairs-of count vs)) (suc i, k) (lies-each shifted (pairs-of count vs) (i, k) (pairs-have count vs i k v a l))
 
-pairs-sound : {V : Type 0} (count : V → ℕ) (vs : List V) (p : ℕ × ℕ) → Lies (pairs-of count vs) p → (v : V) × At vs p.0 v × (p.1 < count v)
+pairs-sound : {V : Type 0} (count : V → ℕ) (vs : List V) (p : ℕ × ℕ) → Lies (pairs-of count vs) p → (v : V) × IsAt vs p.0 v × (p.1 < count v)
 unfolding pairs-of
 pairs-sound count [] p l = absurd l
 pairs-sound {V} count (w ∷ vs) p l = by (lies-append (each (λ k. (0, k)) (numbers-to (count w))) (each shifted (pairs-of count vs)) p l) (λ q m. pairs-sound count vs q m)
   where
-    by : Lies (each (λ k. (0, k)) (numbers-to (count w))) p ⊎ Lies (each shifted (pairs-of count vs)) p → ((q : ℕ × ℕ) → Lies (pairs-of count vs) q → (v : V) × At vs q.0 v × (q.1 < count v)) → (v : V) × At (w ∷ vs) p.0 v × (p.1 < count v)
+    by : Lies (each (λ k. (0, k)) (numbers-to (count w))) p ⊎ Lies (each shifted (pairs-of count vs)) p → ((q : ℕ × ℕ) → Lies (pairs-of count vs) q → (v : V) × IsAt vs q.0 v × (q.1 < count v)) → (v : V) × IsAt (w ∷ vs) p.0 v × (p.1 < count v)
     by (inl m) rest =
         let r = lies-image (λ k. (0, k)) (numbers-to (count w)) p m in
-        subst (λ (q : ℕ × ℕ). (v : V) × At (w ∷ vs) q.0 v × (q.1 < count v)) r.2 (w, refl, number-in (count w) r.0 r.1)
+        subst (λ (q : ℕ × ℕ). (v : V) × IsAt (w ∷ vs) q.0 v × (q.1 < count v)) r.2 (w, refl, number-in (count w) r.0 r.1)
     by (inr m) rest =
         let r = lies-image shifted (pairs-of count vs) p m in
         let s = rest r.0 r.1 in
-        subst (λ (q : ℕ × ℕ). (v : V) × At (w ∷ vs) q.0 v × (q.1 < count v)) r.2 (s.0, s.1, s.2)
+        subst (λ (q : ℕ × ℕ). (v : V) × IsAt (w ∷ vs) q.0 v × (q.1 < count v)) r.2 (s.0, s.1, s.2)
 
 -- ---- an element for each
-module _ {X V : Type 0} (row col : X → ℕ) (vs : List V) (count : V → ℕ) (make : (i k : ℕ) (v : V) → At vs i v → k < count v → (x : X) × (row x ≡ i) × (col x ≡ k)) where
+module _ {X V : Type 0} (row col : X → ℕ) (vs : List V) (count : V → ℕ) (make : (i k : ℕ) (v : V) → IsAt vs i v → k < count v → (x : X) × (row x ≡ i) × (col x ≡ k)) where
   pub record Elements : Type 0 where
     pub list : List X
     pub ordered : InOrder (λ x y. PairBelow (row x) (col x) (row y) (col y)) list
-    pub complete : (i k : ℕ) (v : V) → At vs i v → k < count v → (p : ℕ) × (x : X) × At list p x × (row x ≡ i) × (col x ≡ k)
+    pub complete : (i k : ℕ) (v : V) → IsAt vs i v → k < count v → (p : ℕ) × (x : X) × IsAt list p x × (row x ≡ i) × (col x ≡ k)
 
   abbrev Below : ℕ × ℕ → ℕ × ℕ → Type 0
   Below p q = PairBelow p.0 p.1 q.0 q.1

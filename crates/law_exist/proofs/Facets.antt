@@ -1,10 +1,10 @@
 -- The items of a complex that shows a set have facet numbers: items whose points are joined have one.
-use Rattle.law_exist.proofs.Prelude.{◌≡◌, ℕ, ◌<◌, ◌≤◌, refl, inr, ◌↔◌, List, subst, IsAt, Chained, FlatDim, Place, Set, At, Item, items, Vertex, Complex, Corner, IsCorner, Shows, same-itself, FacetLink, IsAtItem, joined-items_linked, at-within, at-some, at-from_get, count_items, IsFacetOf, FacetNumbers}
+use Rattle.law_exist.proofs.Prelude.{◌≡◌, ℕ, ◌<◌, ◌≤◌, refl, inr, ◌↔◌, List, subst, IsAt, Chained, FlatDim, SpacePoint, Set, Item, items, Vertex, Complex, Corner, IsCorner, Shows, same-itself, FacetLink, IsAtItem, joined-items_linked, at-within, at-some, at-from_get, count_items, IsFacetOf, FacetNumbers}
 use Rattle.law_links.proofs.ItemLinks.{items-joined}
 use Rattle.law_links.proofs.ItemPoints.{items-have_points}
 use Rattle.law_exist.proofs.Connected.{class-number, class-same}
 use Rattle.law_exist.proofs.Elements.{Elements, elements}
-use Rattle.law_exist.proofs.Numbering.{Numbered, number-all, Table, Placed, PairBelow, table, placed, has-place}
+use Rattle.law_exist.proofs.Numbering.{Numbered, number-all, NumberTable, Placed, PairBelow, table, placed, has-place}
 use Rattle.nef_conn.proofs.OneNamed.{corners-same}
 
 pub record ItemAt (C : Complex) : Type 0 where
@@ -20,17 +20,17 @@ abbrev col-of : (C : Complex) → ItemAt C → ℕ
 col-of C x = x.corner.item
 
 module _ (C : Complex) where
-  item-make : (i k : ℕ) (v : Vertex) → At C.vertices i v → k < count_items v → (x : ItemAt C) × (row-of C x ≡ i) × (col-of C x ≡ k)
+  item-make : (i k : ℕ) (v : Vertex) → IsAt C.vertices i v → k < count_items v → (x : ItemAt C) × (row-of C x ≡ i) × (col-of C x ≡ k)
   item-make i k v a l = let x = at-some (items v.map) k l in (record { corner = record { vertex = i; item = k }; vertex = v; item = x.0; is = record { vertex = a; item = x.1 } }, refl, refl)
 
-  item-sound : (xs : List (ItemAt C)) (p : ℕ) (x : ItemAt C) → At xs p x → (v : Vertex) × At C.vertices (row-of C x) v × (col-of C x < count_items v)
+  item-sound : (xs : List (ItemAt C)) (p : ℕ) (x : ItemAt C) → IsAt xs p x → (v : Vertex) × IsAt C.vertices (row-of C x) v × (col-of C x < count_items v)
   item-sound xs p x a = (x.vertex, x.is.vertex, at-within (items x.vertex.map) x.corner.item x.item x.is.item)
 
   all-items : Elements (row-of C) (col-of C) C.vertices count_items item-make
   all-items = elements (row-of C) (col-of C) C.vertices count_items item-make
 
 module _ (s : Set) (C : Complex) (S : Shows s C) where
-  item-point : (x : ItemAt C) → (q : Place) × IsAtItem s C x.corner q
+  item-point : (x : ItemAt C) → (q : SpacePoint) × IsAtItem s C x.corner q
   item-point x = items-have_points s C x.corner x.vertex x.item S x.is
 
   item-flat : (x : ItemAt C) → FlatDim s (item-point x).0 2
@@ -66,10 +66,10 @@ module _ (s : Set) (C : Complex) (S : Shows s C) where
               Put : ℕ → ℕ → ℕ → Type 0
               Put = Placed (row-of C) (col-of C) E.list E.ordered C.vertices count_items E.complete (item-sound C E.list) N.list N.as_many
 
-              T : Table C.vertices count_items (Placed (row-of C) (col-of C) E.list E.ordered C.vertices count_items E.complete (item-sound C E.list) N.list N.as_many)
+              T : NumberTable C.vertices count_items (Placed (row-of C) (col-of C) E.list E.ordered C.vertices count_items E.complete (item-sound C E.list) N.list N.as_many)
               T = table (row-of C) (col-of C) E.list E.ordered C.vertices count_items E.complete (item-sound C E.list) N.list N.as_many
 
-              put : (k : Corner) (n : ℕ) → IsFacetOf T.rows k n → (p : ℕ) × (x : ItemAt C) × At E.list p x × (x.corner ≡ k) × IsAt N.list p n
+              put : (k : Corner) (n : ℕ) → IsFacetOf T.rows k n → (p : ℕ) × (x : ItemAt C) × IsAt E.list p x × (x.corner ≡ k) × IsAt N.list p n
               put k n h =
                   let (p, x, a, e, f, c) = placed (row-of C) (col-of C) E.list E.ordered C.vertices count_items E.complete (item-sound C E.list) N.list N.as_many k.vertex k.item n h in
                   (p, x, a, corners-same x.corner k e f, c)

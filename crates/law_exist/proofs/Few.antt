@@ -1,9 +1,9 @@
 -- A list without repeats whose elements lie in another is no longer than that.
-use Rattle.law_exist.proofs.Prelude.{◌≡◌, ℕ, zero, suc, ◌+◌, ◌*◌, ◌≤◌, arith, refl, ap, sym, ◌∙◌, ◌⊎◌, inl, inr, ⊎_elim, Some, List, ◌∷◌, length, length-append, [], Lies, each, pairs, At, lies-at}
+use Rattle.law_exist.proofs.Prelude.{◌≡◌, ℕ, zero, suc, ◌+◌, ◌*◌, ◌≤◌, arith, refl, ap, sym, ◌∙◌, ◌⊎◌, inl, inr, ⊎_elim, Some, List, ◌∷◌, length, length-append, [], Lies, each, pairs, IsAt, lies-at}
 
 -- no element stands at two places
 abbrev pub Once : {A : Type 0} → List A → Type 0
-Once {A} xs = (i k : ℕ) (x : A) → At xs i x → At xs k x → i ≡ k
+Once {A} xs = (i k : ℕ) (x : A) → IsAt xs i x → IsAt xs k x → i ≡ k
 
 -- the list without one place of the element
 record Removed {A : Type 0} (ys : List A) (x : A) : Type 0 where

@@ -1,9 +1,9 @@
 -- Plain data within the limits is that of the program's data.
-use Rattle.law_exist.proofs.Prelude.{◌≡◌, ℕ, zero, suc, ◌<◌, ◌≤◌, ◌^◌, lit≤, arith, refl, ap, ◌∙◌, List, ◌∷◌, map, Option, Some, None, option_map, of_z, [], direction_limit, normal_limit, svertex_limit, Vector, IsDirection, IsAtMost, Label, IsPrimitive, At, MapVertex, Arc, MapSloop, Map, Item, arc_item, sloop_item, items, item_normal, at-sloop, at-arc, vector_of, Dir, svertex_of, arc_of, sloop_of, map_of, SVertex, SArc, SphereMap, neg}
+use Rattle.law_exist.proofs.Prelude.{◌≡◌, ℕ, zero, suc, ◌<◌, ◌≤◌, ◌^◌, lit≤, arith, refl, ap, ◌∙◌, List, ◌∷◌, map, Option, Some, None, option_map, of_z, [], direction_limit, normal_limit, svertex_limit, Vector, IsDirection, IsAtMost, Label, IsPrimitive, IsAt, MapVertex, Arc, MapSloop, Map, Item, arc_item, sloop_item, items, item_normal, at-sloop, at-arc, vector_of, Dir, svertex_of, arc_of, sloop_of, map_of, SVertex, SArc, SphereMap, neg}
 use Rattle.nef_smap.specs.declared.map.SLoop.{SLoop}
 use Rattle.law_exist.proofs.Reduced.{primitive-lowest}
 
-pub lifted : {A B : Type 0} (f : A → B) (ys : List B) → ((k : ℕ) (y : B) → At ys k y → (x : A) × (f x ≡ y)) → (xs : List A) × (map f xs ≡ ys)
+pub lifted : {A B : Type 0} (f : A → B) (ys : List B) → ((k : ℕ) (y : B) → IsAt ys k y → (x : A) × (f x ≡ y)) → (xs : List A) × (map f xs ≡ ys)
 lifted f [] all = ([], refl)
 lifted {A} {B} f (y ∷ ys) all =
     let h = all zero y refl in
@@ -23,27 +23,27 @@ wider n d l a = record { of_x = let h = a.of_x in omega (arith, h, l); of_y = le
 
 -- ---- maps
 -- a vector in lowest terms with numbers of at most this size
-pub record IsShort (n : ℕ) (d : Vector) : Type 0 where
+pub record IsShortVector (n : ℕ) (d : Vector) : Type 0 where
   pub small : IsAtMost n d
   pub direction : IsDirection d
   pub primitive : IsPrimitive d
 
 pub record IsShortMap (M : Map) : Type 0 where
-  pub svertices : (k : ℕ) (v : MapVertex) → At M.svertices k v → IsShort svertex_limit v.dir
-  pub normals : (k : ℕ) (x : Item) → At (items M) k x → IsShort normal_limit (item_normal x)
-  pub sources : (k : ℕ) (a : Arc) → At M.arcs k a → a.source < 2 ^ 64
-  pub targets : (k : ℕ) (a : Arc) → At M.arcs k a → a.target < 2 ^ 64
+  pub svertices : (k : ℕ) (v : MapVertex) → IsAt M.svertices k v → IsShortVector svertex_limit v.dir
+  pub normals : (k : ℕ) (x : Item) → IsAt (items M) k x → IsShortVector normal_limit (item_normal x)
+  pub sources : (k : ℕ) (a : Arc) → IsAt M.arcs k a → a.source < 2 ^ 64
+  pub targets : (k : ℕ) (a : Arc) → IsAt M.arcs k a → a.target < 2 ^ 64
 
-short-dir : (n : ℕ) (d : Vector) → n ≤ direction_limit → IsShort n d → (e : Dir) × (vector_of e ≡ d)
+short-dir : (n : ℕ) (d : Vector) → n ≤ direction_limit → IsShortVector n d → (e : Dir) × (vector_of e ≡ d)
 short-dir n d l s = dir-from d (wider n d l s.small) s.direction s.primitive
 
 module _ (M : Map) (S : IsShortMap M) where
-  svertex-from : (k : ℕ) (v : MapVertex) → At M.svertices k v → (u : SVertex) × (svertex_of u ≡ v)
+  svertex-from : (k : ℕ) (v : MapVertex) → IsAt M.svertices k v → (u : SVertex) × (svertex_of u ≡ v)
   svertex-from k v a =
       let e = short-dir svertex_limit v.dir (lit≤ tt) (S.svertices k v a) in
       (record { dir = e.0; mark = v.mark; around = v.around }, ap (λ (d : Vector). let r : MapVertex = record { dir = d; mark = v.mark; around = v.around } in r) e.1)
 
-  arc-from : (k : ℕ) (a : Arc) → At M.arcs k a → (b : SArc) × (arc_of b ≡ a)
+  arc-from : (k : ℕ) (a : Arc) → IsAt M.arcs k a → (b : SArc) × (arc_of b ≡ a)
   arc-from k a h =
       let e = short-dir normal_limit a.normal (lit≤ tt) (S.normals k (arc_item a) (at-arc M.arcs M.sloop k a h)) in (
         record { source = a.source; target = a.target; normal = e.0; mark = a.mark; pos = a.pos; neg = a.neg; source_small = S.sources k a h; target_small = S.targets k a h },

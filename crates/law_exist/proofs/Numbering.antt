@@ -1,5 +1,5 @@
 -- Numbers by first appearance, and tables of numbers.
-use Rattle.law_exist.proofs.Prelude.{◌≡◌, ◌≢◌, ℕ, zero, suc, ◌+◌, ◌<◌, ◌≤◌, pos, arith, refl, sym, ap, ◌∙◌, ◌⊎◌, inl, inr, ◌↔◌, List, ◌∷◌, ◌++◌, length, map, take, get_or, Option, Some, None, subst, [], ints, cases_order, length-map, take_all, IsAt, IsInTable, IsBelow, Decided, At, InOrder, is-at_one, is-at_within, is-at_some, take-more, IsNumberedTo, numbered-earlier, numbered-new, at-map, map-at, at-within, at-from_get, get-from_at, eq-decided, is-at_none, is-at_first}
+use Rattle.law_exist.proofs.Prelude.{◌≡◌, ◌≢◌, ℕ, zero, suc, ◌+◌, ◌<◌, ◌≤◌, pos, arith, refl, sym, ap, ◌∙◌, ◌⊎◌, inl, inr, ◌↔◌, List, ◌∷◌, ◌++◌, length, map, take, get_or, Option, Some, None, subst, [], ints, cases_order, length-map, take_all, IsAt, IsInTable, IsBelow, Decided, InOrder, is-at_one, is-at_within, is-at_some, take-more, IsNumberedTo, numbered-earlier, numbered-new, at-map, map-at, at-within, at-from_get, get-from_at, eq-decided, is-at_none, is-at_first}
 use Rattle.nef_classes.specs.Classes.{AreNumbered}
 
 -- ---- by first appearance
@@ -12,7 +12,7 @@ find-number (c ∷ cs) x = by (eq-decided c x) (find-number cs x)
     by (inr n) (inl (e, a)) = inl (suc e, get-from_at (c ∷ cs) (suc e) x (at-from_get cs e x a))
     by (inr n) (inr f) = inr (λ k d a. none k d (at-from_get (c ∷ cs) k d a))
       where
-        none : (k d : ℕ) → At (c ∷ cs) k d → d ≢ x
+        none : (k d : ℕ) → IsAt (c ∷ cs) k d → d ≢ x
         none zero d e g = n (is-at_first e ∙ g)
         none (suc k) d a g = f k d (get-from_at cs k d a) g
 
@@ -58,8 +58,8 @@ numbered-exist cs = let N = subst NumberedTo (take_all (length cs) cs (omega ari
 pub record Numbered {X : Type 0} (xs : List X) (id : X → ℕ) : Type 0 where
   pub list : List ℕ
   pub as_many : length list ≡ length xs
-  pub same : (p q : ℕ) (x y : X) (m n : ℕ) → At xs p x → At xs q y → IsAt list p m → IsAt list q n → (m ≡ n) ↔ (id x ≡ id y)
-  pub by_appearance : (p : ℕ) (x : X) (m n : ℕ) → At xs p x → IsAt list p n → m < n → (q : ℕ) × (y : X) × (q < p) × At xs q y × IsAt list q m
+  pub same : (p q : ℕ) (x y : X) (m n : ℕ) → IsAt xs p x → IsAt xs q y → IsAt list p m → IsAt list q n → (m ≡ n) ↔ (id x ≡ id y)
+  pub by_appearance : (p : ℕ) (x : X) (m n : ℕ) → IsAt xs p x → IsAt list p n → m < n → (q : ℕ) × (y : X) × (q < p) × IsAt xs q y × IsAt list q m
 
 pub number-all : {X : Type 0} (xs : List X) (id : X → ℕ) → Numbered xs id
 number-all {X} xs id = by (numbered-exist (map id xs))
@@ -79,36 +79,36 @@ number-all {X} xs id = by (numbered-exist (map id xs))
 
 -- ---- tables
 -- a row of numbers that R says
-pub row-of : (c : ℕ) (R : ℕ → ℕ → Type 0) → ((k : ℕ) → k < c → (n : ℕ) × R k n) → (row : List ℕ) × (length row ≡ c) × ((k n : ℕ) → At row k n → R k n)
+pub row-of : (c : ℕ) (R : ℕ → ℕ → Type 0) → ((k : ℕ) → k < c → (n : ℕ) × R k n) → (row : List ℕ) × (length row ≡ c) × ((k n : ℕ) → IsAt row k n → R k n)
 row-of zero R f = ([], refl, λ k n a. absurd (is-at_none a))
 row-of (suc c) R f = by (f zero (omega arith)) (row-of c (λ k n. R (suc k) n) (λ k l. f (suc k) (omega (arith, l))))
   where
-    by : ((n : ℕ) × R zero n) → ((row : List ℕ) × (length row ≡ c) × ((k n : ℕ) → At row k n → R (suc k) n)) → (row : List ℕ) × (length row ≡ suc c) × ((k n : ℕ) → At row k n → R k n)
+    by : ((n : ℕ) × R zero n) → ((row : List ℕ) × (length row ≡ c) × ((k n : ℕ) → IsAt row k n → R (suc k) n)) → (row : List ℕ) × (length row ≡ suc c) × ((k n : ℕ) → IsAt row k n → R k n)
     by (n, r) (row, e, all) = (n ∷ row, ap suc e, each)
       where
-        each : (k m : ℕ) → At (n ∷ row) k m → R k m
+        each : (k m : ℕ) → IsAt (n ∷ row) k m → R k m
         each zero m q = subst (R zero) (is-at_first q) r
         each (suc k) m a = all k m a
 
-pub record Table {V : Type 0} (vs : List V) (count : V → ℕ) (R : ℕ → ℕ → ℕ → Type 0) : Type 0 where
+pub record NumberTable {V : Type 0} (vs : List V) (count : V → ℕ) (R : ℕ → ℕ → ℕ → Type 0) : Type 0 where
   pub rows : List (List ℕ)
   pub as_many : length rows ≡ length vs
-  pub long : (i : ℕ) (v : V) (row : List ℕ) → At vs i v → At rows i row → length row ≡ count v
-  pub each : (i k n : ℕ) (row : List ℕ) → At rows i row → At row k n → R i k n
+  pub long : (i : ℕ) (v : V) (row : List ℕ) → IsAt vs i v → IsAt rows i row → length row ≡ count v
+  pub each : (i k n : ℕ) (row : List ℕ) → IsAt rows i row → IsAt row k n → R i k n
 
-pub table-of : {V : Type 0} (vs : List V) (count : V → ℕ) (R : ℕ → ℕ → ℕ → Type 0) → ((i k : ℕ) (v : V) → At vs i v → k < count v → (n : ℕ) × R i k n) → Table vs count R
+pub table-of : {V : Type 0} (vs : List V) (count : V → ℕ) (R : ℕ → ℕ → ℕ → Type 0) → ((i k : ℕ) (v : V) → IsAt vs i v → k < count v → (n : ℕ) × R i k n) → NumberTable vs count R
 table-of [] count R f = record { rows = []; as_many = refl; long = λ i v row a. absurd (is-at_none a); each = λ i k n row a. absurd (is-at_none a) }
 table-of {V} (v ∷ vs) count R f = by (row-of (count v) (R zero) (λ k l. f zero k v refl l)) (table-of vs count (λ i k n. R (suc i) k n) (λ i k w a l. f (suc i) k w a l))
   where
-    by : ((row : List ℕ) × (length row ≡ count v) × ((k n : ℕ) → At row k n → R zero k n)) → Table vs count (λ i k n. R (suc i) k n) → Table (v ∷ vs) count R
+    by : ((row : List ℕ) × (length row ≡ count v) × ((k n : ℕ) → IsAt row k n → R zero k n)) → NumberTable vs count (λ i k n. R (suc i) k n) → NumberTable (v ∷ vs) count R
     by (row, e, all) T = record { rows = row ∷ T.rows; as_many = ap suc T.as_many; long = long; each = each }
       where
-        long : (i : ℕ) (w : V) (r : List ℕ) → At (v ∷ vs) i w → At (row ∷ T.rows) i r → length r ≡ count w
+        long : (i : ℕ) (w : V) (r : List ℕ) → IsAt (v ∷ vs) i w → IsAt (row ∷ T.rows) i r → length r ≡ count w
         long zero w r a b = ap length (sym (is-at_first b)) ∙ e ∙ ap count (is-at_first a)
         long (suc i) w r a b = T.long i w r a b
 
-        each : (i k n : ℕ) (r : List ℕ) → At (row ∷ T.rows) i r → At r k n → R i k n
-        each zero k n r b c = all k n (subst (λ z. At z k n) (sym (is-at_first b)) c)
+        each : (i k n : ℕ) (r : List ℕ) → IsAt (row ∷ T.rows) i r → IsAt r k n → R i k n
+        each zero k n r b c = all k n (subst (λ z. IsAt z k n) (sym (is-at_first b)) c)
         each (suc i) k n r b c = T.each i k n r b c
 
 -- ---- the order of pairs of numbers
@@ -140,10 +140,10 @@ pair-itself i k (inr (e, inr a)) = absurd a.1
 
 -- ---- a list of numbers, cut into a table
 module _ {X V : Type 0} (row col : X → ℕ) (xs : List X) (ordered : InOrder (λ x y. PairBelow (row x) (col x) (row y) (col y)) xs) (vs : List V) (count : V → ℕ)
-    (complete : (i k : ℕ) (v : V) → At vs i v → k < count v → (p : ℕ) × (x : X) × At xs p x × (row x ≡ i) × (col x ≡ k))
-    (sound : (p : ℕ) (x : X) → At xs p x → (v : V) × At vs (row x) v × (col x < count v)) (ns : List ℕ) (as_many : length ns ≡ length xs) where
+    (complete : (i k : ℕ) (v : V) → IsAt vs i v → k < count v → (p : ℕ) × (x : X) × IsAt xs p x × (row x ≡ i) × (col x ≡ k))
+    (sound : (p : ℕ) (x : X) → IsAt xs p x → (v : V) × IsAt vs (row x) v × (col x < count v)) (ns : List ℕ) (as_many : length ns ≡ length xs) where
   -- two elements with the same row and column stand at one place
-  pub one-place : (p q : ℕ) (x y : X) → At xs p x → At xs q y → row x ≡ row y → col x ≡ col y → p ≡ q
+  pub one-place : (p q : ℕ) (x y : X) → IsAt xs p x → IsAt xs q y → row x ≡ row y → col x ≡ col y → p ≡ q
   one-place p q x y a b e f = by (cases_order p q)
     where
       same : PairBelow (row x) (col x) (row y) (col y) → ⊥
@@ -159,9 +159,9 @@ module _ {X V : Type 0} (row col : X → ℕ) (xs : List X) (ordered : InOrder (
 
   -- the number of the element with this row and column
   abbrev pub Placed : ℕ → ℕ → ℕ → Type 0
-  Placed i k n = (p : ℕ) × (x : X) × At xs p x × (row x ≡ i) × (col x ≡ k) × IsAt ns p n
+  Placed i k n = (p : ℕ) × (x : X) × IsAt xs p x × (row x ≡ i) × (col x ≡ k) × IsAt ns p n
 
-  pub table : Table vs count Placed
+  pub table : NumberTable vs count Placed
   table = table-of vs count Placed (λ i k v a l.
       let (p, x, b, e, f) = complete i k v a l in
       let n = is-at_some ns p (let w = at-within xs p x b in let m = as_many in omega (arith, w, m)) in
@@ -170,13 +170,13 @@ module _ {X V : Type 0} (row col : X → ℕ) (xs : List X) (ordered : InOrder (
   pub placed : (i k n : ℕ) → IsInTable table.rows i k n → Placed i k n
   placed i k n (r, a, b) = table.each i k n r (at-from_get table.rows i r a) (at-from_get r k n b)
 
-  pub has-place : (p : ℕ) (x : X) (n : ℕ) → At xs p x → IsAt ns p n → IsInTable table.rows (row x) (col x) n
+  pub has-place : (p : ℕ) (x : X) (n : ℕ) → IsAt xs p x → IsAt ns p n → IsInTable table.rows (row x) (col x) n
   has-place p x n a b = in-row (sound p x a)
     where
       number : (r : List ℕ) → IsAt table.rows (row x) r → (m : ℕ) → IsAt r (col x) m → Placed (row x) (col x) m → IsInTable table.rows (row x) (col x) n
       number r f m g (q, y, d, e, h, k) = (r, f, subst (IsAt r (col x)) (is-at_one ns p m n (subst (λ j. IsAt ns j m) (one-place q p y x d a e h) k) b) g)
 
-      in-row : ((v : V) × At vs (row x) v × (col x < count v)) → IsInTable table.rows (row x) (col x) n
+      in-row : ((v : V) × IsAt vs (row x) v × (col x < count v)) → IsInTable table.rows (row x) (col x) n
       in-row (v, c, l) =
           let (r, f) = is-at_some table.rows (row x) (let w = at-within vs (row x) v c in let m = table.as_many in omega (arith, w, m)) in
           let (m, g) = is-at_some r (col x) (let long = table.long (row x) v r c (at-from_get table.rows (row x) r f) in omega (arith, long, l)) in
@@ -186,9 +186,9 @@ module _ {X V : Type 0} (row col : X → ℕ) (xs : List X) (ordered : InOrder (
 pub record NumberedAfter {X : Type 0} (xs : List X) (id : X → ℕ) : Type 0 where
   pub list : List ℕ
   pub as_many : length list ≡ length xs
-  pub same : (p q : ℕ) (x y : X) (m n : ℕ) → At xs p x → At xs q y → IsAt list p m → IsAt list q n → (m ≡ n) ↔ (id x ≡ id y)
-  pub first : (p : ℕ) (x : X) (m : ℕ) → At xs p x → IsAt list p m → (m ≡ 0) ↔ (id x ≡ 0)
-  pub by_appearance : (p : ℕ) (x : X) (m n : ℕ) → At xs p x → IsAt list p n → 1 ≤ m → m < n → (q : ℕ) × (y : X) × (q < p) × At xs q y × IsAt list q m
+  pub same : (p q : ℕ) (x y : X) (m n : ℕ) → IsAt xs p x → IsAt xs q y → IsAt list p m → IsAt list q n → (m ≡ n) ↔ (id x ≡ id y)
+  pub first : (p : ℕ) (x : X) (m : ℕ) → IsAt xs p x → IsAt list p m → (m ≡ 0) ↔ (id x ≡ 0)
+  pub by_appearance : (p : ℕ) (x : X) (m n : ℕ) → IsAt xs p x → IsAt list p n → 1 ≤ m → m < n → (q : ℕ) × (y : X) × (q < p) × IsAt xs q y × IsAt list q m
 
 id-or_zero : {X : Type 0} → (X → ℕ) → Option X → ℕ
 id-or_zero id None = 0
@@ -204,7 +204,7 @@ number-after {X} xs id = by (number-all (None ∷ map (λ (x : X). Some x) xs) (
         some : List (Option X)
         some = map (λ (x : X). Some x) xs
 
-        at-more : (p : ℕ) (x : X) → At xs p x → At (None ∷ map (λ (x : X). Some x) xs) (suc p) (Some x)
+        at-more : (p : ℕ) (x : X) → IsAt xs p x → IsAt (None ∷ map (λ (x : X). Some x) xs) (suc p) (Some x)
         at-more p x a = map-at (λ (x : X). Some x) xs p x a
 
         cases : (ns : List ℕ) → N.list ≡ ns → NumberedAfter xs id
@@ -236,7 +236,7 @@ number-after {X} xs id = by (number-all (None ∷ map (λ (x : X). Some x) xs) (
             first : (x : X) (m : ℕ) → (m ≡ z) ↔ (id-or_zero id (Some x) ≡ id-or_zero id None) → (m ≡ 0) ↔ (id x ≡ 0)
             first x m r = (λ f. r.0 (f ∙ sym zero-first), λ f. r.1 f ∙ zero-first)
 
-            found : (p m : ℕ) → 1 ≤ m → ((q : ℕ) × (y : Option X) × (q < suc p) × At (None ∷ map (λ (x : X). Some x) xs) q y × IsAt N.list q m) → (q : ℕ) × (y : X) × (q < p) × At xs q y × IsAt ns q m
+            found : (p m : ℕ) → 1 ≤ m → ((q : ℕ) × (y : Option X) × (q < suc p) × IsAt (None ∷ map (λ (x : X). Some x) xs) q y × IsAt N.list q m) → (q : ℕ) × (y : X) × (q < p) × IsAt xs q y × IsAt ns q m
             found p m low (zero, y, l, a, b) = absurd (let f = is-at_one N.list 0 z m here b in let g = zero-first in omega (arith, low, f, g))
             found p m low (suc q, y, l, a, b) =
                 let x = at-map (λ (x : X). Some x) xs q y a in

@@ -1,5 +1,5 @@
 -- Orders of lists of numbers, of forms and of points: they go on, and of two one is below the other or they are the same.
-use Rattle.law_exist.proofs.Prelude.{◌≡◌, ℤ, pos, ◌*ℤ◌, arith, refl, sym, ap, ◌∙◌, ◌⊎◌, inl, inr, ⊎_elim, List, ◌∷◌, length, [], by_order, IsBelow, Place, Form, form, form_numbers, SamePlace, IsPlaceBelow}
+use Rattle.law_exist.proofs.Prelude.{◌≡◌, ℤ, pos, ◌*ℤ◌, arith, refl, sym, ap, ◌∙◌, ◌⊎◌, inl, inr, ⊎_elim, List, ◌∷◌, length, [], by_order, IsBelow, SpacePoint, Form, form, form_numbers, SamePoint, IsPointBelow}
 use Rattle.nef_geo.proofs.Orders.{below-trans}
 
 pub numbers-either : (xs ys : List ℤ) → length xs ≡ length ys → IsBelow xs ys ⊎ (xs ≡ ys) ⊎ IsBelow ys xs
@@ -28,8 +28,8 @@ pub form-either : (g h : Form) → FormBelow g h ⊎ (g ≡ h) ⊎ FormBelow h g
 form-either g h = ⊎_elim (λ b. inl b) (λ o. ⊎_elim (λ e. inr (inl (ap of_numbers e))) (λ b. inr (inr b)) o) (numbers-either (form_numbers g) (form_numbers h) refl)
 
 -- ---- points
-pub place-either : (p q : Place) → IsPlaceBelow p q ⊎ SamePlace p q ⊎ IsPlaceBelow q p
-place-either p q =
+pub point-either : (p q : SpacePoint) → IsPointBelow p q ⊎ SamePoint p q ⊎ IsPointBelow q p
+point-either p q =
     by_order (p.x *ℤ pos q.w) (q.x *ℤ pos p.w) (λ h. inl (inl h))
     (λ e. by_order (p.y *ℤ pos q.w) (q.y *ℤ pos p.w) (λ h. inl (inr (e, inl h)))
     (λ f. by_order (p.z *ℤ pos q.w) (q.z *ℤ pos p.w) (λ h. inl (inr (e, inr (f, inl h))))

@@ -1,5 +1,5 @@
 -- Every complex of the program that shows a set has parts.
-use Rattle.law_exist.proofs.Prelude.{◌≡◌, ℕ, zero, suc, ◌<◌, ◌≤◌, pos, arith, refl, sym, ap, ◌⊎◌, inl, inr, ⊎_elim, List, length, subst, cases_order, IsAt, IsInTable, Form, form_at, normal_of, Set, IsNormal, SameDirection, Label, Out, form_of, Plane, At, Item, items, item_normal, item_mark, item_pos, item_neg, at-one, Vertex, Corner, Complex as PlainComplex, VertexSide, HasSideLabel, Shows, IsUpright, is-at_one, is-at_within, is-at_some, AreSfaces, at-map, at-some, get-from_at, vertex_of, complex_of, corner_of, Cycles, IsSideNumber, cycle_corners, IsFacetOf, IsVolumeOf, FacetNumbers, VolumeNumbers, pos_of, neg_of, shell_sides, IsParts, SfaceNumbers, Shells, Cycle, Facet, Parts, Shell, carried, HasItem, AreCorners, IsPlaneAt, IsMarkAt, AreFirsts, IsFacetParts, AreVolumeLabels, IsBeside, AreFacetsOf, HasLeastMaps, upright-by_maps, chain-label, numbered-side, neg}
+use Rattle.law_exist.proofs.Prelude.{◌≡◌, ℕ, zero, suc, ◌<◌, ◌≤◌, pos, arith, refl, sym, ap, ◌⊎◌, inl, inr, ⊎_elim, List, length, subst, cases_order, IsAt, IsInTable, Form, form_at, normal_of, Set, IsNormal, SameDirection, Label, Out, form_of, Plane, Item, items, item_normal, item_mark, item_pos, item_neg, at-one, Vertex, Corner, Complex as PlainComplex, VertexSide, HasSideLabel, Shows, IsUpright, is-at_one, is-at_within, is-at_some, AreSfaces, at-map, at-some, get-from_at, vertex_of, complex_of, corner_of, Cycles, IsSideNumber, cycle_corners, IsFacetOf, IsVolumeOf, FacetNumbers, VolumeNumbers, pos_of, neg_of, shell_sides, IsParts, SfaceNumbers, Shells, Cycle, Facet, Parts, Shell, carried, HasItem, AreCorners, IsPlaneAt, IsMarkAt, AreFirsts, IsFacetParts, AreVolumeLabels, HasVolumesBeside, AreFacetsOf, HasLeastMaps, upright-by_maps, chain-label, numbered-side, neg}
 use Rattle.nef_complex.specs.declared.complex.Corner.{Corner as ProgramCorner}
 use Rattle.nef_complex.specs.declared.complex.Complex.{Complex}
 use Rattle.nef_facets.specs.Carriers.{IsPlaneThrough}
@@ -26,7 +26,7 @@ module _ (s : Set) (c : Complex) (S : Shows s (complex_of c)) where
         h,
         λ w y L.
             let f = at-one (complex_of c).vertices k.vertex v w K.vertex L.vertex in
-            let g = at-one (items w.map) k.item x y (subst (λ (u : Vertex). At (items u.map) k.item x) f K.item) L.item in
+            let g = at-one (items w.map) k.item x y (subst (λ (u : Vertex). IsAt (items u.map) k.item x) f K.item) L.item in
             alike h v w x y f g (subst (λ (q : Form). through-of q v) (sym e) P.through, subst (λ (q : Form). normal-as q x) (sym e) n),
       )
     where
@@ -44,7 +44,7 @@ module _ (s : Set) (c : Complex) (S : Shows s (complex_of c)) where
     item_mark x,
     λ w y L.
         let f = at-one (complex_of c).vertices k.vertex v w K.vertex L.vertex in
-        ap item_mark (at-one (items w.map) k.item x y (subst (λ (u : Vertex). At (items u.map) k.item x) f K.item) L.item),
+        ap item_mark (at-one (items w.map) k.item x y (subst (λ (u : Vertex). IsAt (items u.map) k.item x) f K.item) L.item),
   )
 
   pub facets-exist : (p : FacetParts) × IsFacetParts (complex_of c) p
@@ -80,7 +80,7 @@ module _ (s : Set) (C : PlainComplex) (S : Shows s C) (U : IsUpright C) (out : (
       made : ((x : SideAt C) × (side-row C x ≡ i) × (side-col C x ≡ k)) → (x : VertexSide) × (l : Label) × IsVolumeOf C rows x n × HasSideLabel C x l
       made (x, e, g) = (x.side, x.is.label, (k, subst (IsSideNumber C x.side) g x.is, subst (λ j. IsInTable rows j k n) (sym e) (row, a, b)), number-label C x.side x.number x.is)
 
-      by : ((v : Vertex) × At C.vertices i v) → (x : VertexSide) × (l : Label) × IsVolumeOf C rows x n × HasSideLabel C x l
+      by : ((v : Vertex) × IsAt C.vertices i v) → (x : VertexSide) × (l : Label) × IsVolumeOf C rows x n × HasSideLabel C x l
       by (v, c) = made (side-make C i k v c (let l = is-at_within row k n b in let f = (N.shape).row i v row c a in omega (arith, l, f)))
 
   of-volume : (x : VertexSide) (n : ℕ) → IsVolumeOf C rows x n → (l : Label) × HasSideLabel C x l
@@ -139,7 +139,7 @@ module _ (C : PlainComplex) (rows : List (List ℕ)) (N : VolumeNumbers C rows) 
   with-volumes = by (make-list (length p.cycles) IsOf facet)
     where
       IsOf : ℕ → Facet → Type 0
-      IsOf n f = IsAt p.planes n f.plane × IsAt p.marks n f.mark × IsAt p.cycles n f.cycles × IsBeside C rows f
+      IsOf n f = IsAt p.planes n f.plane × IsAt p.marks n f.mark × IsAt p.cycles n f.cycles × HasVolumesBeside C rows f
 
       facet : (n : ℕ) → n < length p.cycles → (f : Facet) × IsOf n f
       facet n l =
@@ -175,7 +175,7 @@ parts-exist s c S = by (facets-exist s c S) (volume-numbers s (complex_of c) S u
     upright : IsUpright (complex_of c)
     upright = upright-by_maps s c S (shown-maps s c S)
 
-    faces : (i : ℕ) (v : Vertex) → At (complex_of c).vertices i v → (ns : List ℕ) × AreSfaces v.map ns
+    faces : (i : ℕ) (v : Vertex) → IsAt (complex_of c).vertices i v → (ns : List ℕ) × AreSfaces v.map ns
     faces i v a =
         let (u, b, e) = at-map vertex_of c.vertices i v a in
         let M = maps i u (get-from_at c.vertices i u b) in
@@ -183,9 +183,9 @@ parts-exist s c S = by (facets-exist s c S) (volume-numbers s (complex_of c) S u
         (ns, subst (λ (w : Vertex). AreSfaces w.map ns) e F)
 
     sfaces : (rows : List (List ℕ)) × SfaceNumbers (complex_of c) rows
-    sfaces = got (make-list (length (complex_of c).vertices) (λ (i : ℕ) (ns : List ℕ). (v : Vertex) × At (complex_of c).vertices i v × AreSfaces v.map ns) (λ i l. let (v, a) = at-some (complex_of c).vertices i l in let (ns, F) = faces i v a in (ns, (v, a, F))))
+    sfaces = got (make-list (length (complex_of c).vertices) (λ (i : ℕ) (ns : List ℕ). (v : Vertex) × IsAt (complex_of c).vertices i v × AreSfaces v.map ns) (λ i l. let (v, a) = at-some (complex_of c).vertices i l in let (ns, F) = faces i v a in (ns, (v, a, F))))
       where
-        got : Made (length (complex_of c).vertices) (λ (i : ℕ) (ns : List ℕ). (v : Vertex) × At (complex_of c).vertices i v × AreSfaces v.map ns) → (rows : List (List ℕ)) × SfaceNumbers (complex_of c) rows
+        got : Made (length (complex_of c).vertices) (λ (i : ℕ) (ns : List ℕ). (v : Vertex) × IsAt (complex_of c).vertices i v × AreSfaces v.map ns) → (rows : List (List ℕ)) × SfaceNumbers (complex_of c) rows
         got M = (M.list, record { as_many = M.as_many; row = λ i v ns a b. let (w, d, F) = M.each i ns b in subst (λ (u : Vertex). AreSfaces u.map ns) (at-one (complex_of c).vertices i w v d a) F })
 
     by : ((p : FacetParts) × IsFacetParts (complex_of c) p) → ((rows : List (List ℕ)) × VolumeNumbers (complex_of c) rows) → (p : Parts) × IsParts (complex_of c) p

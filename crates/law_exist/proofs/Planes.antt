@@ -1,9 +1,9 @@
 -- A set whose carriers are planes of the program has a sorted list of these; its vertices are points of the program.
-use Rattle.law_exist.proofs.Prelude.{◌≡◌, ℕ, pos, negsuc, refl, sym, ap, ◌∙◌, ◌⊎◌, inl, inr, ⊎_elim, List, ◌∷◌, map, subst, [], nought-is, each, lies-each, at, num, ◌⊖◌, ◌⊗◌, follows, given, none, nought, Lies, Place, Form, form_at, normal_of, SamePlace, Set, IsVertex, Vector, cross, triple, IsZero, IsDirection, sign_at, carriers, IsMeet, signs-same, same-place_sym, FlatDim-by_germs, germs-by_cell, all-vertices, At, InOrder, Mapped, map-list, Sorted, sort, chain-order, SamePlane, Carriers, plane-turned, plane-point, same-place_trans, form_of, place_of, Plane, Point, at-map, map-at, AreCarried, triple-cycle, cross-turned, dot-comm, in-span, lies-at, at-lies}
+use Rattle.law_exist.proofs.Prelude.{◌≡◌, ℕ, pos, negsuc, refl, sym, ap, ◌∙◌, ◌⊎◌, inl, inr, ⊎_elim, List, ◌∷◌, map, subst, [], nought-is, each, lies-each, at, num, ◌⊖◌, ◌⊗◌, follows, given, none, nought, Lies, SpacePoint, Form, form_at, normal_of, SamePoint, Set, IsVertex, Vector, cross, triple, IsZero, IsDirection, sign_at, carriers, IsMeet, signs-same, same-point_sym, FlatDim-by_germs, germs-by_cell, all-vertices, IsAt, InOrder, Mapped, map-list, Sorted, sort, chain-order, SamePlane, Carriers, plane-turned, plane-point, same-point_trans, form_of, point_of, Plane, Point, at-map, map-at, AreCarried, triple-cycle, cross-turned, dot-comm, in-span, lies-at, at-lies}
 use Rattle.law_near.proofs.Meets.{vertex-meets}
 use Rattle.nef_geo.proofs.Unique.{plane_equal}
 use Rattle.law_exist.proofs.Orders.{FormBelow, form-trans, form-either}
-use Rattle.law_exist.proofs.Complexes.{Sound, Complete}
+use Rattle.law_exist.proofs.Complexes.{AreAllVertices, Complete}
 use Rattle.law_exist.proofs.Points.{meet-point}
 
 -- what lies in an image is the image of an element
@@ -65,13 +65,13 @@ module _ (s : Set) (hs : List Plane) (C : AreCarried s hs) where
               from : (g : Plane) → Lies r.list g → (f : Form) × Lies (carriers s) f × IsFor f g
               from g l = let k = lies-at m.list g (r.sound g l) in let f = m.sound k.0 g k.1 in (f.0, at-lies (carriers s) k.0 f.0 f.1, f.2)
 
-              each-one : (k : ℕ) (h : Form) → At (map form_of r.list) k h → (f : Form) × Lies (carriers s) f × SamePlane h f
+              each-one : (k : ℕ) (h : Form) → IsAt (map form_of r.list) k h → (f : Form) × Lies (carriers s) f × SamePlane h f
               each-one k h a =
                   let g = at-map form_of r.list k h a in
                   let f = from g.0 (at-lies r.list k g.0 g.1) in
                   (f.0, f.1, subst (λ (x : Form). SamePlane x f.0) g.2 f.2.1)
 
-              all-ones : (f : Form) → Lies (carriers s) f → (k : ℕ) × (h : Form) × At (map form_of r.list) k h × SamePlane h f
+              all-ones : (f : Form) → Lies (carriers s) f → (k : ℕ) × (h : Form) × IsAt (map form_of r.list) k h × SamePlane h f
               all-ones f l =
                   let i = lies-at (carriers s) f l in
                   let h = m.all i.0 f i.1 in
@@ -86,7 +86,7 @@ module _ (s : Set) (hs : List Plane) (C : AreCarried s hs) where
                   subst (λ (z : Form). FormBelow z y) g.2 (subst (λ (z : Form). FormBelow (form_of g.0) z) h.2 (chain-order PlaneBelow (λ g h. g ≡ h) r.list r.chain i k g.0 h.0 l g.1 h.1))
 
   -- ---- the points
-  meet-of : (p : Place) → IsMeet (carriers s) p → (q : Point) × SamePlace p (place_of q)
+  meet-of : (p : SpacePoint) → IsMeet (carriers s) p → (q : Point) × SamePoint p (point_of q)
   meet-of p m = meet-point f.0 g.0 h.0 p (on f.0 m.first f.1.1 m.first_at) (on g.0 m.second g.1.1 m.second_at) (on h.0 m.third h.1.1 m.third_at) independent
     where
       f : (h : Plane) × IsFor m.first h
@@ -113,25 +113,25 @@ module _ (s : Set) (hs : List Plane) (C : AreCarried s hs) where
 
   pub record PointList : Type 0 where
     pub list : List Point
-    pub sound : Sound s (each place_of list)
-    pub complete : Complete s (each place_of list)
+    pub sound : AreAllVertices s (each point_of list)
+    pub complete : Complete s (each point_of list)
 
-  vertex-same : (p q : Place) → SamePlace p q → IsVertex s p → IsVertex s q
+  vertex-same : (p q : SpacePoint) → SamePoint p q → IsVertex s p → IsVertex s q
   vertex-same p q e h = FlatDim-by_germs s s p q (germs-by_cell s p q (signs-same (carriers s) p q e)) 0 h
 
   pub points : PointList
   points = by (all-vertices s)
     where
-      by : ((ps : List Place) × ((q : Place) → Lies ps q → IsVertex s q) × ((p : Place) → IsVertex s p → (q : Place) × Lies ps q × SamePlace q p)) → PointList
-      by (ps, sound, all) = then (map-list ps (λ k p q. IsVertex s p × SamePlace p (place_of q)) (λ k p a. let v = sound p (at-lies ps k p a) in let m = meet-of p (vertex-meets s p v) in (m.0, (v, m.1))))
+      by : ((ps : List SpacePoint) × ((q : SpacePoint) → Lies ps q → IsVertex s q) × ((p : SpacePoint) → IsVertex s p → (q : SpacePoint) × Lies ps q × SamePoint q p)) → PointList
+      by (ps, sound, all) = then (map-list ps (λ k p q. IsVertex s p × SamePoint p (point_of q)) (λ k p a. let v = sound p (at-lies ps k p a) in let m = meet-of p (vertex-meets s p v) in (m.0, (v, m.1))))
         where
-          then : Mapped ps (λ k p q. IsVertex s p × SamePlace p (place_of q)) → PointList
+          then : Mapped ps (λ k p q. IsVertex s p × SamePoint p (point_of q)) → PointList
           then m = record {
             list = m.list;
-            sound = λ q l. let x = lies-image place_of m.list q l in let k = lies-at m.list x.0 x.1 in let p = m.sound k.0 x.0 k.1 in subst (IsVertex s) x.2 (vertex-same p.0 (place_of x.0) p.2.1 p.2.0);
+            sound = λ q l. let x = lies-image point_of m.list q l in let k = lies-at m.list x.0 x.1 in let p = m.sound k.0 x.0 k.1 in subst (IsVertex s) x.2 (vertex-same p.0 (point_of x.0) p.2.1 p.2.0);
             complete = λ p h.
                 let f = all p h in
                 let k = lies-at ps f.0 f.1 in
                 let q = m.all k.0 f.0 k.1 in
-                (place_of q.0, lies-each place_of m.list q.0 (at-lies m.list k.0 q.0 q.1), same-place_trans (place_of q.0) f.0 p (same-place_sym f.0 (place_of q.0) q.2.1) f.2);
+                (point_of q.0, lies-each point_of m.list q.0 (at-lies m.list k.0 q.0 q.1), same-point_trans (point_of q.0) f.0 p (same-point_sym f.0 (point_of q.0) q.2.1) f.2);
           }

@@ -1,5 +1,5 @@
 -- A point at which three planes of the program with independent normals meet is one of the program's points.
-use Rattle.law_exist.proofs.Prelude.{◌≡◌, ℕ, ◌*◌, ◌≤◌, ℤ, pos, negsuc, neg_ℤ, ◌*ℤ◌, ◌<ℤ◌, nat_abs, arith, ◌∷◌, of_z, [], ints, by_order, at, num, neg, ◌⊗◌, follows, given, none, normal_limit, offset_limit, point_limit, weight_limit, Place, Form, form_at, normal_of, SamePlace, vector, cross, IsAtMost, IsReduced, IsSameRatios, place_of, form_of, Plane, Point, part_small, part_positive, dot_size, cross_size, normal_within}
+use Rattle.law_exist.proofs.Prelude.{◌≡◌, ℕ, ◌*◌, ◌≤◌, ℤ, pos, negsuc, neg_ℤ, ◌*ℤ◌, ◌<ℤ◌, nat_abs, arith, ◌∷◌, of_z, [], ints, by_order, at, num, neg, ◌⊗◌, follows, given, none, normal_limit, offset_limit, point_limit, weight_limit, SpacePoint, Form, form_at, normal_of, SamePoint, vector, cross, IsAtMost, IsReduced, IsSameRatios, point_of, form_of, Plane, Point, part_small, part_positive, dot_size, cross_size, normal_within}
 use Rattle.nef_geo.proofs.Cramer.{constants, meet_x, meet_y, meet_z, meet_w, IsOnlyCommon-from_ratios}
 use Rattle.law_exist.proofs.Reduced.{reduce}
 
@@ -94,5 +94,5 @@ module _ (f g h : Plane) where
       ))
 
   -- THE MEET IS A POINT
-  pub meet-point : (p : Place) → form_at F p ≡ pos 0 → form_at G p ≡ pos 0 → form_at H p ≡ pos 0 → (meet_w F G H ≡ pos 0 → ⊥) → (q : Point) × SamePlace p (place_of q)
+  pub meet-point : (p : SpacePoint) → form_at F p ≡ pos 0 → form_at G p ≡ pos 0 → form_at H p ≡ pos 0 → (meet_w F G H ≡ pos 0 → ⊥) → (q : Point) × SamePoint p (point_of q)
   meet-point p a b c some = let (q, R) = with-ratios some in (q, (IsOnlyCommon-from_ratios F G H q.x q.y q.z q.w q.proper some R).only p a b c)

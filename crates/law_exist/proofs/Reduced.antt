@@ -1,5 +1,5 @@
 -- Four numbers are a positive multiple of four in lowest terms; vectors in lowest terms are at most as large as those that they are parallel to.
-use Rattle.law_exist.proofs.Prelude.{◌≡◌, ℕ, zero, suc, ◌+◌, ◌-◌, ◌*◌, ◌<◌, ◌≤◌, ℤ, pos, negsuc, ◌+ℤ◌, ◌*ℤ◌, ◌<ℤ◌, nat_abs, arith, refl, sym, ap, ◌∙◌, inl, inr, List, ◌∷◌, of_z, [], ◌∣◌, IsGcd, ints, unsigned_abs-mul, cases_lt, mul-le, IsGcd-from_zero, IsGcd-swap, IsGcd-from_sub, ring, at, num, ◌⊕◌, ◌⊖◌, ◌⊗◌, follows, given, none, DividesAll, IsLowest, Vector, IsZero, IsDirection, cross, dot, IsAtMost, triple_of, IsPrimitive, IsReduced, divides_all, IsGcdOfFour-from_steps, quot_exact, IsReduced-from_parts}
+use Rattle.law_exist.proofs.Prelude.{◌≡◌, ℕ, zero, suc, ◌+◌, ◌-◌, ◌*◌, ◌<◌, ◌≤◌, ℤ, pos, negsuc, ◌+ℤ◌, ◌*ℤ◌, ◌<ℤ◌, nat_abs, arith, refl, sym, ap, ◌∙◌, inl, inr, List, ◌∷◌, of_z, [], ◌∣◌, IsGcd, ints, unsigned_abs-mul, cases_lt, mul-le, IsGcd-from_zero, IsGcd-swap, IsGcd-from_sub, ring, at, num, ◌⊕◌, ◌⊖◌, ◌⊗◌, follows, given, none, DividesAll, IsLowest, Vector, IsZero, IsDirection, cross, dot, IsAtMost, direction_numbers, IsPrimitive, IsReduced, divides_all, IsGcdOfFour-from_steps, quot_exact, IsReduced-from_parts}
 use Rattle.std.specs.Int.RustNames.{int_div}
 use native.Mathlib.Nat.{pos_of_dvd_of_pos}
 
@@ -67,10 +67,10 @@ divides-one k m e =
     one (suc (suc a)) zero e = absurd (omega (arith, e))
     one (suc (suc a)) (suc b) e = absurd (omega (arith, e, mul-le (suc (suc a)) 1 (suc (suc a)) (suc b) (omega arith) (omega arith)))
 
-pub primitive-lowest : (d : Vector) → IsPrimitive d → IsLowest (triple_of d)
+pub primitive-lowest : (d : Vector) → IsPrimitive d → IsLowest (direction_numbers d)
 primitive-lowest d P k D = by k D
   where
-    by : (k : ℕ) → DividesAll k (triple_of d) → k ≡ 1
+    by : (k : ℕ) → DividesAll k (direction_numbers d) → k ≡ 1
     by zero D = absurd (nothing (zero-size d.x D.0) (zero-size d.y D.1.0) (zero-size d.z D.1.1.0))
       where
         zero-size : (x : ℤ) → 0 ∣ nat_abs x → x ≡ pos 0

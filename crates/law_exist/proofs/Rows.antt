@@ -1,5 +1,5 @@
 -- Lists of things that are said place by place.
-use Rattle.law_exist.proofs.Prelude.{◌≡◌, ℕ, zero, suc, ◌<◌, ◌≤◌, arith, refl, ap, ◌⊎◌, inl, inr, ⊎_elim, List, ◌∷◌, length, subst, [], cases_order, IsAt, IsInTable, At, is-at_one, is-at_some, is-at_within, at-from_get, get-from_at, is-at_first}
+use Rattle.law_exist.proofs.Prelude.{◌≡◌, ℕ, zero, suc, ◌<◌, ◌≤◌, arith, refl, ap, ◌⊎◌, inl, inr, ⊎_elim, List, ◌∷◌, length, subst, [], cases_order, IsAt, IsInTable, is-at_one, is-at_some, is-at_within, at-from_get, get-from_at, is-at_first}
 
 -- a list with a thing at each place that R says
 pub record Made {Y : Type 0} (c : ℕ) (R : ℕ → Y → Type 0) : Type 0 where
@@ -14,7 +14,7 @@ make-list {Y} (suc c) R f = by (f zero (omega arith)) (make-list c (λ k y. R (s
     by : ((y : Y) × R zero y) → Made c (λ k y. R (suc k) y) → Made (suc c) R
     by (y, r) m = record { list = y ∷ m.list; as_many = ap suc m.as_many; each = λ k z a. each k z (at-from_get (y ∷ m.list) k z a) }
       where
-        each : (k : ℕ) (z : Y) → At (y ∷ m.list) k z → R k z
+        each : (k : ℕ) (z : Y) → IsAt (y ∷ m.list) k z → R k z
         each zero z e = subst (R zero) (is-at_first e) r
         each (suc k) z a = m.each k z (get-from_at m.list k z a)
 
@@ -35,7 +35,7 @@ most (x ∷ xs) = by (most xs)
         (λ l. (m, λ k n a. each m k n (omega arith) (omega (arith, l)) (at-from_get (x ∷ xs) k n a), ⊎_elim (λ e. inl e) (λ g. inr (suc g.0, get-from_at (x ∷ xs) (suc g.0) m (at-from_get xs g.0 m g.1))) got)) o)
         (cases_order m x)
       where
-        each : (z k n : ℕ) → m ≤ z → x ≤ z → At (x ∷ xs) k n → n ≤ z
+        each : (z k n : ℕ) → m ≤ z → x ≤ z → IsAt (x ∷ xs) k n → n ≤ z
         each z zero n l j e = omega (arith, j, is-at_first e)
         each z (suc k) n l j a = let h = below k n (get-from_at xs k n a) in omega (arith, h, l)
 

@@ -1,5 +1,5 @@
 -- Sets whose halves are turns of few forms within the limits have complexes of the program.
-use Rattle.law_exist.proofs.Prelude.{◌≡◌, ℕ, ◌*◌, ◌^◌, ◌<◌, ◌≤◌, arith, refl, sym, ap, ◌∙◌, inl, inr, ⊎_elim, List, ◌∷◌, ◌++◌, length, length-append, Bool, false, subst, of_z, [], normal_limit, Form, form, normal_of, Set, halves, Lies, lies-left, lies-right, lies-append, frame, form_of, Plane, SamePlane, Triple, turned_plane, turned_set, at_most-turned, is-at_some, at-from_get, AreCarried, IsSmallForm, AreSmall, IsTurnOf, AreTurnsOf, EveryTurnedSetIsShown, at-lies}
+use Rattle.law_exist.proofs.Prelude.{◌≡◌, ℕ, ◌*◌, ◌^◌, ◌<◌, ◌≤◌, arith, refl, sym, ap, ◌∙◌, inl, inr, ⊎_elim, List, ◌∷◌, ◌++◌, length, length-append, Bool, false, subst, of_z, [], normal_limit, Form, form, normal_of, Set, halves, Lies, lies-left, lies-right, lies-append, frame, form_of, Plane, SamePlane, Triple, turned_plane, turned_set, at_most-turned, is-at_some, at-from_get, AreCarried, IsSmallForm, AreSmallForms, IsTurnOf, AreTurnsOf, EveryTurnedSetIsShown, at-lies}
 use Rattle.nef_case.proofs.TurnLemmas.{composition-turns, composed-by_numbers}
 use Rattle.law_turns.proofs.Carriers.{halves-from}
 use Rattle.law_turns.proofs.Vectors.{direction-turned}
@@ -45,7 +45,7 @@ record Planes (bs : List Form) : Type 0 where
   as_many : length list ≡ 48 * length bs
   all : (b : Form) (k : ℕ) → Lies bs b → k < 48 → (h : Plane) × Lies list h × SamePlane (form_of h) (turned_plane k b)
 
-planes-of : (bs : List Form) → AreSmall bs → Planes bs
+planes-of : (bs : List Form) → AreSmallForms bs → Planes bs
 planes-of [] S = record { list = []; as_many = refl; all = λ b k l. absurd l }
 planes-of (b ∷ bs) S = by (make-list 48 (λ (k : ℕ) (h : Plane). SamePlane (form_of h) (turned_plane k b)) (λ k l. read (turned_plane k b) (turned-small k b (S b (inl refl))))) (planes-of bs (λ c l. S c (inr l)))
   where
@@ -63,7 +63,7 @@ planes-of (b ∷ bs) S = by (make-list 48 (λ (k : ℕ) (h : Plane). SamePlane (
         all c k (inr m) l = let (h, a, e) = P.all c k m l in (h, lies-right M.list P.list h a, e)
 
 -- the sides of the frame
-frame-small : AreSmall frame
+frame-small : AreSmallForms frame
 frame-small f (inl e) = subst IsSmallForm e (record { normal = λ z. cc; normal_small = record { of_x = omega arith; of_y = omega arith; of_z = omega arith }; offset_small = omega arith })
 frame-small f (inr (inl e)) = subst IsSmallForm e (record { normal = λ z. cc; normal_small = record { of_x = omega arith; of_y = omega arith; of_z = omega arith }; offset_small = omega arith })
 frame-small f (inr (inr (inl e))) = subst IsSmallForm e (record { normal = λ z. cc; normal_small = record { of_x = omega arith; of_y = omega arith; of_z = omega arith }; offset_small = omega arith })
@@ -73,7 +73,7 @@ frame-small f (inr (inr (inr (inr (inr (inl e)))))) = subst IsSmallForm e (recor
 frame-small f (inr (inr (inr (inr (inr (inr m)))))) = absurd m
 
 -- the planes of the frame and of all turns
-pub carried-by : (bs : List Form) → AreSmall bs → length bs ≤ 2 ^ 20 → (hs : List Plane) × (length hs ≤ 2 ^ 32) × ((s : Set) → AreTurnsOf bs s → AreCarried s hs)
+pub carried-by : (bs : List Form) → AreSmallForms bs → length bs ≤ 2 ^ 20 → (hs : List Plane) × (length hs ≤ 2 ^ 32) × ((s : Set) → AreTurnsOf bs s → AreCarried s hs)
 carried-by bs S few = by (planes-of frame frame-small) (planes-of bs S)
   where
     by : Planes frame → Planes bs → (hs : List Plane) × (length hs ≤ 2 ^ 32) × ((s : Set) → AreTurnsOf bs s → AreCarried s hs)

@@ -1,5 +1,5 @@
 -- The sides of each map of the program have numbers of sfaces.
-use Rattle.law_exist.proofs.Prelude.{◌≡◌, ℕ, zero, suc, ◌+◌, ◌<◌, ◌≤◌, ℤ, pos, ◌<ℤ◌, ◌≤ℤ◌, arith, refl, sym, ap, ◌∙◌, inl, inr, ⊎_elim, ◌↔◌, List, ◌∷◌, ◌++◌, length, take, Option, Some, None, subst, [], ints, lies-left, lies-right, by_order, Chained, Vector, opposite, dot, cross, up, IsDirection, Label, Decided, decided-both, forms, At, MapVertex, MapSloop, Map, Item, arc_item, sloop_item, items, item_normal, dir_of, around_svertex, pos_item, whole, Shaped, at-sloop, at-arc, item-forms, normal-form, OnItem-decided, circle-point, dir-at, normal-direction, Link, AreLinked, AreWithin, AreClasses, is-at_within, map_of, IsSphereMap, sides_of, AreSfaces, number_of, rise, IsOver, IsFirst, IsFirstOf, meridians, over_forms, FirstNear, JoinsBelow, JoinsArc, AreEach, AreArounds, AreSloops, AreGrounds, met_number, AreJoins, SphereMap, at-some, at-from_get, get-from_at, map-ahead, map-across, self-pos, dir-self, apart, eq-decided, is-at_none, is-at_first}
+use Rattle.law_exist.proofs.Prelude.{◌≡◌, ℕ, zero, suc, ◌+◌, ◌<◌, ◌≤◌, ℤ, pos, ◌<ℤ◌, ◌≤ℤ◌, arith, refl, sym, ap, ◌∙◌, inl, inr, ⊎_elim, ◌↔◌, List, ◌∷◌, ◌++◌, length, take, Option, Some, None, subst, [], ints, lies-left, lies-right, by_order, Chained, Vector, opposite, dot, cross, up, IsDirection, Label, Decided, decided-both, forms, IsAt, MapVertex, MapSloop, Map, Item, arc_item, sloop_item, items, item_normal, dir_of, around_svertex, pos_item, whole, Shaped, at-sloop, at-arc, item-forms, normal-form, OnItem-decided, circle-point, dir-at, normal-direction, Link, AreLinked, LinksAreBelow, AreClasses, is-at_within, map_of, IsSphereMap, sides_of, AreSfaces, side_number, rise, IsOver, IsFirst, IsFirstOf, meridians, over_forms, FirstNear, JoinsBelow, JoinsArc, AreEach, AreArounds, AreSloops, AreGrounds, met_number, AreJoins, SphereMap, at-some, at-from_get, get-from_at, map-ahead, map-across, self-pos, dir-self, apart, eq-decided, is-at_none, is-at_first}
 use Rattle.law_sphere.specs.Forms.{SameSigns}
 use Rattle.nef_geo.proofs.InPlane.{up-direction}
 use Rattle.nef_smap.proofs.FirstOf.{all-first, pass-first, only-first, lower-first, higher-first}
@@ -13,7 +13,7 @@ use Rattle.law_exist.proofs.Numbering.{row-of, numbered-exist}
 use Rattle.nef_conn.proofs.Good.{less-decided}
 
 -- ---- what is met first
-module _ (M : Map) (ahead : (k : ℕ) (x : Item) → At (items M) k x → pos 0 <ℤ dot (item_normal x) up) where
+module _ (M : Map) (ahead : (k : ℕ) (x : Item) → IsAt (items M) k x → pos 0 <ℤ dot (item_normal x) up) where
   over-decided : (x : Item) (d : Vector) → Decided (IsOver M up x d)
   over-decided x d = ⊎_elim (λ h. inl (record { below = h.0; on = h.1 })) (λ f. inr (λ o. f (o.below, o.on))) (decided-both (less-decided (dot (item_normal x) d) (pos 0)) (OnItem-decided M x (rise up (item_normal x) d)))
 
@@ -24,7 +24,7 @@ module _ (M : Map) (ahead : (k : ℕ) (x : Item) → At (items M) k x → pos 0 
       next : n + 1 ≡ suc n
       next = omega arith
 
-      by : ((x : Item) × At (items M) n x) → ((r : Option ℕ) × IsFirstOf M up d n r) → (r : Option ℕ) × IsFirstOf M up d (suc n) r
+      by : ((x : Item) × IsAt (items M) n x) → ((r : Option ℕ) × IsFirstOf M up d n r) → (r : Option ℕ) × IsFirstOf M up d (suc n) r
       by (x, a) (r, F) = ⊎_elim (λ o. over o r F) (λ f. (r, subst (λ m. IsFirstOf M up d m r) next (pass-first M up ahead d n x a f r F))) (over-decided x d)
         where
           over : IsOver M up x d → (r : Option ℕ) → IsFirstOf M up d n r → (r : Option ℕ) × IsFirstOf M up d (suc n) r
@@ -56,21 +56,21 @@ module _ (M : Map) (ahead : (k : ℕ) (x : Item) → At (items M) k x → pos 0 
 each-list : (n : ℕ) (P : ℕ → Link → Type 0) → ((k : ℕ) → k < n → (l : Link) × P k l) → (ls : List Link) × AreEach P n ls
 each-list n P f = by (links n P f)
   where
-    links : (n : ℕ) (P : ℕ → Link → Type 0) → ((k : ℕ) → k < n → (l : Link) × P k l) → (ls : List Link) × (length ls ≡ n) × ((k : ℕ) (l : Link) → At ls k l → P k l)
+    links : (n : ℕ) (P : ℕ → Link → Type 0) → ((k : ℕ) → k < n → (l : Link) × P k l) → (ls : List Link) × (length ls ≡ n) × ((k : ℕ) (l : Link) → IsAt ls k l → P k l)
     links zero P f = ([], refl, λ k l a. absurd (is-at_none a))
     links (suc n) P f = more (f zero (omega arith)) (links n (λ k l. P (suc k) l) (λ k h. f (suc k) (omega (arith, h))))
       where
-        more : ((l : Link) × P zero l) → ((ls : List Link) × (length ls ≡ n) × ((k : ℕ) (l : Link) → At ls k l → P (suc k) l)) → (ls : List Link) × (length ls ≡ suc n) × ((k : ℕ) (l : Link) → At ls k l → P k l)
+        more : ((l : Link) × P zero l) → ((ls : List Link) × (length ls ≡ n) × ((k : ℕ) (l : Link) → IsAt ls k l → P (suc k) l)) → (ls : List Link) × (length ls ≡ suc n) × ((k : ℕ) (l : Link) → IsAt ls k l → P k l)
         more (l, p) (ls, e, all) = (l ∷ ls, ap suc e, each)
           where
-            each : (k : ℕ) (m : Link) → At (l ∷ ls) k m → P k m
+            each : (k : ℕ) (m : Link) → IsAt (l ∷ ls) k m → P k m
             each zero m q = subst (P zero) (is-at_first q) p
             each (suc k) m a = all k m a
 
-    by : ((ls : List Link) × (length ls ≡ n) × ((k : ℕ) (l : Link) → At ls k l → P k l)) → (ls : List Link) × AreEach P n ls
+    by : ((ls : List Link) × (length ls ≡ n) × ((k : ℕ) (l : Link) → IsAt ls k l → P k l)) → (ls : List Link) × AreEach P n ls
     by (ls, e, all) = (ls, record { as_many = e; each = λ k l a. all k l (at-from_get ls k l a) })
 
-module _ (M : Map) (V : Shaped M) (ahead : (k : ℕ) (x : Item) → At (items M) k x → pos 0 <ℤ dot (item_normal x) up) (across : (k : ℕ) (v : MapVertex) → At M.svertices k v → IsDirection (cross up v.dir)) where
+module _ (M : Map) (V : Shaped M) (ahead : (k : ℕ) (x : Item) → IsAt (items M) k x → pos 0 <ℤ dot (item_normal x) up) (across : (k : ℕ) (v : MapVertex) → IsAt M.svertices k v → IsDirection (cross up v.dir)) where
   near : (a b c : Vector) → (r : Option ℕ) × FirstNear M up a b c r
   near = first-near M ahead
 
@@ -92,7 +92,7 @@ module _ (M : Map) (V : Shaped M) (ahead : (k : ℕ) (x : Item) → At (items M)
       next : n + 1 ≡ suc n
       next = omega arith
 
-      by : ((v : MapVertex) × At M.svertices n v) → ((ls : List Link) × AreArounds M n ls) → (ls : List Link) × AreArounds M (suc n) ls
+      by : ((v : MapVertex) × IsAt M.svertices n v) → ((ls : List Link) × AreArounds M n ls) → (ls : List Link) × AreArounds M (suc n) ls
       by (v, a) (ls, A) = cases v.around refl
         where
           cases : (o : Option Label) → v.around ≡ o → (ls : List Link) × AreArounds M (suc n) ls
@@ -100,7 +100,7 @@ module _ (M : Map) (V : Shaped M) (ahead : (k : ℕ) (x : Item) → At (items M)
           cases (Some l) e =
               let c = cross up v.dir in
               let f = near v.dir (opposite up) c in
-              let k : Link = record { first = number_of M (around_svertex n); second = met_number M f.0 } in
+              let k : Link = record { first = side_number M (around_svertex n); second = met_number M f.0 } in
               (ls ++ k ∷ [], subst (λ m. AreArounds M m (ls ++ k ∷ [])) next (arounds-more M n ls k (v, l, a, e, (record { aside = c; off = self-off c (across n v a); first = f.0; is_first = f.1 }, refl, refl)) A))
 
   joins-arc : (k : ℕ) → k < length M.arcs → (l : Link) × JoinsArc M k l
@@ -117,7 +117,7 @@ module _ (M : Map) (V : Shaped M) (ahead : (k : ℕ) (x : Item) → At (items M)
       let r = cross n s in
       let hr : IsDirection r = along-some n s s hn ls (self-pos s hs) in
       let f = near s r up in (
-        record { first = number_of M (pos_item k); second = met_number M f.0 },
+        record { first = side_number M (pos_item k); second = met_number M f.0 },
         (a.0, a.1, (record { along = r; level = cross-level n s r (dir-self r hr); forward = along-forward n s s hn ls (self-pos s hs) r (dir-self r hr); first = f.0; is_first = f.1 }, refl, refl)),
       )
 
@@ -130,12 +130,12 @@ module _ (M : Map) (V : Shaped M) (ahead : (k : ℕ) (x : Item) → At (items M)
       let hc : IsDirection (cross up p.0) = apart l.normal up p.0 (λ z. let h = ahead a.0 (sloop_item l) a.1 in omega (arith, ints, z, h)) p.1.level p.1.direction in
       let c = cross up p.0 in
       let f = near p.0 up c in
-      let k : Link = record { first = number_of M (pos_item a.0); second = met_number M f.0 } in
+      let k : Link = record { first = side_number M (pos_item a.0); second = met_number M f.0 } in
       (k ∷ [], sloops-some M a.0 k (l, a.1, (record { point = p.0; on = p.1; aside = c; off = self-off c hc; first = f.0; is_first = f.1 }, refl, refl)))
 
   ground-list : (o : Option Label) → M.ground ≡ o → (ls : List Link) × AreGrounds M ls
   ground-list None e = ([], record { only = λ i l a. absurd (let w = is-at_within [] i l a in omega (arith, w)); each = λ m q. absurd (let f : None ≡ Some m = sym e ∙ q in cc) })
-  ground-list (Some m) e = let k : Link = record { first = number_of M whole; second = length (sides_of M) } in (k ∷ [], grounds-some M k (m, e, refl, refl))
+  ground-list (Some m) e = let k : Link = record { first = side_number M whole; second = length (sides_of M) } in (k ∷ [], grounds-some M k (m, e, refl, refl))
 
   pub joins : (ls : List Link) × AreJoins M up (AreLinked ls)
   joins =
@@ -156,16 +156,16 @@ link-decided (l ∷ ls) s t = by (eq-decided l.first s) (eq-decided l.second t) 
     by e f (inl x) = inl (suc x.0, x.1, get-from_at (l ∷ ls) (suc x.0) x.1 (at-from_get ls x.0 x.1 x.2), x.3, x.4)
     by (inr n) f (inr g) = inr (λ x. none x.0 x.1 (at-from_get (l ∷ ls) x.0 x.1 x.2) x.3 x.4)
       where
-        none : (k : ℕ) (m : Link) → At (l ∷ ls) k m → m.first ≡ s → m.second ≡ t → ⊥
+        none : (k : ℕ) (m : Link) → IsAt (l ∷ ls) k m → m.first ≡ s → m.second ≡ t → ⊥
         none zero m e h i = n (ap (λ (r : Link). r.first) (is-at_first e) ∙ h)
         none (suc k) m a h i = g (k, m, get-from_at ls k m a, h, i)
     by (inl e) (inr n) (inr g) = inr (λ x. none x.0 x.1 (at-from_get (l ∷ ls) x.0 x.1 x.2) x.3 x.4)
       where
-        none : (k : ℕ) (m : Link) → At (l ∷ ls) k m → m.first ≡ s → m.second ≡ t → ⊥
+        none : (k : ℕ) (m : Link) → IsAt (l ∷ ls) k m → m.first ≡ s → m.second ≡ t → ⊥
         none zero m e h i = n (ap (λ (r : Link). r.second) (is-at_first e) ∙ i)
         none (suc k) m a h i = g (k, m, get-from_at ls k m a, h, i)
 
-pub classes-exist : (n : ℕ) (ls : List Link) → AreWithin n ls → (cs : List ℕ) × AreClasses n ls cs
+pub classes-exist : (n : ℕ) (ls : List Link) → LinksAreBelow n ls → (cs : List ℕ) × AreClasses n ls cs
 classes-exist n ls W = by (decided-classes n (AreLinked ls) (link-decided ls) within)
   where
     within : (s t : ℕ) → AreLinked ls s t → (s < n) × (t < n)

@@ -1,5 +1,5 @@
 -- Whether two sides are linked in a shell is decided.
-use Rattle.law_exist.proofs.Prelude.{◌≡◌, ℕ, arith, refl, sym, ap, ◌∙◌, ◌⊎◌, inl, inr, ⊎_elim, List, subst, Set, SameDirection, opposite, plane_dir, Label, Decided, decided-both, decided-or, At, Arc, Item, item_normal, OnItem, Side as MapSide, around_svertex, pos_item, neg_item, whole, HasSide, InOneSface, OnItem-decided, search_list, at-one, SameDirection-decided, at-or, Vertex, Edge, Complex as PlainComplex, Corner, IsCorner, Shows, VertexSide, HasSideLabel, LinkAcross, LinkInSface, AreAlong, AreSidesAlong, pos_arcs, neg_arcs, around_ends, LinkAlongEdge, LinkAcrossFacet, sides_of, AreSfaces, number_of, side-number, is-at_some, is-at_within, ShellLink, eq-decided}
+use Rattle.law_exist.proofs.Prelude.{◌≡◌, ℕ, arith, refl, sym, ap, ◌∙◌, ◌⊎◌, inl, inr, ⊎_elim, List, subst, Set, SameDirection, opposite, plane_dir, Label, Decided, decided-both, decided-or, IsAt, Arc, Item, item_normal, OnItem, Side as MapSide, around_svertex, pos_item, neg_item, whole, HasSide, InOneSface, OnItem-decided, search_list, at-one, SameDirection-decided, at-or, Vertex, Edge, Complex as PlainComplex, Corner, IsCorner, Shows, VertexSide, HasSideLabel, LinkAcross, LinkInSface, AreAlong, AreSidesAlong, pos_arcs, neg_arcs, around_ends, LinkAlongEdge, LinkAcrossFacet, sides_of, AreSfaces, side_number, side-number, is-at_some, is-at_within, ShellLink, eq-decided}
 use Rattle.nef_conn.proofs.Named.{found, from-vertex}
 use Rattle.nef_facets.proofs.AcrossLinks.{link-is, link-one}
 use Rattle.nef_volumes.proofs.SfaceTies.{sface-from_numbers, numbers-from_sface}
@@ -99,21 +99,21 @@ module _ (C : PlainComplex) where
   along-decided : (e : Edge) (i j : ℕ) → Decided (AreAlong C e i j)
   along-decided e i j = vertices (at-or C.vertices e.low) (at-or C.vertices e.high)
     where
-      arcs : (v w : Vertex) → At C.vertices e.low v → At C.vertices e.high w → ((a : Arc) × At v.map.arcs i a) ⊎ ((a : Arc) → At v.map.arcs i a → ⊥) → ((b : Arc) × At w.map.arcs j b) ⊎ ((b : Arc) → At w.map.arcs j b → ⊥) → Decided (AreAlong C e i j)
-      arcs v w p q (inr n) o = inr (λ A. n A.low_arc (subst (λ (u : Vertex). At u.map.arcs i A.low_arc) (at-one C.vertices e.low A.low_vertex v A.ends.low p) A.is_low))
-      arcs v w p q (inl a) (inr n) = inr (λ A. n A.high_arc (subst (λ (u : Vertex). At u.map.arcs j A.high_arc) (at-one C.vertices e.high A.high_vertex w A.ends.high q) A.is_high))
+      arcs : (v w : Vertex) → IsAt C.vertices e.low v → IsAt C.vertices e.high w → ((a : Arc) × IsAt v.map.arcs i a) ⊎ ((a : Arc) → IsAt v.map.arcs i a → ⊥) → ((b : Arc) × IsAt w.map.arcs j b) ⊎ ((b : Arc) → IsAt w.map.arcs j b → ⊥) → Decided (AreAlong C e i j)
+      arcs v w p q (inr n) o = inr (λ A. n A.low_arc (subst (λ (u : Vertex). IsAt u.map.arcs i A.low_arc) (at-one C.vertices e.low A.low_vertex v A.ends.low p) A.is_low))
+      arcs v w p q (inl a) (inr n) = inr (λ A. n A.high_arc (subst (λ (u : Vertex). IsAt u.map.arcs j A.high_arc) (at-one C.vertices e.high A.high_vertex w A.ends.high q) A.is_high))
       arcs v w p q (inl (a, r)) (inl (b, t)) = ⊎_elim
           (λ h. inl (record { low_vertex = v; high_vertex = w; ends = record { low = p; high = q }; low_arc = a; high_arc = b; is_low = r; is_high = t; one_normal = h.0; one_way = h.1 }))
           (λ n. inr (λ A.
-          let f = at-one v.map.arcs i A.low_arc a (subst (λ (u : Vertex). At u.map.arcs i A.low_arc) (at-one C.vertices e.low A.low_vertex v A.ends.low p) A.is_low) r in
-          let g = at-one w.map.arcs j A.high_arc b (subst (λ (u : Vertex). At u.map.arcs j A.high_arc) (at-one C.vertices e.high A.high_vertex w A.ends.high q) A.is_high) t in
+          let f = at-one v.map.arcs i A.low_arc a (subst (λ (u : Vertex). IsAt u.map.arcs i A.low_arc) (at-one C.vertices e.low A.low_vertex v A.ends.low p) A.is_low) r in
+          let g = at-one w.map.arcs j A.high_arc b (subst (λ (u : Vertex). IsAt u.map.arcs j A.high_arc) (at-one C.vertices e.high A.high_vertex w A.ends.high q) A.is_high) t in
           n (subst (λ (z : Arc). Fits z b) f (subst (λ (z : Arc). Fits A.low_arc z) g (A.one_normal, A.one_way)))))
           (decided-both (SameDirection-decided a.normal b.normal) (decided-or (decided-both (eq-decided a.source e.low_svertex) (eq-decided b.target e.high_svertex)) (decided-both (eq-decided a.target e.low_svertex) (eq-decided b.source e.high_svertex))))
         where
           Fits : Arc → Arc → Type 0
           Fits a b = SameDirection a.normal b.normal × (((a.source ≡ e.low_svertex) × (b.target ≡ e.high_svertex)) ⊎ ((a.target ≡ e.low_svertex) × (b.source ≡ e.high_svertex)))
 
-      vertices : ((v : Vertex) × At C.vertices e.low v) ⊎ ((v : Vertex) → At C.vertices e.low v → ⊥) → ((w : Vertex) × At C.vertices e.high w) ⊎ ((w : Vertex) → At C.vertices e.high w → ⊥) → Decided (AreAlong C e i j)
+      vertices : ((v : Vertex) × IsAt C.vertices e.low v) ⊎ ((v : Vertex) → IsAt C.vertices e.low v → ⊥) → ((w : Vertex) × IsAt C.vertices e.high w) ⊎ ((w : Vertex) → IsAt C.vertices e.high w → ⊥) → Decided (AreAlong C e i j)
       vertices (inl (v, p)) (inl (w, q)) = arcs v w p q (at-or v.map.arcs i) (at-or w.map.arcs j)
       vertices (inr n) o = inr (λ A. n A.low_vertex A.ends.low)
       vertices (inl v) (inr n) = inr (λ A. n A.high_vertex A.ends.high)
@@ -177,7 +177,7 @@ module _ (C : PlainComplex) where
       (search_list C.edges (λ n e. (x.vertex ≡ e.low) × ((y.vertex ≡ e.high) × AreSidesAlong C e x.side y.side)) (λ n e. decided-both (eq-decided x.vertex e.low) (decided-both (eq-decided y.vertex e.high) (sides-along_decided e x.side y.side))))
 
   -- ---- in an sface
-  pub sface-link_decided : (x y : VertexSide) (l m : Label) → HasSideLabel C x l → HasSideLabel C y m → ((v : Vertex) → At C.vertices x.vertex v → (ns : List ℕ) × AreSfaces v.map ns) → Decided (LinkInSface C x y)
+  pub sface-link_decided : (x y : VertexSide) (l m : Label) → HasSideLabel C x l → HasSideLabel C y m → ((v : Vertex) → IsAt C.vertices x.vertex v → (ns : List ℕ) × AreSfaces v.map ns) → Decided (LinkInSface C x y)
   sface-link_decided x y l m (v, a, h) (w, b, k) faces = by (eq-decided y.vertex x.vertex)
     where
       by : Decided (y.vertex ≡ x.vertex) → Decided (LinkInSface C x y)
@@ -185,7 +185,7 @@ module _ (C : PlainComplex) where
       by (inl e) = then (faces v a)
         where
           same : w ≡ v
-          same = at-one C.vertices x.vertex w v (subst (λ n. At C.vertices n w) e b) a
+          same = at-one C.vertices x.vertex w v (subst (λ n. IsAt C.vertices n w) e b) a
 
           other : HasSide v.map y.side m
           other = subst (λ (u : Vertex). HasSide u.map y.side m) same k
@@ -194,18 +194,18 @@ module _ (C : PlainComplex) where
           then (ns, F) =
               let i = side-number v.map x.side l h in
               let j = side-number v.map y.side m other in
-              let wi = is-at_within (sides_of v.map) (number_of v.map x.side) (x.side, l) i in
-              let wj = is-at_within (sides_of v.map) (number_of v.map y.side) (y.side, m) j in
+              let wi = is-at_within (sides_of v.map) (side_number v.map x.side) (x.side, l) i in
+              let wj = is-at_within (sides_of v.map) (side_number v.map y.side) (y.side, m) j in
               let many = F.as_many in
-              let p = is-at_some ns (number_of v.map x.side) (omega (arith, wi, many)) in
-              let q = is-at_some ns (number_of v.map y.side) (omega (arith, wj, many)) in
-              let r = F.numbered.by_class (number_of v.map x.side) (number_of v.map y.side) p.0 q.0 p.1 q.1 in
+              let p = is-at_some ns (side_number v.map x.side) (omega (arith, wi, many)) in
+              let q = is-at_some ns (side_number v.map y.side) (omega (arith, wj, many)) in
+              let r = F.numbered.by_class (side_number v.map x.side) (side_number v.map y.side) p.0 q.0 p.1 q.1 in
               ⊎_elim
-              (λ e2. let c = r.0 e2 in inl (record { vertex = v; is_vertex = a; one_vertex = e; one = l; other = m; has = h; has_other = other; one_sface = sface-from_numbers v.map c.0 (number_of v.map x.side) (number_of v.map y.side) x.side y.side l m i j c.1 }))
+              (λ e2. let c = r.0 e2 in inl (record { vertex = v; is_vertex = a; one_vertex = e; one = l; other = m; has = h; has_other = other; one_sface = sface-from_numbers v.map c.0 (side_number v.map x.side) (side_number v.map y.side) x.side y.side l m i j c.1 }))
               (λ n. inr (λ L. n (r.1 (numbers-from_sface v.map x.side y.side l m h other (subst (λ (u : Vertex). InOneSface u.map x.side y.side) (at-one C.vertices x.vertex L.vertex v L.is_vertex a) L.one_sface)))))
               (eq-decided p.0 q.0)
 
-pub shell-link_decided : (s : Set) (C : PlainComplex) → Shows s C → ((i : ℕ) (v : Vertex) → At C.vertices i v → (ns : List ℕ) × AreSfaces v.map ns) → (x y : VertexSide) (l m : Label) → HasSideLabel C x l → HasSideLabel C y m → Decided (ShellLink C x y)
+pub shell-link_decided : (s : Set) (C : PlainComplex) → Shows s C → ((i : ℕ) (v : Vertex) → IsAt C.vertices i v → (ns : List ℕ) × AreSfaces v.map ns) → (x y : VertexSide) (l m : Label) → HasSideLabel C x l → HasSideLabel C y m → Decided (ShellLink C x y)
 shell-link_decided s C S faces x y l m hx hy =
     ⊎_elim (λ a. inl (inl a))
     (λ n. ⊎_elim (λ a. inl (inr (inl a)))

@@ -1,5 +1,5 @@
 -- The shells of a complex that shows a set exist: the classes of its sides, each in order.
-use Rattle.law_exist.proofs.Prelude.{◌≡◌, ℕ, refl, sym, ap, ◌∙◌, inl, inr, ⊎_elim, List, ◌∷◌, map, subst, [], length-map, Chained, Set, Lies, Label, Decided, At, InOrder, chain-order, Vertex, Complex, Shows, VertexSide, HasSideLabel, VolumeLink, LinkAcrossFacet, chain-here, chain-link, chain-trans, chain-turned, chain-map, sides_of, AreSfaces, number_of, side-number, at-map, map-at, at-within, at-from_get, count_sides, IsVolumeOf, VolumeNumbers, shell_sides, ShellLink, IsNamed, IsNameBelow, IsListed, IsShell, IsShellBelow, Shells, IsSideNumber, Shell, numbered-side, lies-at, at-lies, eq-decided}
+use Rattle.law_exist.proofs.Prelude.{◌≡◌, ℕ, refl, sym, ap, ◌∙◌, inl, inr, ⊎_elim, List, ◌∷◌, map, subst, [], length-map, Chained, Set, Lies, Label, Decided, IsAt, InOrder, chain-order, Vertex, Complex, Shows, VertexSide, HasSideLabel, VolumeLink, LinkAcrossFacet, chain-here, chain-link, chain-trans, chain-turned, chain-map, sides_of, AreSfaces, side_number, side-number, at-map, map-at, at-within, at-from_get, count_sides, IsVolumeOf, VolumeNumbers, shell_sides, ShellLink, IsSideNamed, IsNameBelow, IsSideListed, IsShell, IsShellBelow, Shells, IsSideNumber, Shell, numbered-side, lies-at, at-lies, eq-decided}
 use Rattle.nef_complex.specs.declared.parts.Side.{Side}
 use Rattle.nef_volumes.proofs.AllTies.{shell-volume}
 use Rattle.nef_volumes.proofs.ShellParts.{side-number_one}
@@ -20,13 +20,13 @@ module _ (C : Complex) where
 
   ends : (x y : VertexSide) → ShellLink C x y → HasLabel x × HasLabel y
   unfolding HasLabel
-  ends x y (inl L) = ((L.one, (L.vertex, L.is_vertex, L.has)), (L.other, (L.vertex, subst (λ n. At C.vertices n L.vertex) (sym L.one_vertex) L.is_vertex, L.has_other)))
+  ends x y (inl L) = ((L.one, (L.vertex, L.is_vertex, L.has)), (L.other, (L.vertex, subst (λ n. IsAt C.vertices n L.vertex) (sym L.one_vertex) L.is_vertex, L.has_other)))
   ends x y (inr (inl L)) = ((L.is_low.0, L.is_low.3), (L.is_high.0, L.is_high.3))
   ends x y (inr (inr L)) = ends-across x y L
 
   label-number : (x : VertexSide) → HasLabel x → (j : ℕ) × IsSideNumber C x j
   unfolding HasLabel
-  label-number x (l, (v, a, h)) = (number_of v.map x.side, record { vertex = v; is_vertex = a; label = l; is_side = side-number v.map x.side l h })
+  label-number x (l, (v, a, h)) = (side_number v.map x.side, record { vertex = v; is_vertex = a; label = l; is_side = side-number v.map x.side l h })
 
 abbrev Before : (C : Complex) → SideAt C → SideAt C → Type 0
 Before C x y = PairBelow x.side.vertex x.number y.side.vertex y.number
@@ -34,8 +34,8 @@ Before C x y = PairBelow x.side.vertex x.number y.side.vertex y.number
 abbrev name : (C : Complex) → SideAt C → Side
 name C x = record { vertex = x.side.vertex; side = x.number }
 
-module _ (s : Set) (C : Complex) (S : Shows s C) (faces : (i : ℕ) (v : Vertex) → At C.vertices i v → (ns : List ℕ) × AreSfaces v.map ns) (E : Elements (side-row C) (side-col C) C.vertices count_sides (side-make C)) where
-  in-list : (y : VertexSide) (j : ℕ) → IsSideNumber C y j → (p : ℕ) × (x : SideAt C) × At E.list p x × (x.side ≡ y) × (x.number ≡ j)
+module _ (s : Set) (C : Complex) (S : Shows s C) (faces : (i : ℕ) (v : Vertex) → IsAt C.vertices i v → (ns : List ℕ) × AreSfaces v.map ns) (E : Elements (side-row C) (side-col C) C.vertices count_sides (side-make C)) where
+  in-list : (y : VertexSide) (j : ℕ) → IsSideNumber C y j → (p : ℕ) × (x : SideAt C) × IsAt E.list p x × (x.side ≡ y) × (x.number ≡ j)
   in-list y j J =
       let w = at-within (sides_of J.vertex.map) j (y.side, J.label) (at-from_get (sides_of J.vertex.map) j (y.side, J.label) J.is_side) in
       let (p, x, a, e, f) = E.complete y.vertex j J.vertex J.is_vertex w in
@@ -51,7 +51,7 @@ module _ (s : Set) (C : Complex) (S : Shows s C) (faces : (i : ℕ) (v : Vertex)
       let (q, w, b, g, h) = in-list y.side y.number y.is in
       subst (λ z. Decided (Chained (ShellLink C) z y.side)) e (subst (λ z. Decided (Chained (ShellLink C) u.side z)) g (chained-decided E.list (λ (x : SideAt C). x.side) (ShellLink C) listed once linked p q u w a b))
     where
-      listed : (y z : VertexSide) → ShellLink C y z → ((i : ℕ) × (x : SideAt C) × At E.list i x × (x.side ≡ y)) × ((j : ℕ) × (w : SideAt C) × At E.list j w × (w.side ≡ z))
+      listed : (y z : VertexSide) → ShellLink C y z → ((i : ℕ) × (x : SideAt C) × IsAt E.list i x × (x.side ≡ y)) × ((j : ℕ) × (w : SideAt C) × IsAt E.list j w × (w.side ≡ z))
       listed y z l =
           let r = ends C y z l in
           let i = label-number C y r.0 in
@@ -60,10 +60,10 @@ module _ (s : Set) (C : Complex) (S : Shows s C) (faces : (i : ℕ) (v : Vertex)
           let b = in-list z j.0 j.1 in
           ((a.0, a.1, a.2, a.3), (b.0, b.1, b.2, b.3))
 
-      once : (i j : ℕ) (x w : SideAt C) → At E.list i x → At E.list j w → x.side ≡ w.side → i ≡ j
+      once : (i j : ℕ) (x w : SideAt C) → IsAt E.list i x → IsAt E.list j w → x.side ≡ w.side → i ≡ j
       once i j x w a b e = one-place (side-row C) (side-col C) E.list E.ordered C.vertices count_sides E.complete (side-sound C E.list) (map (λ (x : SideAt C). 0) E.list) (length-map E.list (λ (x : SideAt C). 0)) i j x w a b (ap (λ (z : VertexSide). z.vertex) e) (side-number_one C w.side x.number w.number (subst (λ z. IsSideNumber C z x.number) e x.is) w.is)
 
-      linked : (i j : ℕ) (x w : SideAt C) → At E.list i x → At E.list j w → Decided (ShellLink C x.side w.side)
+      linked : (i j : ℕ) (x w : SideAt C) → IsAt E.list i x → IsAt E.list j w → Decided (ShellLink C x.side w.side)
       linked i j x w a b = shell-link_decided s C S faces x.side w.side x.is.label w.is.label (number-label C x.side x.number x.is) (number-label C w.side w.number w.is)
 
   self : (x : SideAt C) → Before C x x → ⊥
@@ -91,11 +91,11 @@ module _ (s : Set) (C : Complex) (S : Shows s C) (faces : (i : ℕ) (v : Vertex)
   shell : SideAt C → List Side
   shell x = map (name C) (group x).list
 
-  in-shell : (x : SideAt C) (n : Side) → IsListed (shell x) n → (u : SideAt C) × Lies (group x).list u × (name C u ≡ n)
+  in-shell : (x : SideAt C) (n : Side) → IsSideListed (shell x) n → (u : SideAt C) × Lies (group x).list u × (name C u ≡ n)
   unfolding shell
   in-shell x n (k, a) = let u = at-map (name C) (group x).list k n a in (u.0, at-lies (group x).list k u.0 u.1, u.2)
 
-  named-one : (n : Side) (x : VertexSide) (u : SideAt C) → name C u ≡ n → IsNamed C n x → u.side ≡ x
+  named-one : (n : Side) (x : VertexSide) (u : SideAt C) → name C u ≡ n → IsSideNamed C n x → u.side ≡ x
   named-one n x u e (f, J) = side-same C u.side x u.number n.side u.is J (ap (λ (z : Side). z.vertex) e ∙ sym f) (ap (λ (z : Side). z.side) e)
 
   name-same : (u : SideAt C) (n : Side) → u.side.vertex ≡ n.vertex → u.number ≡ n.side → name C u ≡ n
@@ -105,22 +105,22 @@ module _ (s : Set) (C : Complex) (S : Shows s C) (faces : (i : ℕ) (v : Vertex)
       made i j = record { vertex = i; side = j }
 
   -- a named side is listed
-  to-shell : (x : SideAt C) (n : Side) (y : VertexSide) → IsNamed C n y → Chained (ShellLink C) y x.side → IsListed (shell x) n
+  to-shell : (x : SideAt C) (n : Side) (y : VertexSide) → IsSideNamed C n y → Chained (ShellLink C) y x.side → IsSideListed (shell x) n
   unfolding shell
   to-shell x n y (f, J) c =
       let (p, w, a, e, g) = in-list y n.side J in
       let l = (group x).all w (at-lies E.list p w a) (subst (λ z. Chained (ShellLink C) z x.side) (sym e) c) in
       let k = lies-at (group x).list w l in
-      (k.0, subst (At (map (name C) (group x).list) k.0) (name-same w n (ap (λ (z : VertexSide). z.vertex) e ∙ f) g) (map-at (name C) (group x).list k.0 w k.1))
+      (k.0, subst (IsAt (map (name C) (group x).list) k.0) (name-same w n (ap (λ (z : VertexSide). z.vertex) e ∙ f) g) (map-at (name C) (group x).list k.0 w k.1))
 
-  from-shell : (x : SideAt C) (n : Side) (y : VertexSide) → IsNamed C n y → IsListed (shell x) n → Chained (ShellLink C) y x.side
+  from-shell : (x : SideAt C) (n : Side) (y : VertexSide) → IsSideNamed C n y → IsSideListed (shell x) n → Chained (ShellLink C) y x.side
   from-shell x n y N l = let (u, m, e) = in-shell x n l in subst (λ z. Chained (ShellLink C) z x.side) (named-one n y u e N) ((group x).sound u m).1
 
   is-shell : (x : SideAt C) → Lies E.list x → IsShell C (shell x)
   unfolding shell
   is-shell x l = record {
     some = some;
-    sides = λ n m. let (u, k, e) = in-shell x n m in (u.side, subst (λ z. IsNamed C z u.side) e (refl, u.is));
+    sides = λ n m. let (u, k, e) = in-shell x n m in (u.side, subst (λ z. IsSideNamed C z u.side) e (refl, u.is));
     class = λ n t y z m Y Z. (
       λ k. chain-trans (ShellLink C) y x.side z (from-shell x n y Y m) (chain-turned (ShellLink C) z x.side (from-shell x t z Z k)),
       λ c. to-shell x t z Z (chain-trans (ShellLink C) z y x.side (chain-turned (ShellLink C) y z c) (from-shell x n y Y m)),
@@ -131,10 +131,10 @@ module _ (s : Set) (C : Complex) (S : Shows s C) (faces : (i : ℕ) (v : Vertex)
         subst (λ z. IsNameBelow z t) u.2 (subst (IsNameBelow (name C u.0)) w.2 (chain-order (Before C) (Before C) (group x).list (group x).ordered i j u.0 w.0 k u.1 w.1));
   }
     where
-      some : (n : Side) × At (shell x) 0 n
+      some : (n : Side) × IsAt (shell x) 0 n
       some = by (group x).list ((group x).all x l (here x))
         where
-          by : (xs : List (SideAt C)) → Lies xs x → (n : Side) × At (map (name C) xs) 0 n
+          by : (xs : List (SideAt C)) → Lies xs x → (n : Side) × IsAt (map (name C) xs) 0 n
           by [] m = absurd m
           by (y ∷ ys) m = (name C y, refl)
 
@@ -165,32 +165,32 @@ module _ (s : Set) (C : Complex) (S : Shows s C) (faces : (i : ℕ) (v : Vertex)
       row : List Shell
       row = map made firsts.list
 
-      shell-at : (i : ℕ) (h : List Side) → At (shell_sides row) i h → (x : SideAt C) × At firsts.list i x × (shell x ≡ h)
+      shell-at : (i : ℕ) (h : List Side) → IsAt (shell_sides row) i h → (x : SideAt C) × IsAt firsts.list i x × (shell x ≡ h)
       unfolding row made
       shell-at i h a =
           let r = at-map (λ (g : Shell). g.sides) (map made firsts.list) i h a in
           let x = at-map made firsts.list i r.0 r.1 in
           (x.0, x.1, ap (λ (g : Shell). g.sides) x.2 ∙ r.2)
 
-      first-in : (i : ℕ) (x : SideAt C) → At firsts.list i x → Lies E.list x × (IsIn x × ((y : SideAt C) → Lies E.list y → One y x → Before C y x → ⊥))
+      first-in : (i : ℕ) (x : SideAt C) → IsAt firsts.list i x → Lies E.list x × (IsIn x × ((y : SideAt C) → Lies E.list y → One y x → Before C y x → ⊥))
       first-in i x a = firsts.sound x (at-lies firsts.list i x a)
 
-      within : (i : ℕ) (h : List Side) (t : Side) (y : VertexSide) → At (shell_sides row) i h → IsListed h t → IsNamed C t y → IsVolumeOf C rows y n
+      within : (i : ℕ) (h : List Side) (t : Side) (y : VertexSide) → IsAt (shell_sides row) i h → IsSideListed h t → IsSideNamed C t y → IsVolumeOf C rows y n
       within i h t y a l T =
           let (x, b, e) = shell-at i h a in
-          let (u, m, f) = in-shell x t (subst (λ z. IsListed z t) (sym e) l) in
+          let (u, m, f) = in-shell x t (subst (λ z. IsSideListed z t) (sym e) l) in
           subst (λ z. IsVolumeOf C rows z n) (named-one t y u f T) (carried n x u (back u x ((group x).sound u m).1) (first-in i x b).1.0)
 
-      complete : (y : VertexSide) → IsVolumeOf C rows y n → (i : ℕ) × (h : List Side) × (t : Side) × At (shell_sides row) i h × IsListed h t × IsNamed C t y
+      complete : (y : VertexSide) → IsVolumeOf C rows y n → (i : ℕ) × (h : List Side) × (t : Side) × IsAt (shell_sides row) i h × IsSideListed h t × IsSideNamed C t y
       unfolding row made firsts
       complete y (j, J, t) =
           let (p, w, a, e, f) = in-list y j J in
           let (x, l, c) = leader-of (Before C) self below turned One here back on one-decided E.list (order-chain (Before C) E.list E.ordered) IsIn (volume-decided n) (carried n) w (at-lies E.list p w a) (subst (λ z. IsVolumeOf C rows z n) (sym e) (j, J, t)) in
           let k = lies-at firsts.list x l in
-          let T : IsNamed C (record { vertex = y.vertex; side = j }) y = (refl, J) in
+          let T : IsSideNamed C (record { vertex = y.vertex; side = j }) y = (refl, J) in
           (k.0, shell x, record { vertex = y.vertex; side = j }, map-at (λ (g : Shell). g.sides) (map made firsts.list) k.0 (made x) (map-at made firsts.list k.0 x k.1), to-shell x (record { vertex = y.vertex; side = j }) y T (subst (λ z. Chained (ShellLink C) z x.side) e c), T)
 
-      first-name : (i : ℕ) (x : SideAt C) → At firsts.list i x → At (shell x) 0 (name C x)
+      first-name : (i : ℕ) (x : SideAt C) → IsAt firsts.list i x → IsAt (shell x) 0 (name C x)
       unfolding shell group
       first-name i x a = let r = first-in i x a in map-at (name C) (group x).list 0 x (leads (Before C) self below turned One here back on one-decided E.list (order-chain (Before C) E.list E.ordered) x r.0 r.1.1)
 
@@ -198,7 +198,7 @@ module _ (s : Set) (C : Complex) (S : Shows s C) (faces : (i : ℕ) (v : Vertex)
       ordered i k g h less a b =
           let (x, c, e) = shell-at i g a in
           let (y, d, f) = shell-at k h b in
-          (name C x, name C y, subst (λ z. At z 0 (name C x)) e (first-name i x c), subst (λ z. At z 0 (name C y)) f (first-name k y d), chain-order (Before C) (Before C) firsts.list firsts.ordered i k x y less c d)
+          (name C x, name C y, subst (λ z. IsAt z 0 (name C x)) e (first-name i x c), subst (λ z. IsAt z 0 (name C y)) f (first-name k y d), chain-order (Before C) (Before C) firsts.list firsts.ordered i k x y less c d)
 
       pub shells-are : (row : List Shell) × Shells C (λ x. IsVolumeOf C rows x n) (shell_sides row)
       shells-are = (

@@ -1,5 +1,5 @@
 -- Every set whose carriers are planes of the program, and not too many, has a complex of the program that shows it. In each complex of the program that shows a set the maps are within their limits.
-use Rattle.law_exist.proofs.Prelude.{◌≡◌, ℕ, ◌≤◌, ◌^◌, refl, sym, ap, ◌∙◌, List, length, map, subst, [], each, Place, Form, Set, At, Map, Vertex as PlainVertex, Edge as PlainEdge, SamePlane, Shows, form_of, place_of, Plane, map_of, map-at, at-map, at-from_get, vertex_of, edge_of, complex_of, HasLeastMaps, AreCarried, EveryCarriedSetIsShown, at-lies}
+use Rattle.law_exist.proofs.Prelude.{◌≡◌, ℕ, ◌≤◌, ◌^◌, refl, sym, ap, ◌∙◌, List, length, map, subst, [], each, SpacePoint, Form, Set, IsAt, Map, Vertex as PlainVertex, Edge as PlainEdge, SamePlane, Shows, form_of, point_of, Plane, map_of, map-at, at-map, at-from_get, vertex_of, edge_of, complex_of, HasLeastMaps, AreCarried, EveryCarriedSetIsShown, at-lies}
 use Rattle.nef_complex.specs.Index.{skeleton}
 use Rattle.nef_complex.specs.declared.complex.Complex.{Complex}
 use Rattle.nef_complex.specs.declared.complex.Vertex.{Vertex}
@@ -25,11 +25,11 @@ module _ (s : Set) (hs : List Plane) (few : length hs ≤ 2 ^ 32) (A : AreCarrie
   lists =
       let P = planes s hs A in
       let Q = points s hs A in
-      let V = vertices-at s (each place_of Q.list) Q.sound Q.complete in
+      let V = vertices-at s (each point_of Q.list) Q.sound Q.complete in
       let E = vertex_edges s V.list V.are in
       by P.list Q V E.0 (shown-by s (map form_of P.list) V.list E.0 P.carriers V.are E.1)
     where
-      by : (gs : List Plane) (Q : PointList s hs A) (V : VerticesAt s (each place_of Q.list)) (es : List PlainEdge) → Shows s (record { carriers = map form_of gs; vertices = V.list; edges = es }) → Lists
+      by : (gs : List Plane) (Q : PointList s hs A) (V : VerticesAt s (each point_of Q.list)) (es : List PlainEdge) → Shows s (record { carriers = map form_of gs; vertices = V.list; edges = es }) → Lists
       by gs Q V es S = record {
         carriers = gs;
         vertices = vs.0;
@@ -38,12 +38,12 @@ module _ (s : Set) (hs : List Plane) (few : length hs ≤ 2 ^ 32) (A : AreCarrie
             (subst (λ (ds : List PlainEdge). Shows s (record { carriers = map form_of gs; vertices = V.list; edges = ds })) (sym fs.1) S);
       }
         where
-          vertex-from : (k : ℕ) (v : PlainVertex) → At V.list k v → (u : Vertex) × (vertex_of u ≡ v)
+          vertex-from : (k : ℕ) (v : PlainVertex) → IsAt V.list k v → (u : Vertex) × (vertex_of u ≡ v)
           vertex-from k v a =
-              let q = lies-image place_of Q.list v.point (V.point k v a) in
+              let q = lies-image point_of Q.list v.point (V.point k v a) in
               let m = sphere-map v.map (short-map s hs A gs V.list es S k v a few) in (
                 record { point = q.0; map = m.0 },
-                ap (λ (p : Place). let r : PlainVertex = record { point = p; map = map_of m.0 } in r) q.2 ∙ ap (λ (n : Map). let r : PlainVertex = record { point = v.point; map = n } in r) m.1,
+                ap (λ (p : SpacePoint). let r : PlainVertex = record { point = p; map = map_of m.0 } in r) q.2 ∙ ap (λ (n : Map). let r : PlainVertex = record { point = v.point; map = n } in r) m.1,
               )
 
           vs : (us : List Vertex) × (map vertex_of us ≡ V.list)
@@ -67,7 +67,7 @@ shown-carried s c S f l =
 -- so the maps are least, and within their limits
 pub shown-maps : (s : Set) (c : Complex) → Shows s (complex_of c) → HasLeastMaps c
 shown-maps s c S i v a =
-    let b : At (map vertex_of c.vertices) i (vertex_of v) = map-at vertex_of c.vertices i v (at-from_get c.vertices i v a) in
+    let b : IsAt (map vertex_of c.vertices) i (vertex_of v) = map-at vertex_of c.vertices i v (at-from_get c.vertices i v a) in
     let A = shown-carried s c S in
     record {
       sphere_map = record {

@@ -1,10 +1,10 @@
 -- The maps of a set whose carriers are planes of the program are within the limits: their svertices are crossings of two carriers, and their items lie in one.
-use Rattle.law_exist.proofs.Prelude.{◌≡◌, ℕ, ◌*◌, ◌<◌, ◌≤◌, ◌^◌, lit≤, arith, sym, ◌⊎◌, inl, inr, ⊎_elim, List, length, map, subst, mul-le, length-map, pairs, lies-pairs, Lies, normal_limit, svertex_limit, Form, normal_of, Set, Vector, cross, IsZero, IsDirection, SameDirection, IsOpposite, IsNormal, IsPrimitive, At, MapVertex, Item, items, item_normal, Beside, same_way, other_way, beside, normal-direction, direction-decided, lowest-same, Vertex, Edge, Complex, Shows, near_point, near-one, plane-turned, plane-slope, onward, onward-way, form_of, Plane, cross_size, normal_within, at-map, at-within, carried, AreCarried, cross-turned, parallel-both, SameDirection-turned, SameDirection-trans, dir-self, crossed, opposite-cross, opposite-way, lies-at, cross-direction_turned}
+use Rattle.law_exist.proofs.Prelude.{◌≡◌, ℕ, ◌*◌, ◌<◌, ◌≤◌, ◌^◌, lit≤, arith, sym, ◌⊎◌, inl, inr, ⊎_elim, List, length, map, subst, mul-le, length-map, pairs, lies-pairs, Lies, normal_limit, svertex_limit, Form, normal_of, Set, Vector, cross, IsZero, IsDirection, SameDirection, IsOpposite, IsNormal, IsPrimitive, IsAt, MapVertex, Item, items, item_normal, Beside, same_way, other_way, beside, normal-direction, direction-decided, lowest-same, Vertex, Edge, Complex, Shows, near_point, near-one, plane-turned, plane-slope, onward, onward-way, form_of, Plane, cross_size, normal_within, at-map, at-within, carried, AreCarried, cross-turned, parallel-both, SameDirection-turned, SameDirection-trans, dir-self, crossed, opposite-cross, opposite-way, lies-at, cross-direction_turned}
 use Rattle.law_near.proofs.Supports.{edge-support}
 use Rattle.law_cones.proofs.Lowest.{lowest}
 use Rattle.law_complex.proofs.Edges.{near-flat}
 use Rattle.law_exist.proofs.Few.{Once, few, length-pairs}
-use Rattle.law_exist.proofs.Lifted.{IsShort, IsShortMap}
+use Rattle.law_exist.proofs.Lifted.{IsShortMap, IsShortVector}
 use Rattle.law_exist.proofs.Planes.{normals-parallel}
 use Rattle.law_exist.proofs.Reduced.{lowest-small}
 
@@ -45,8 +45,8 @@ module _ (s : Set) (hs : List Plane) (A : AreCarried s hs) (gs : List Plane) (vs
     direction : IsDirection (cross (normal_of (form_of first)) (normal_of (form_of second)))
     parallel : IsZero (cross (cross (normal_of (form_of first)) (normal_of (form_of second))) d)
 
-  module _ (i : ℕ) (v : Vertex) (a : At vs i v) where
-    svertex-crossing : (k : ℕ) (u : MapVertex) → At v.map.svertices k u → IsCrossing u.dir
+  module _ (i : ℕ) (v : Vertex) (a : IsAt vs i v) where
+    svertex-crossing : (k : ℕ) (u : MapVertex) → IsAt v.map.svertices k u → IsCrossing u.dir
     svertex-crossing k u b =
         let d = u.dir in
         let hd : IsDirection d = (S.cones i v a).valid.shaped.svertex_dirs k u b in
@@ -70,7 +70,7 @@ module _ (s : Set) (hs : List Plane) (A : AreCarried s hs) (gs : List Plane) (vs
           parallel = crossed m n d (plane-slope E.first (form_of g.0) d (plane-turned (form_of g.0) E.first g.2) flat.0) (plane-slope E.second (form_of h.0) d (plane-turned (form_of h.0) E.second h.2) flat.1);
         }
 
-    pub svertex-short : (k : ℕ) (u : MapVertex) → At v.map.svertices k u → IsShort svertex_limit u.dir
+    pub svertex-short : (k : ℕ) (u : MapVertex) → IsAt v.map.svertices k u → IsShortVector svertex_limit u.dir
     svertex-short k u b =
         let X = svertex-crossing k u b in
         let p = (S.maps_ordered i v a).dirs_lowest k u b in
@@ -81,7 +81,7 @@ module _ (s : Set) (hs : List Plane) (A : AreCarried s hs) (gs : List Plane) (vs
           primitive = p;
         }
 
-    pub item-short : (k : ℕ) (x : Item) → At (items v.map) k x → IsShort normal_limit (item_normal x)
+    pub item-short : (k : ℕ) (x : Item) → IsAt (items v.map) k x → IsShortVector normal_limit (item_normal x)
     item-short k x b =
         let K = carried s C (record { vertex = i; item = k }) v x S (record { vertex = a; item = b }) in
         let g = at-map form_of gs K.number K.plane K.listed in
@@ -94,7 +94,7 @@ module _ (s : Set) (hs : List Plane) (A : AreCarried s hs) (gs : List Plane) (vs
         }
 
     -- ---- how many svertices there are
-    svertex-listed : (k : ℕ) (u : MapVertex) → At v.map.svertices k u → Lies (pairs crossing hs hs) u.dir
+    svertex-listed : (k : ℕ) (u : MapVertex) → IsAt v.map.svertices k u → Lies (pairs crossing hs hs) u.dir
     svertex-listed k u b = by (beside c u.dir X.direction hd X.parallel)
       where
         X : IsCrossing u.dir
@@ -142,7 +142,7 @@ module _ (s : Set) (hs : List Plane) (A : AreCarried s hs) (gs : List Plane) (vs
       targets = λ k b h. let B = (S.cones i v a).valid.shaped.arcs_between k b h in within b.target B.target B.has_target;
     }
       where
-        within : (k : ℕ) (u : MapVertex) → At v.map.svertices k u → k < 2 ^ 64
+        within : (k : ℕ) (u : MapVertex) → IsAt v.map.svertices k u → k < 2 ^ 64
         within k u b =
             let m = at-within v.map.svertices k u b in
             let f = svertices-few in

@@ -1,9 +1,9 @@
 -- The sides of a complex of the program that shows a set have volume numbers: sides whose points are joined have one, and those that are outside have 0.
-use Rattle.law_exist.proofs.Prelude.{◌≡◌, ℕ, suc, ◌<◌, ◌≤◌, arith, refl, sym, ap, ◌∙◌, inr, ◌↔◌, List, subst, IsAt, Chained, FlatDim, HasLabel, Place, Set, Label, Out, Not, In, At, Side as MapSide, at-one, Vertex, Complex, Shows, VertexSide, HasSideLabel, same-itself, VolumeLink, IsAtSide, IsUpright, sides-joined, is-at_one, chain-here, chain-link, joined-items_linked, sides_of, LabelledSide, at-within, at-some, at-from_get, get-from_at, side-has, IsSideNumber, count_sides, IsVolumeOf, IsSideBelow, VolumeNumbers, side-point, chain-label}
+use Rattle.law_exist.proofs.Prelude.{◌≡◌, ℕ, suc, ◌<◌, ◌≤◌, arith, refl, sym, ap, ◌∙◌, inr, ◌↔◌, List, subst, IsAt, Chained, FlatDim, HasLabel, SpacePoint, Set, Label, Out, Not, In, Side as MapSide, at-one, Vertex, Complex, Shows, VertexSide, HasSideLabel, same-itself, VolumeLink, IsAtSide, IsUpright, sides-joined, is-at_one, chain-here, chain-link, joined-items_linked, sides_of, LabelledSide, at-within, at-some, at-from_get, get-from_at, side-has, IsSideNumber, count_sides, IsVolumeOf, IsSideBelow, VolumeNumbers, side-point, chain-label}
 use Rattle.nef_conn.proofs.SidesName.{converse-for_all}
 use Rattle.law_exist.proofs.Connected.{class-number, class-same}
 use Rattle.law_exist.proofs.Elements.{Elements, elements}
-use Rattle.law_exist.proofs.Numbering.{NumberedAfter, number-after, Table, Placed, table, placed, has-place}
+use Rattle.law_exist.proofs.Numbering.{NumberedAfter, number-after, NumberTable, Placed, table, placed, has-place}
 
 pub record SideAt (C : Complex) : Type 0 where
   pub side : VertexSide
@@ -19,7 +19,7 @@ side-col C x = x.number
 -- a vertex has one side with a number
 pub side-same : (C : Complex) (x y : VertexSide) (i j : ℕ) → IsSideNumber C x i → IsSideNumber C y j → x.vertex ≡ y.vertex → i ≡ j → x ≡ y
 side-same C x y i j I J e f =
-    let v = at-one C.vertices y.vertex I.vertex J.vertex (subst (λ n. At C.vertices n I.vertex) e I.is_vertex) J.is_vertex in
+    let v = at-one C.vertices y.vertex I.vertex J.vertex (subst (λ n. IsAt C.vertices n I.vertex) e I.is_vertex) J.is_vertex in
     let a : IsAt (sides_of J.vertex.map) j (x.side, I.label) = subst (λ n. IsAt (sides_of J.vertex.map) n (x.side, I.label)) f (subst (λ (w : Vertex). IsAt (sides_of w.map) i (x.side, I.label)) v I.is_side) in
     let g = is-at_one (sides_of J.vertex.map) j (x.side, I.label) (y.side, J.label) a J.is_side in
     ap (λ n. made n x.side) e ∙ ap (λ (o : LabelledSide). made y.vertex o.0) g
@@ -31,12 +31,12 @@ pub number-label : (C : Complex) (x : VertexSide) (j : ℕ) (J : IsSideNumber C 
 number-label C x j J = (J.vertex, J.is_vertex, side-has J.vertex.map j x.side J.label J.is_side)
 
 module _ (C : Complex) where
-  pub side-make : (i k : ℕ) (v : Vertex) → At C.vertices i v → k < count_sides v → (x : SideAt C) × (side-row C x ≡ i) × (side-col C x ≡ k)
+  pub side-make : (i k : ℕ) (v : Vertex) → IsAt C.vertices i v → k < count_sides v → (x : SideAt C) × (side-row C x ≡ i) × (side-col C x ≡ k)
   side-make i k v a l =
       let o = at-some (sides_of v.map) k l in
       (record { side = record { vertex = i; side = o.0.0 }; number = k; is = record { vertex = v; is_vertex = a; label = o.0.1; is_side = get-from_at (sides_of v.map) k o.0 o.1 } }, refl, refl)
 
-  pub side-sound : (xs : List (SideAt C)) (p : ℕ) (x : SideAt C) → At xs p x → (v : Vertex) × At C.vertices (side-row C x) v × (side-col C x < count_sides v)
+  pub side-sound : (xs : List (SideAt C)) (p : ℕ) (x : SideAt C) → IsAt xs p x → (v : Vertex) × IsAt C.vertices (side-row C x) v × (side-col C x < count_sides v)
   side-sound xs p x a = (x.is.vertex, x.is.is_vertex, at-within (sides_of x.is.vertex.map) x.number (x.side.side, x.is.label) (at-from_get (sides_of x.is.vertex.map) x.number (x.side.side, x.is.label) x.is.is_side))
 
   pub all-sides : Elements (side-row C) (side-col C) C.vertices count_sides (side-make)
@@ -48,7 +48,7 @@ id-by Not n = suc n
 id-by In n = suc n
 
 module _ (s : Set) (C : Complex) (S : Shows s C) (upright : IsUpright C) where
-  point : (x : SideAt C) → (q : Place) × IsAtSide s C x.side q × HasLabel s q x.is.label
+  point : (x : SideAt C) → (q : SpacePoint) × IsAtSide s C x.side q × HasLabel s q x.is.label
   point x = side-point s C S x.side x.is.label (number-label C x.side x.number x.is)
 
   flat : (x : SideAt C) → FlatDim s (point x).0 3
@@ -108,10 +108,10 @@ module _ (s : Set) (C : Complex) (S : Shows s C) (upright : IsUpright C) where
             },
           )
             where
-              T : Table C.vertices count_sides (Placed (side-row C) (side-col C) E.list E.ordered C.vertices count_sides E.complete (side-sound C E.list) N.list N.as_many)
+              T : NumberTable C.vertices count_sides (Placed (side-row C) (side-col C) E.list E.ordered C.vertices count_sides E.complete (side-sound C E.list) N.list N.as_many)
               T = table (side-row C) (side-col C) E.list E.ordered C.vertices count_sides E.complete (side-sound C E.list) N.list N.as_many
 
-              put : (x : VertexSide) (n : ℕ) → IsVolumeOf C T.rows x n → (p : ℕ) × (y : SideAt C) × At E.list p y × (y.side ≡ x) × IsAt N.list p n
+              put : (x : VertexSide) (n : ℕ) → IsVolumeOf C T.rows x n → (p : ℕ) × (y : SideAt C) × IsAt E.list p y × (y.side ≡ x) × IsAt N.list p n
               put x n (j, J, h) =
                   let (p, y, a, e, f, c) = placed (side-row C) (side-col C) E.list E.ordered C.vertices count_sides E.complete (side-sound C E.list) N.list N.as_many x.vertex j n h in
                   (p, y, a, side-same C y.side x y.number j y.is J e f, c)

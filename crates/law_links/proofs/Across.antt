@@ -1,11 +1,11 @@
 -- Across a facet: a point of it is tied to the points close to the corner that a ray within its plane names.
-use Rattle.law_links.proofs.Prelude.{◌≡◌, ℕ, pos, ◌<ℤ◌, arith, sym, ◌∙◌, ◌⊎◌, inl, inr, ⊎_elim, ◌∷◌, subst, [], ints, ring, at, num, ◌⊗◌, FlatDim, Place, Form, form_at, normal_of, slope, plane_through, SamePlace, toward, IsBetween, Set, Vector, opposite, dot, triple, IsDirection, SameDirection, plane_axis, plane_dir, carriers, Drop, ahead, same-place_sym, between-turned, even-until, start-close, reach_all, between-same, factor-same, At, Item, arc_item, item_normal, dir_of, OnItem, same-plus, same-minus, normal-is, on-level, at-one, dir-at, turn-same, at-arc, level-same, Vertex, Edge, Complex, Corner, HasEnds, IsCorner, Shows, item_plane, IsVertexPoint, IsEdgePoint, PlaneMeet, meets_vertex, meets_edge, LiesIn, IsFirstInPlane, IsCornerAt, RayNames, HasCorner, IsFlatIn, between-way, between-start, between-outer, same-itself, near_point, near-between, way-near, dim-same, plane-ahead, end-meets, IsInFacetOf, beside-vertex, facet-point, ahead-back, ahead-same, through-level, axis-in, LinkAcross, SameDirection-turned, SameDirection-trans, dir-self, dot-opposite, level-way, direction-left, direction-right}
+use Rattle.law_links.proofs.Prelude.{◌≡◌, ℕ, pos, ◌<ℤ◌, arith, sym, ◌∙◌, ◌⊎◌, inl, inr, ⊎_elim, ◌∷◌, subst, [], ints, ring, at, num, ◌⊗◌, FlatDim, SpacePoint, Form, form_at, normal_of, slope, plane_through, SamePoint, toward, IsBetween, Set, Vector, opposite, dot, triple, IsDirection, SameDirection, plane_axis, plane_dir, carriers, Drop, ahead, same-point_sym, between-turned, even-until, start-close, reach_all, between-same, factor-same, IsAt, Item, arc_item, item_normal, dir_of, OnItem, same-plus, same-minus, normal-is, on-level, at-one, dir-at, turn-same, at-arc, level-same, Vertex, Edge, Complex, Corner, HasEnds, IsCorner, Shows, item_plane, IsVertexPoint, IsEdgePoint, PlaneMeet, meets_vertex, meets_edge, LiesIn, IsFirstInPlane, IsCornerAt, RayNames, HasCorner, IsFlatIn, between-way, between-start, between-outer, same-itself, near_point, near-between, way-near, dim-same, plane-ahead, end-meets, IsInFacetOf, beside-vertex, facet-point, ahead-back, ahead-same, through-level, axis-in, LinkAcross, SameDirection-turned, SameDirection-trans, dir-self, dot-opposite, level-way, direction-left, direction-right}
 use Rattle.law_complex.proofs.FacetAngles.{through-at}
 use Rattle.law_links.proofs.Ties.{beside-close, beside-ahead, beside-cell, IsTied, tied-cell, tied-both, tied-ahead, tied-ray}
 use Rattle.law_links.proofs.EdgeEnds.{edge-ways, tied-low, EndsOnSide, close_way, on-close, tied-close_way, AreTiedItems}
 
 -- y is tied to a point close to a vertex on the item of the corner, whose plane has the normal n
-pub record IsAcross (s : Set) (C : Complex) (n : Vector) (y : Place) (k : Corner) : Type 0 where
+pub record IsAcross (s : Set) (C : Complex) (n : Vector) (y : SpacePoint) (k : Corner) : Type 0 where
   pub vertex : Vertex
   pub item : Item
   pub corner : IsCorner C k vertex item
@@ -14,7 +14,7 @@ pub record IsAcross (s : Set) (C : Complex) (n : Vector) (y : Place) (k : Corner
   pub same : SameDirection (item_normal item) n
   pub tied : IsTied s y (ahead s vertex.point dir)
 
-module _ (s : Set) (C : Complex) (S : Shows s C) (h : Form) (y : Place) (on : form_at h y ≡ pos 0) (F : IsFlatIn s h y) (d : Vector) (level : slope h d ≡ pos 0) where
+module _ (s : Set) (C : Complex) (S : Shows s C) (h : Form) (y : SpacePoint) (on : form_at h y ≡ pos 0) (F : IsFlatIn s h y) (d : Vector) (level : slope h d ≡ pos 0) where
   abbrev n : Vector
   n = normal_of h
 
@@ -22,11 +22,11 @@ module _ (s : Set) (C : Complex) (S : Shows s C) (h : Form) (y : Place) (on : fo
   level-back = let r = dot-opposite n d in let z = level in omega (arith, ints)
 
   module _ (m : PlaneMeet) (k : Corner) (I : IsFirstInPlane C h y d m) where
-    abbrev z : Place
+    abbrev z : SpacePoint
     z = I.place
 
     -- up to what is met two directions are flat
-    all : (r : Place) → IsBetween y r z → FlatDim s r 2
+    all : (r : SpacePoint) → IsBetween y r z → FlatDim s r 2
     all = ⊎_elim (λ f. f) (λ D. absurd (none D)) (even-until s 2 y z F.0 ((F.1 (toward y z)).1 (level-way n d (toward y z) (SameDirection-turned (toward y z) d I.ahead) level)))
       where
         none : Drop s 2 y z → ⊥
@@ -37,16 +37,16 @@ module _ (s : Set) (C : Complex) (S : Shows s C) (h : Form) (y : Place) (on : fo
             I.first t e.0 D.between e.1
 
     -- a point at z, from which the way back to y is even
-    even-back : (p : Place) → SamePlace p z → (r : Place) → IsBetween p r y ⊎ SamePlace r y → FlatDim s r 2
+    even-back : (p : SpacePoint) → SamePoint p z → (r : SpacePoint) → IsBetween p r y ⊎ SamePoint r y → FlatDim s r 2
     even-back p e r (inl b) = all r (between-turned z y r (between-same p r y z r y e (same-itself r) (same-itself y) b))
-    even-back p e r (inr f) = dim-same s y r 2 (same-place_sym r y f) F.0
+    even-back p e r (inr f) = dim-same s y r 2 (same-point_sym r y f) F.0
 
-    tied-back : (p : Place) → SamePlace p z → IsTied s y (ahead s p (opposite d))
+    tied-back : (p : SpacePoint) → SamePoint p z → IsTied s y (ahead s p (opposite d))
     tied-back p e = tied-ray s 2 p y (opposite d) (ahead-back y p d (ahead-same y z p d e I.ahead)) (even-back p e)
 
     by-vertex : (i : ℕ) → IsVertexPoint C i z → IsCornerAt C h (opposite d) (meets_vertex i) k → IsAcross s C n y k
     by-vertex i (u, a, e) (v, x, f, c, r, o) =
-        let same = at-one C.vertices i u v a (subst (λ (j : ℕ). At C.vertices j v) f c.vertex) in
+        let same = at-one C.vertices i u v a (subst (λ (j : ℕ). IsAt C.vertices j v) f c.vertex) in
         record {
           vertex = v;
           item = x;
@@ -54,7 +54,7 @@ module _ (s : Set) (C : Complex) (S : Shows s C) (h : Form) (y : Place) (on : fo
           dir = opposite d;
           on = o;
           same = r;
-          tied = tied-back v.point (subst (λ (w : Vertex). SamePlace w.point z) same e);
+          tied = tied-back v.point (subst (λ (w : Vertex). SamePoint w.point z) same e);
         }
 
     by-edge : (i : ℕ) → IsEdgePoint C i z × LiesIn C h i → IsCornerAt C h (opposite d) (meets_edge i) k → IsAcross s C n y k
@@ -65,7 +65,7 @@ module _ (s : Set) (C : Complex) (S : Shows s C) (h : Form) (y : Place) (on : fo
         along (subst (λ (j : Vertex). HasEnds C e j w) one G') (subst (λ (j : Vertex). IsBetween j.point z w.point) one t)
       where
         corner : IsCorner C k v (arc_item c)
-        corner = record { vertex = subst (λ (j : ℕ). At C.vertices j v) (sym f) l; item = at-arc v.map.arcs v.map.sloop k.item c o }
+        corner = record { vertex = subst (λ (j : ℕ). IsAt C.vertices j v) (sym f) l; item = at-arc v.map.arcs v.map.sloop k.item c o }
 
         along : HasEnds C e v w → IsBetween v.point z w.point → IsAcross s C n y k
         along H t =
@@ -101,7 +101,7 @@ module _ (s : Set) (C : Complex) (S : Shows s C) (h : Form) (y : Place) (on : fo
   across k (m, I, c) = across-met m k I c
 
 -- the normal of the plane through a point
-pub through-same : (n : Vector) (p : Place) → IsDirection n → SameDirection n (normal_of (plane_through n p))
+pub through-same : (n : Vector) (p : SpacePoint) → IsDirection n → SameDirection n (normal_of (plane_through n p))
 through-same n p i = factor-same n (normal_of (plane_through n p)) (record {
   k = p.w;
   l = 1;
@@ -121,7 +121,7 @@ module _ (s : Set) (C : Complex) (S : Shows s C) (j k : Corner) (L : LinkAcross 
   abbrev x : Item
   x = L.item
 
-  abbrev p : Place
+  abbrev p : SpacePoint
   p = v.point
 
   abbrev d : Vector
@@ -134,7 +134,7 @@ module _ (s : Set) (C : Complex) (S : Shows s C) (j k : Corner) (L : LinkAcross 
   n-some = normal-is (S.cones j.vertex v L.corner.vertex).valid.shaped j.item x L.corner.item
 
   module _ (m : PlaneMeet) (I : IsFirstInPlane C plane p d m) (c : IsCornerAt C plane (opposite d) m k) where
-    abbrev y : Place
+    abbrev y : SpacePoint
     y = near_point s p I.place
 
     between : IsBetween p y I.place
@@ -187,7 +187,7 @@ module _ (s : Set) (C : Complex) (S : Shows s C) (j k : Corner) (L : LinkAcross 
 
 -- ---- the corner of a facet point
 -- a point is tied to the points close to the corner that it has
-pub corner-across : (s : Set) (C : Complex) → Shows s C → (y : Place) (k : Corner) (H : HasCorner C y k) → IsAcross s C (normal_of (item_plane H.vertex H.item)) y k
+pub corner-across : (s : Set) (C : Complex) → Shows s C → (y : SpacePoint) (k : Corner) (H : HasCorner C y k) → IsAcross s C (normal_of (item_plane H.vertex H.item)) y k
 corner-across s C S y k H =
     let n = item_normal H.item in
     let p = H.vertex.point in

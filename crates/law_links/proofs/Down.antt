@@ -1,5 +1,5 @@
 -- A ray down ties the points below a vertex to those above the point where it ends, and these to a side there.
-use Rattle.law_links.proofs.Prelude.{◌≡◌, ℕ, ◌+◌, arith, sym, ◌∙◌, ⊎_elim, subst, nought, plus, sign-plus, FlatDim, Place, normal_of, SamePlace, toward, IsBetween, Set, Vector, opposite, blend, dot, SameDirection, up, Label, carriers, ahead, steep, signs-same, same-place_sym, between-turned, between-inner, At, item_normal, item_pos, item_mark, item_neg, HasSide, Sees, normal-is, at-one, dir-at, Vertex, Edge, Complex, Corner, HasEnds, Shows, item_plane, IsVertexPoint, IsEdgePoint, Spot, at_vertex, on_edge, in_facet, IsSpot, IsSkeletonPoint, VertexSide, HasSideLabel, IsAbove, between-way, near_point, near-between, dim-same, facet-point, ahead-back, facet-of, LinkDown, IsUpright, self-pos, SameDirection-turned, SameDirection-trans, direction-left}
+use Rattle.law_links.proofs.Prelude.{◌≡◌, ℕ, ◌+◌, arith, sym, ◌∙◌, ⊎_elim, subst, nought, plus, sign-plus, FlatDim, SpacePoint, normal_of, SamePoint, toward, IsBetween, Set, Vector, opposite, blend, dot, SameDirection, up, Label, carriers, ahead, steep, signs-same, same-point_sym, between-turned, between-inner, IsAt, item_normal, item_pos, item_mark, item_neg, HasSide, Sees, normal-is, at-one, dir-at, Vertex, Edge, Complex, Corner, HasEnds, Shows, item_plane, IsVertexPoint, IsEdgePoint, Spot, at_vertex, on_edge, in_facet, IsSpot, IsSkeletonPoint, VertexSide, HasSideLabel, IsAbove, between-way, near_point, near-between, dim-same, facet-point, ahead-back, facet-of, LinkDown, IsUpright, self-pos, SameDirection-turned, SameDirection-trans, direction-left}
 use Rattle.law_sphere.proofs.Sectors.{bounds-sees}
 use Rattle.law_complex.proofs.Skeletons.{FacetAt, skeleton-or_flat}
 use Rattle.law_links.proofs.Ties.{ahead-way, ahead-cells, IsTied, tied-cell, tied-turned, tied-both, tied-ahead, tied-ray}
@@ -14,8 +14,8 @@ module _ (s : Set) (C : Complex) (S : Shows s C) where
   facet-at k v x y c F = let p = facet-point s C S k v x y c F in (p.dim, p.flat, p.label, p.sided)
 
   -- ---- a way without skeleton points ties the points close to both its ends
-  module _ (v z : Place) (d : Vector) (on : SameDirection (toward v z) d) (clear : (q : Place) → IsBetween v q z → IsSkeletonPoint C q → ⊥) where
-    free : (q : Place) → IsBetween v q z → FlatDim s q 3
+  module _ (v z : SpacePoint) (d : Vector) (on : SameDirection (toward v z) d) (clear : (q : SpacePoint) → IsBetween v q z → IsSkeletonPoint C q → ⊥) where
+    free : (q : SpacePoint) → IsBetween v q z → FlatDim s q 3
     free q b = ⊎_elim (λ f. f) (λ o. absurd (clear q b o)) (skeleton-or_flat s C S facet-at (facet-of s C S) q)
 
     half-between : IsBetween v (near_point s v z) z
@@ -26,24 +26,24 @@ module _ (s : Set) (C : Complex) (S : Shows s C) where
         let m = near_point s v z in
         let b = half-between in
         let c = between-turned v z m b in
-        let low = tied-ray s 3 v m d (SameDirection-trans (toward v m) (toward v z) d (between-way v m z b) on) (λ r o. ⊎_elim (λ e. free r (between-inner v m z r b e)) (λ e. dim-same s m r 3 (same-place_sym r m e) (free m b)) o) in
+        let low = tied-ray s 3 v m d (SameDirection-trans (toward v m) (toward v z) d (between-way v m z b) on) (λ r o. ⊎_elim (λ e. free r (between-inner v m z r b e)) (λ e. dim-same s m r 3 (same-point_sym r m e) (free m b)) o) in
         let high = tied-ray s 3 z m (opposite d) (SameDirection-trans (toward z m) (toward z v) (opposite d) (between-way z m v c) (ahead-back v z d on))
-        (λ r o. ⊎_elim (λ e. free r (between-turned z v r (between-inner z m v r c e))) (λ e. dim-same s m r 3 (same-place_sym r m e) (free m b)) o) in
+        (λ r o. ⊎_elim (λ e. free r (between-turned z v r (between-inner z m v r c e))) (λ e. dim-same s m r 3 (same-point_sym r m e) (free m b)) o) in
         tied-both s (ahead s v d) m (ahead s z (opposite d)) (tied-turned s m (ahead s v d) low) high
 
   -- ---- the points above a skeleton point are tied to the side above it
-  module _ (upright : IsUpright C) (y : VertexSide) (l : Label) (has : HasSideLabel C y l) (z : Place) where
+  module _ (upright : IsUpright C) (y : VertexSide) (l : Label) (has : HasSideLabel C y l) (z : SpacePoint) where
     -- the vertex of the side
-    here : (v : Vertex) → At C.vertices y.vertex v → HasSide v.map y.side l
+    here : (v : Vertex) → IsAt C.vertices y.vertex v → HasSide v.map y.side l
     here v a = subst (λ (u : Vertex). HasSide u.map y.side l) (at-one C.vertices y.vertex has.0 v has.1 a) has.2
 
     by-vertex : (k : ℕ) → IsVertexPoint C k z → IsAbove C z (at_vertex k) y → PointTied s C y (ahead s z up)
     by-vertex k (u, a, e) (v, b, f, sight) =
-        let g = subst (λ (r : Vertex). SamePlace r.point z) (at-one C.vertices k u v a b) e in
-        let c = subst (λ (i : ℕ). At C.vertices i v) (sym f) b in (
+        let g = subst (λ (r : Vertex). SamePoint r.point z) (at-one C.vertices k u v a b) e in
+        let c = subst (λ (i : ℕ). IsAt C.vertices i v) (sym f) b in (
           ahead s v.point up,
           at-side s C S y v l c (here v c) up sight,
-          tied-cell s (ahead s z up) (ahead s v.point up) (ahead-cells s z v.point up (signs-same (carriers s) z v.point (same-place_sym v.point z g))),
+          tied-cell s (ahead s z up) (ahead s v.point up) (ahead-cells s z v.point up (signs-same (carriers s) z v.point (same-point_sym v.point z g))),
         )
 
     by-edge : (k : ℕ) → IsEdgePoint C k z → IsAbove C z (on_edge k) y → PointTied s C y (ahead s z up)
@@ -56,7 +56,7 @@ module _ (s : Set) (C : Complex) (S : Shows s C) where
         let d = W.low.dir in
         let sight = bounds-sees v.map (S.cones e.low v c).valid.shaped e.low_svertex up y.side bounds in
         let n = sight.0 + steep (carriers s) up in
-        let m = subst (λ (i : ℕ). At C.vertices i v) (sym f) c in
+        let m = subst (λ (i : ℕ). IsAt C.vertices i v) (sym f) c in
         let sees = subst (λ (r : Vector). Sees v.map y.side (blend n r 1 up)) (dir-at v.map.svertices e.low_svertex W.low W.is_low) (sight.1 n (omega arith)) in
         let q = ahead s v.point (blend n d 1 up) in
         let p = ahead s (ahead s v.point d) up in (

@@ -1,15 +1,15 @@
 -- Links of items tie points at both, so points at items of one class are joined.
 use Rattle.law_links.proofs.Prelude.{ℕ, sym, inl, inr, subst, Set, ahead, Complex, Corner, Shows, LinkAlong, FacetLink, IsAtItem, ItemsJoined}
 use Rattle.law_links.proofs.ItemPoints.{at-item, one-item}
-use Rattle.law_links.proofs.EdgeEnds.{AreTiedItems, corner_of, along-tied}
+use Rattle.law_links.proofs.EdgeEnds.{AreTiedItems, corner_of_numbers, along-tied}
 use Rattle.law_links.proofs.Across.{across-tied}
 use Rattle.law_links.proofs.Chains.{JoinsPoints, chain-joined}
 
 module _ (s : Set) (C : Complex) (S : Shows s C) where
   along-link : (j k : Corner) → LinkAlong C j k → AreTiedItems s C j k
   along-link j k L =
-      subst (λ (a : ℕ). AreTiedItems s C (corner_of a j.item) k) (sym L.from_low)
-      (subst (λ (b : ℕ). AreTiedItems s C (corner_of L.edge.low j.item) (corner_of b k.item)) (sym L.to_high) (along-tied s C S L.number L.edge L.is_edge j.item k.item L.along))
+      subst (λ (a : ℕ). AreTiedItems s C (corner_of_numbers a j.item) k) (sym L.from_low)
+      (subst (λ (b : ℕ). AreTiedItems s C (corner_of_numbers L.edge.low j.item) (corner_of_numbers b k.item)) (sym L.to_high) (along-tied s C S L.number L.edge L.is_edge j.item k.item L.along))
 
   facet-link : (j k : Corner) → FacetLink C j k → AreTiedItems s C j k
   facet-link j k (inl L) = along-link j k L

@@ -1,5 +1,5 @@
 -- Each item has points at it, and all points at one item are joined.
-use Rattle.law_links.proofs.Prelude.{subst, Place, toward, Set, Vector, SameDirection, ahead, At, Map, Item, items, OnItem, OnItem-by_signs, on-direction, at-one, item-point, Vertex, Complex, Corner, IsCorner, Shows, IsEvenAfter, IsAtItem, ItemsHavePoints, SameDirection-turned, dir-self, dir-signs}
+use Rattle.law_links.proofs.Prelude.{subst, SpacePoint, toward, Set, Vector, SameDirection, ahead, IsAt, Map, Item, items, OnItem, OnItem-by_signs, on-direction, at-one, item-point, Vertex, Complex, Corner, IsCorner, Shows, IsEvenAfter, IsAtItem, ItemsHavePoints, SameDirection-turned, dir-self, dir-signs}
 use Rattle.law_links.proofs.Ties.{ahead-toward, IsTied, tied-turned, tied-both, tied-ray, even-after}
 use Rattle.law_links.proofs.NearVertex.{facet-near, item-tied}
 
@@ -17,19 +17,19 @@ module _ (s : Set) (C : Complex) (S : Shows s C) where
     even = even-after s 2 v.point d (let f = facet-near s C S k v x c d o in f.dim);
   }
 
-  pub item-has_point : (k : Corner) (v : Vertex) (x : Item) → IsCorner C k v x → (q : Place) × IsAtItem s C k q
+  pub item-has_point : (k : Corner) (v : Vertex) (x : Item) → IsCorner C k v x → (q : SpacePoint) × IsAtItem s C k q
   item-has_point k v x c = let o = item-point v.map (S.cones k.vertex v c.vertex).valid.shaped k.item x c.item in (ahead s v.point o.0, at-item k v x c o.0 o.1)
 
   -- a point at an item is tied to the points close to the vertex
-  tied-close : (v : Vertex) (x : Item) (p : Place) → OnItem v.map x (toward v.point p) → IsEvenAfter s 2 v.point p → IsTied s p (ahead s v.point (toward v.point p))
+  tied-close : (v : Vertex) (x : Item) (p : SpacePoint) → OnItem v.map x (toward v.point p) → IsEvenAfter s 2 v.point p → IsTied s p (ahead s v.point (toward v.point p))
   tied-close v x p o even = tied-ray s 2 v.point p (toward v.point p) (dir-self (toward v.point p) (on-direction v.map x (toward v.point p) o)) even
 
-  pub one-item : (k : Corner) (p q : Place) → IsAtItem s C k p → IsAtItem s C k q → IsTied s p q
+  pub one-item : (k : Corner) (p q : SpacePoint) → IsAtItem s C k p → IsAtItem s C k q → IsTied s p q
   one-item k p q a b =
       let v = a.vertex in
       let x = a.item in
       let e = at-one C.vertices k.vertex b.vertex v b.corner.vertex a.corner.vertex in
-      let f = at-one (items v.map) k.item b.item x (subst (λ (u : Vertex). At (items u.map) k.item b.item) e b.corner.item) a.corner.item in
+      let f = at-one (items v.map) k.item b.item x (subst (λ (u : Vertex). IsAt (items u.map) k.item b.item) e b.corner.item) a.corner.item in
       let o = subst (λ (r : Item). OnItem v.map r (toward v.point q)) f (subst (λ (u : Vertex). OnItem u.map b.item (toward u.point q)) e b.on_item) in
       let even = subst (λ (u : Vertex). IsEvenAfter s 2 u.point q) e b.even in
       let c = ahead s v.point (toward v.point p) in

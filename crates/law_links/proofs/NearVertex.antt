@@ -1,5 +1,5 @@
 -- Close to a point of a set the points toward a free direction of its map have three flat directions, and those toward an item two; two directions on one item are tied.
-use Rattle.law_links.proofs.Prelude.{◌≡◌, ℕ, ◌+◌, ◌<◌, pos, nat_abs, arith, refl, ap, sym, ◌∙◌, ◌∷◌, subst, [], ints, Sign, nought, sign, Germ, FlatDim, Place, Set, Vector, vector, blend, dot, cross, SameDirection, Label, IsStrictlyOn, ahead, near-ahead, sign-large, by_side, Cone, Map, Arc, Item, arc_item, sloop_item, item_normal, item_pos, item_mark, item_neg, OnItem, IsFree, dir_of, Shaped, dot-comb, normal-is, amount, label-exists, near-free, near-item, past_source, arc-at, ends-of, Vertex, Complex, Corner, IsCorner, Shows, near-germ, IsInFacetOf, in-facet}
+use Rattle.law_links.proofs.Prelude.{◌≡◌, ℕ, ◌+◌, ◌<◌, pos, nat_abs, arith, refl, ap, sym, ◌∙◌, ◌∷◌, subst, [], ints, Sign, nought, sign, Germ, FlatDim, SpacePoint, Set, Vector, vector, blend, dot, cross, SameDirection, Label, IsStrictlyOn, ahead, near-ahead, sign-large, by_side, Cone, Map, Arc, Item, arc_item, sloop_item, item_normal, item_pos, item_mark, item_neg, OnItem, IsFree, dir_of, Shaped, dot-comb, normal-is, amount, label-exists, near-free, near-item, past_source, arc-at, ends-of, Vertex, Complex, Corner, IsCorner, Shows, near-germ, IsInFacetOf, in-facet}
 use Rattle.law_sphere.proofs.Labels.{mixed-sign}
 use Rattle.law_complex.proofs.FacetSides.{IsSided, one-label-flat}
 use Rattle.law_links.proofs.Ties.{even-fan, ahead-way, IsTied, tied-even, tied-cell, tied-both, tied-turned, tied-itself}
@@ -7,7 +7,7 @@ use Rattle.law_sphere.proofs.ArcWays.{arc-all}
 use Rattle.law_links.proofs.ItemWays.{circle-all}
 
 -- where all germs are one, all directions are flat
-pub one-label-dim : (s : Set) (q : Place) (m : Label) → ((e : Vector) → Germ s q e m) → FlatDim s q 3
+pub one-label-dim : (s : Set) (q : SpacePoint) (m : Label) → ((e : Vector) → Germ s q e m) → FlatDim s q 3
 one-label-dim s q m all =
     let x = vector (pos 1) (pos 0) (pos 0) in
     let y = vector (pos 0) (pos 1) (pos 0) in
@@ -15,13 +15,13 @@ one-label-dim s q m all =
     ((x, y, z, (λ e. omega (arith, ints, e)), one-label-flat s q m all x y refl, one-label-flat s q m all y x refl, one-label-flat s q m all z x refl), λ h. h)
 
 -- ---- toward a free direction
-pub free-dim : (M : Map) (s : Set) (p : Place) → Cone M s p → (d : Vector) → IsFree M d → FlatDim s (ahead s p d) 3
+pub free-dim : (M : Map) (s : Set) (p : SpacePoint) → Cone M s p → (d : Vector) → IsFree M d → FlatDim s (ahead s p d) 3
 free-dim M s p K d F =
     let m = label-exists M K.valid d F.direction in
     one-label-dim s (ahead s p d) m.0 (λ e. (near-ahead s p d e m.0).1 (near-germ M s p K d e m.0 (near-free M K.valid d F m.0 m.1 e)))
 
 -- ---- off a plane that parts the germs
-module _ (s : Set) (z : Place) (n : Vector) (a m b : Label) (all : IsSided s z n a m b) where
+module _ (s : Set) (z : SpacePoint) (n : Vector) (a m b : Label) (all : IsSided s z n a m b) where
   pub off-plane : (d : Vector) → (sign (dot n d) ≡ nought → ⊥) → FlatDim s (ahead s z d) 3
   off-plane d off = one-label-dim s (ahead s z d) l (λ e. (near-ahead s z d e l).1 (
     nat_abs (dot n e) + 1,

@@ -1,5 +1,5 @@
 -- The points outside the closed frame are joined round the frame.
-use Rattle.law_links.proofs.Prelude.{◌≡◌, ℕ, ◌+◌, ◌*◌, ◌<◌, ◌≤◌, ℤ, pos, negsuc, ◌+ℤ◌, ◌-ℤ◌, ◌*ℤ◌, neg_ℤ, ◌<ℤ◌, ◌≤ℤ◌, nat_abs, arith, refl, ap, sym, ◌∙◌, inl, inr, ◌∷◌, subst, [], ints, by_lt_z, unsigned_abs-mul, mul-pos, mul-le-mul_left, Lies, ring, at, num, ◌⊕◌, ◌⊖◌, ◌⊗◌, sign-plus, plus-is, half_side, HasLabel, Germ, FlatDim, Joined, Place, Form, form_at, Ratio, InClosedFrame, toward, Set, zero_vector, Out, side, frame, flat-germ, ahead, near-ahead, span-3, joined-turned, joined-both, Germ-zero, seen, Complex, Shows, VertexSide, HasSideLabel, label-germ, even-by, LinkOutside, IsAtSide}
+use Rattle.law_links.proofs.Prelude.{◌≡◌, ℕ, ◌+◌, ◌*◌, ◌<◌, ◌≤◌, ℤ, pos, negsuc, ◌+ℤ◌, ◌-ℤ◌, ◌*ℤ◌, neg_ℤ, ◌<ℤ◌, ◌≤ℤ◌, nat_abs, arith, refl, ap, sym, ◌∙◌, inl, inr, ◌∷◌, subst, [], ints, by_lt_z, unsigned_abs-mul, mul-pos, mul-le-mul_left, Lies, ring, at, num, ◌⊕◌, ◌⊖◌, ◌⊗◌, sign-plus, plus-is, half_side, HasLabel, Germ, FlatDim, Joined, SpacePoint, Form, form_at, Ratio, InClosedFrame, toward, Set, zero_vector, Out, side, frame, flat-germ, ahead, near-ahead, span-3, joined-turned, joined-both, Germ-zero, seen, Complex, Shows, VertexSide, HasSideLabel, label-germ, even-by, LinkOutside, IsAtSide}
 use Rattle.law_near.proofs.Frames.{flat_dim-outside}
 use Rattle.law_near.proofs.Topology.{near-germ_zero}
 use Rattle.law_links.proofs.Ties.{same-between, joined-even}
@@ -9,8 +9,8 @@ use Rattle.law_links.proofs.SidePoints.{at-side}
 use Rattle.law_links.proofs.SideLinks.{JoinsSides}
 
 -- ---- beyond a side of the frame
-abbrev pub IsPast : Form → Place → Type 0
-IsPast h p = pos 0 <ℤ form_at h p
+abbrev pub IsPastSide : Form → SpacePoint → Type 0
+IsPastSide h p = pos 0 <ℤ form_at h p
 
 abbrev right : Form
 right = side (pos 1) (pos 0) (pos 0)
@@ -30,10 +30,10 @@ top = side (pos 0) (pos 0) (pos 1)
 abbrev bottom : Form
 bottom = side (pos 0) (pos 0) (negsuc 0)
 
-past : (f h : Form) (p : Place) → f ≡ h → IsPast h p → IsPast f p
-past f h p e g = subst (λ (k : Form). IsPast k p) (sym e) g
+past : (f h : Form) (p : SpacePoint) → f ≡ h → IsPastSide h p → IsPastSide f p
+past f h p e g = subst (λ (k : Form). IsPastSide k p) (sym e) g
 
-past-outside : (h : Form) → Lies frame h → (p : Place) → IsPast h p → InClosedFrame p → ⊥
+past-outside : (h : Form) → Lies frame h → (p : SpacePoint) → IsPastSide h p → InClosedFrame p → ⊥
 past-outside h (inl e) p g c = let k = past right h p e g in let l = c.along_x in omega (arith, ints)
 past-outside h (inr (inl e)) p g c = let k = past left h p e g in let l = c.along_x in omega (arith, ints)
 past-outside h (inr (inr (inl e))) p g c = let k = past front h p e g in let l = c.along_y in omega (arith, ints)
@@ -43,26 +43,26 @@ past-outside h (inr (inr (inr (inr (inr (inl e)))))) p g c = let k = past bottom
 past-outside h (inr (inr (inr (inr (inr (inr e)))))) p g c = absurd e
 
 -- the way between two points past one side is outside
-joined-past : (s : Set) (h : Form) → Lies frame h → (p q : Place) → IsPast h p → IsPast h q → Joined s p q
+joined-past : (s : Set) (h : Form) → Lies frame h → (p q : SpacePoint) → IsPastSide h p → IsPastSide h q → Joined s p q
 joined-past s h l p q a b =
-    let f = λ (r : Place) (g : IsPast h r). flat_dim-outside s r (past-outside h l r g) in
+    let f = λ (r : SpacePoint) (g : IsPastSide h r). flat_dim-outside s r (past-outside h l r g) in
     joined-even s 3 p q (even-by s 3 p q (f p a) (λ r c. f r (plus-is (form_at h r) (same-between h p q r c (sign-plus (form_at h q) b ∙ sym (sign-plus (form_at h p) a)) ∙ sign-plus (form_at h q) b))) (f q b))
 
 -- ---- round the frame
-abbrev place : ℤ → ℤ → ℤ → Place
-place x y z = record { x = x; y = y; z = z; w = 1; proper = omega arith }
+abbrev whole_point : ℤ → ℤ → ℤ → SpacePoint
+whole_point x y z = record { x = x; y = y; z = z; w = 1; proper = omega arith }
 
-abbrev far_corner : Place
-far_corner = place (pos 4096) (pos 4096) (pos 4096)
+abbrev far_corner : SpacePoint
+far_corner = whole_point (pos 4096) (pos 4096) (pos 4096)
 
-abbrev second : Place
-second = place (pos 4096) (pos 4096) (negsuc 4095)
+abbrev second : SpacePoint
+second = whole_point (pos 4096) (pos 4096) (negsuc 4095)
 
-abbrev third : Place
-third = place (negsuc 4095) (pos 4096) (negsuc 4095)
+abbrev third : SpacePoint
+third = whole_point (negsuc 4095) (pos 4096) (negsuc 4095)
 
-abbrev near_corner : Place
-near_corner = place (negsuc 4095) (negsuc 4095) (negsuc 4095)
+abbrev near_corner : SpacePoint
+near_corner = whole_point (negsuc 4095) (negsuc 4095) (negsuc 4095)
 
 corners-joined : (s : Set) → Joined s near_corner far_corner
 corners-joined s =
@@ -70,7 +70,7 @@ corners-joined s =
     (joined-both s third second far_corner (joined-past s front (inr (inr (inl refl))) third second (omega (arith, ints)) (omega (arith, ints)))
     (joined-past s right (inl refl) second far_corner (omega (arith, ints)) (omega (arith, ints))))
 
-to-corner : (s : Set) (p : Place) → (InClosedFrame p → ⊥) → Joined s p far_corner
+to-corner : (s : Set) (p : SpacePoint) → (InClosedFrame p → ⊥) → Joined s p far_corner
 to-corner s p n =
     far p.x (pos (half_side * p.w))
     (λ h. joined-past s right (inl refl) p far_corner (omega (arith, ints)) (omega (arith, ints)))
@@ -91,12 +91,12 @@ to-corner s p n =
     far : (x b : ℤ) → (b <ℤ x → Joined s p far_corner) → (x <ℤ neg_ℤ b → Joined s p far_corner) → (x ≤ℤ b → neg_ℤ b ≤ℤ x → Joined s p far_corner) → Joined s p far_corner
     far x b f g h = by_lt_z b x f (λ k. by_lt_z x (neg_ℤ b) g (h k))
 
-pub outside-joined : (s : Set) (p q : Place) → (InClosedFrame p → ⊥) → (InClosedFrame q → ⊥) → Joined s p q
+pub outside-joined : (s : Set) (p q : SpacePoint) → (InClosedFrame p → ⊥) → (InClosedFrame q → ⊥) → Joined s p q
 outside-joined s p q m n = joined-both s p far_corner q (to-corner s p m) (joined-turned s q far_corner (to-corner s q n))
 
 -- ---- a point with the label Out at which all directions are flat is outside the closed frame
-abbrev middle : Place
-middle = place (pos 0) (pos 0) (pos 0)
+abbrev middle : SpacePoint
+middle = whole_point (pos 0) (pos 0) (pos 0)
 
 -- a step from a point of the closed frame toward its middle leads into the frame
 inward : (x : ℤ) (w c : ℕ) → 0 < w → nat_abs x ≤ half_side * w → nat_abs (x *ℤ pos (w + c) +ℤ pos 1 *ℤ pos w *ℤ (pos 0 *ℤ pos w -ℤ x *ℤ pos 1)) < half_side * (w * (w + c))
@@ -108,7 +108,7 @@ inward x w c some l =
     let h = mul-pos some some in
     omega arith
 
-out-outside : (s : Set) (p : Place) → FlatDim s p 3 → HasLabel s p Out → InClosedFrame p → ⊥
+out-outside : (s : Set) (p : SpacePoint) → FlatDim s p 3 → HasLabel s p Out → InClosedFrame p → ⊥
 out-outside s p f o c =
     let h = f.0 in
     let d = toward p middle in
@@ -127,7 +127,7 @@ out-outside s p f o c =
 -- ---- the link of the outside
 module _ (s : Set) (C : Complex) (S : Shows s C) where
   abbrev Apart : VertexSide → Type 0
-  Apart x = (p : Place) × IsAtSide s C x p × (InClosedFrame p → ⊥)
+  Apart x = (p : SpacePoint) × IsAtSide s C x p × (InClosedFrame p → ⊥)
 
   point-outside : (x : VertexSide) → HasSideLabel C x Out → Apart x
   point-outside x (v, a, h) =

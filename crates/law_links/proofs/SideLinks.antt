@@ -1,5 +1,5 @@
 -- Links of sides in one sface, along an edge and across a facet join points at both.
-use Rattle.law_links.proofs.Prelude.{◌≡◌, ℕ, ◌+◌, pos, ◌<ℤ◌, arith, refl, sym, ◌∙◌, ⊎_elim, subst, Some, ints, Place, toward, Set, Vector, opposite, blend, dot, cross, IsDirection, SameDirection, Label, carriers, ahead, steep, forms, At, MapVertex, Item, item_normal, item_pos, item_neg, OnItem, Side, around_svertex, pos_item, neg_item, HasSide, Sees, Shaped, amount, normal-is, at-one, cross-direction_right, sees-around, Vertex, Edge, Complex, Corner, HasEnds, IsCorner, Shows, VertexSide, IsSideOf, LinkInSface, AreSidesAlong, pos_arcs, neg_arcs, around_ends, LinkAlongEdge, LinkAcrossFacet, VolumeLink, IsAtSide, dot-comm, self-pos, nought-if, opposite-same, dot-opposite, direction-right}
+use Rattle.law_links.proofs.Prelude.{◌≡◌, ℕ, ◌+◌, pos, ◌<ℤ◌, arith, refl, sym, ◌∙◌, ⊎_elim, subst, Some, ints, SpacePoint, toward, Set, Vector, opposite, blend, dot, cross, IsDirection, SameDirection, Label, carriers, ahead, steep, forms, IsAt, MapVertex, Item, item_normal, item_pos, item_neg, OnItem, Side, around_svertex, pos_item, neg_item, HasSide, Sees, Shaped, amount, normal-is, at-one, cross-direction_right, sees-around, Vertex, Edge, Complex, Corner, HasEnds, IsCorner, Shows, VertexSide, IsSideOf, LinkInSface, AreSidesAlong, pos_arcs, neg_arcs, around_ends, LinkAlongEdge, LinkAcrossFacet, VolumeLink, IsAtSide, dot-comm, self-pos, nought-if, opposite-same, dot-opposite, direction-right}
 use Rattle.law_links.proofs.Ties.{ahead-way, IsTied, tied-cell, tied-turned, tied-both, tied-ahead}
 use Rattle.law_links.proofs.EdgeEnds.{edge-ways, ends-tied, tied-turn, AreTiedItems, along-tied}
 use Rattle.law_links.proofs.Across.{across-tied}
@@ -11,8 +11,8 @@ abbrev pub JoinsSides : Set → Complex → VertexSide → VertexSide → Type 0
 JoinsSides s C x y = JoinsPoints VertexSide (VolumeLink C) s (IsAtSide s C) x y
 
 -- a point at the side, tied to p
-abbrev pub PointTied : Set → Complex → VertexSide → Place → Type 0
-PointTied s C y p = (q : Place) × IsAtSide s C y q × IsTied s p q
+abbrev pub PointTied : Set → Complex → VertexSide → SpacePoint → Type 0
+PointTied s C y p = (q : SpacePoint) × IsAtSide s C y q × IsTied s p q
 
 module _ (s : Set) (C : Complex) (S : Shows s C) where
   -- ---- the sides of an item
@@ -23,8 +23,8 @@ module _ (s : Set) (C : Complex) (S : Shows s C) where
     abbrev V : Shaped v.map
     V = (S.cones k.vertex v c.vertex).valid.shaped
 
-    listed : At C.vertices y.vertex v
-    listed = subst (λ (i : ℕ). At C.vertices i v) (sym e) c.vertex
+    listed : IsAt C.vertices y.vertex v
+    listed = subst (λ (i : ℕ). IsAt C.vertices i v) (sym e) c.vertex
 
     n-long : pos 0 <ℤ dot n n
     n-long = self-pos n (normal-is V k.item x c.item)
@@ -91,13 +91,13 @@ module _ (s : Set) (C : Complex) (S : Shows s C) where
         ahead s v.point a.0,
         ahead s v.point b.0,
         at-side s C S x v L.one L.is_vertex L.has a.0 a.1,
-        at-side s C S y v L.other (subst (λ (i : ℕ). At C.vertices i v) (sym L.one_vertex) L.is_vertex) L.has_other b.0 b.1,
+        at-side s C S y v L.other (subst (λ (i : ℕ). IsAt C.vertices i v) (sym L.one_vertex) L.is_vertex) L.has_other b.0 b.1,
         (one-sface s C S x.vertex v L.is_vertex x.side y.side L.one_sface L.one L.other L.has L.has_other a.0 b.0 a.1 b.1).0,
       )
 
   -- ---- around both ends of an edge
   -- a point at the side around a svertex, on the side of f
-  around-point : (y : VertexSide) (j : ℕ) (v : Vertex) (l : Label) (u : MapVertex) → At C.vertices y.vertex v → HasSide v.map y.side l → y.side ≡ around_svertex j → At v.map.svertices j u → (f : Vector) → IsDirection (cross u.dir f)
+  around-point : (y : VertexSide) (j : ℕ) (v : Vertex) (l : Label) (u : MapVertex) → IsAt C.vertices y.vertex v → HasSide v.map y.side l → y.side ≡ around_svertex j → IsAt v.map.svertices j u → (f : Vector) → IsDirection (cross u.dir f)
       → PointTied s C y (ahead s (ahead s v.point u.dir) f)
   around-point y j v l u a h e b f apart =
       let V = (S.cones y.vertex v a).valid.shaped in
@@ -111,12 +111,12 @@ module _ (s : Set) (C : Complex) (S : Shows s C) where
         tied-turn s v.point u.dir f K (omega arith),
       )
 
-  module _ (number : ℕ) (e : Edge) (is_edge : At C.edges number e) (x y : VertexSide) (o q : Side) (X : IsSideOf C x e.low o) (Y : IsSideOf C y e.high q) where
+  module _ (number : ℕ) (e : Edge) (is_edge : IsAt C.edges number e) (x y : VertexSide) (o q : Side) (X : IsSideOf C x e.low o) (Y : IsSideOf C y e.high q) where
     around-ends : o ≡ around_svertex e.low_svertex → q ≡ around_svertex e.high_svertex → JoinsSides s C x y
     around-ends a b =
         let v = X.3.0 in
         let w = Y.3.0 in
-        let H : HasEnds C e v w = record { low = subst (λ (i : ℕ). At C.vertices i v) X.1 X.3.1; high = subst (λ (i : ℕ). At C.vertices i w) Y.1 Y.3.1 } in
+        let H : HasEnds C e v w = record { low = subst (λ (i : ℕ). IsAt C.vertices i v) X.1 X.3.1; high = subst (λ (i : ℕ). IsAt C.vertices i w) Y.1 Y.3.1 } in
         let W = edge-ways s C S number e v w is_edge H in
         let u = W.low in
         let t = W.high in

@@ -1,13 +1,13 @@
 -- Each side has points at it, and all points at one side are joined.
-use Rattle.law_links.proofs.Prelude.{◌≡◌, ℕ, ◌+◌, ◌*◌, ◌<◌, ℤ, pos, ◌+ℤ◌, ◌*ℤ◌, ◌<ℤ◌, arith, sym, ◌∙◌, ⊎_elim, ◌∷◌, subst, Some, [], ints, mul-pos, minus, nought, plus, sign, ring, at, num, ◌⊕◌, ◌⊗◌, sign-plus, sign-minus, FlatDim, Place, toward, Set, Vector, opposite, blend, dot, cross, IsDirection, SameDirection, IsOpposite, Label, carriers, ahead, same-sym, steep, forms, Cone, At, MapVertex, Map, Item, items, item_normal, item_pos, item_mark, item_neg, OnItem, IsFree, Side, around_svertex, pos_item, neg_item, whole, HasSide, IsClear, Reaches, Sees, directly, by_way_of, InOneSface, here, link, HasArc, Shaped, amount, at-one, normal-is, same-minus, IsOpposite-decided, Beside, same_way, other_way, beside, cross-direction_right, free-close, Vertex, Complex, IsCorner, Shows, VertexSide, IsEvenAfter, IsAtSide, SidesHavePoints, dot-comm, self-pos, vector-same, cross-turned, square-cross, nought-if, SameDirection-turned, dir-self, dir-signs, parallel-trans, dot-opposite, level-way, opposite-way, blend-turned, cross-blend, level_cross_second}
+use Rattle.law_links.proofs.Prelude.{◌≡◌, ℕ, ◌+◌, ◌*◌, ◌<◌, ℤ, pos, ◌+ℤ◌, ◌*ℤ◌, ◌<ℤ◌, arith, sym, ◌∙◌, ⊎_elim, ◌∷◌, subst, Some, [], ints, mul-pos, minus, nought, plus, sign, ring, at, num, ◌⊕◌, ◌⊗◌, sign-plus, sign-minus, FlatDim, SpacePoint, toward, Set, Vector, opposite, blend, dot, cross, IsDirection, SameDirection, IsOpposite, Label, carriers, ahead, same-sym, steep, forms, Cone, IsAt, MapVertex, Map, Item, items, item_normal, item_pos, item_mark, item_neg, OnItem, IsFree, Side, around_svertex, pos_item, neg_item, whole, HasSide, IsClear, Reaches, Sees, directly, by_way_of, InOneSface, here, link, HasArc, Shaped, amount, at-one, normal-is, same-minus, IsOpposite-decided, Beside, same_way, other_way, beside, cross-direction_right, free-close, Vertex, Complex, IsCorner, Shows, VertexSide, IsEvenAfter, IsAtSide, SidesHavePoints, dot-comm, self-pos, vector-same, cross-turned, square-cross, nought-if, SameDirection-turned, dir-self, dir-signs, parallel-trans, dot-opposite, level-way, opposite-way, blend-turned, cross-blend, level_cross_second}
 use Rattle.law_links.proofs.Ties.{ahead-toward, ahead-way, ahead-cells, ahead-ahead, dim-cell, even-fan, IsTied, tied-even, tied-cell, tied-turned, tied-both, tied-itself, tied-ahead, tied-ray, even-after}
 use Rattle.law_links.proofs.NearVertex.{free-dim, tied-off, facet-near, item-tied}
-use Rattle.law_links.proofs.EdgeEnds.{tied-turn, corner_of}
+use Rattle.law_links.proofs.EdgeEnds.{tied-turn, corner_of_numbers}
 use Rattle.law_links.proofs.SideSight.{sees-way, seen-free, blend-direction, lone-of, free-whole, aside, side-sees}
 
 -- ---- points at a side
 module _ (s : Set) (C : Complex) (S : Shows s C) where
-  pub at-side : (x : VertexSide) (v : Vertex) (l : Label) → At C.vertices x.vertex v → HasSide v.map x.side l → (d : Vector) → Sees v.map x.side d → IsAtSide s C x (ahead s v.point d)
+  pub at-side : (x : VertexSide) (v : Vertex) (l : Label) → IsAt C.vertices x.vertex v → HasSide v.map x.side l → (d : Vector) → Sees v.map x.side d → IsAtSide s C x (ahead s v.point d)
   at-side x v l a h d o =
       let F = seen-free v.map x.side d o in
       record {
@@ -24,7 +24,7 @@ sides-have_points s C x l S (v, a, h) = let o = side-sees v.map (S.cones x.verte
 
 -- ---- directions that one side sees are tied
 -- along a clear way
-module _ (M : Map) (s : Set) (p : Place) (K : Cone M s p) where
+module _ (M : Map) (s : Set) (p : SpacePoint) (K : Cone M s p) where
   pub tied-clear : (d e : Vector) → IsClear M d e → IsFree M e → IsTied s (ahead s p d) (ahead s p e)
   tied-clear d e c F = tied-even s 3 (ahead s p d) (ahead s p e) (even-fan s p d e 3 (free-dim M s p K d c.start) (free-dim M s p K e F) (λ i j si sj. free-dim M s p K (blend i d j e) (c.between i j si sj)))
 
@@ -59,7 +59,7 @@ pub record Arrival (M : Map) (o : Side) : Type 0 where
   pub reached : Reaches M o from end
 
 -- what a side sees is tied to an arrival
-pub arrives : (M : Map) (s : Set) (p : Place) → Cone M s p → (o : Side) (d : Vector) → Sees M o d → (A : Arrival M o) × IsTied s (ahead s p d) (ahead s p A.from)
+pub arrives : (M : Map) (s : Set) (p : SpacePoint) → Cone M s p → (o : Side) (d : Vector) → Sees M o d → (A : Arrival M o) × IsTied s (ahead s p d) (ahead s p A.from)
 arrives M s p K o d (directly y c r) = (record { from = d; end = y; clear = c; reached = r }, tied-itself s (ahead s p d))
 arrives M s p K o d (by_way_of c y a b r) = (record { from = c; end = y; clear = b; reached = r }, tied-clear M s p K d c a b.start)
 
@@ -68,7 +68,7 @@ pub level-opposite : (n d e : Vector) → IsOpposite d e → dot n d ≡ pos 0 �
 level-opposite n d e o z = level-way n (opposite d) e (opposite-way d e o) (let r = dot-opposite n d in omega (arith, ints))
 
 -- ---- all around
-module _ (M : Map) (s : Set) (p : Place) (K : Cone M s p) where
+module _ (M : Map) (s : Set) (p : SpacePoint) (K : Cone M s p) where
   abbrev V : Shaped M
   V = K.valid.shaped
 
@@ -90,8 +90,8 @@ module _ (M : Map) (s : Set) (p : Place) (K : Cone M s p) where
             tied-both s (ahead s p d) (ahead s p f) (ahead s p e) (whole-step d f i m (λ w. let b = w.backward in omega (arith, ints))) (whole-step f e m j (λ w. let b = w.backward in omega (arith, ints)))
 
   -- a svertex without arcs
-  module _ (k : ℕ) (u : MapVertex) (a : At M.svertices k u) (lone : HasArc M k → ⊥) where
-    abbrev z : Place
+  module _ (k : ℕ) (u : MapVertex) (a : IsAt M.svertices k u) (lone : HasArc M k → ⊥) where
+    abbrev z : SpacePoint
     z = ahead s p u.dir
 
     around-dim : (d : Vector) → IsDirection (cross u.dir d) → FlatDim s (ahead s z d) 3
@@ -135,22 +135,22 @@ module _ (M : Map) (s : Set) (p : Place) (K : Cone M s p) where
         (tied-both s (ahead s z d) (ahead s z e) (ahead s p e) (around-tied d e (apart-end d x c v) (apart-end e y b w)) (tied-turned s (ahead s p e) (ahead s z e) (tied-around e y b w)))
 
 -- ---- arrivals at one side
-module _ (s : Set) (C : Complex) (S : Shows s C) (i : ℕ) (v : Vertex) (listed : At C.vertices i v) where
+module _ (s : Set) (C : Complex) (S : Shows s C) (i : ℕ) (v : Vertex) (listed : IsAt C.vertices i v) where
   abbrev M : Map
   M = v.map
 
   abbrev K : Cone v.map s v.point
   K = S.cones i v listed
 
-  module _ (k : ℕ) (x : Item) (a : At (items v.map) k x) where
-    corner : IsCorner C (corner_of i k) v x
+  module _ (k : ℕ) (x : Item) (a : IsAt (items v.map) k x) where
+    corner : IsCorner C (corner_of_numbers i k) v x
     corner = record { vertex = listed; item = a }
 
     -- an arrival at an item from a side, and the points beside the item on that side
     item-arrival : (d y f : Vector) → IsClear v.map d y → OnItem v.map x y → (sign (dot (item_normal x) d) ≡ nought → ⊥) → sign (dot (item_normal x) f) ≡ sign (dot (item_normal x) d)
         → IsTied s (ahead s v.point d) (ahead s (ahead s v.point y) f)
     item-arrival d y f c o off same = tied-both s (ahead s v.point d) (ahead s (ahead s v.point y) d) (ahead s (ahead s v.point y) f) (tied-end v.map s v.point K d y c)
-        (let F = facet-near s C S (corner_of i k) v x corner y o in tied-off s (ahead s v.point y) (item_normal x) (item_pos x) (item_mark x) (item_neg x) F.sided d f off same)
+        (let F = facet-near s C S (corner_of_numbers i k) v x corner y o in tied-off s (ahead s v.point y) (item_normal x) (item_pos x) (item_mark x) (item_neg x) F.sided d f off same)
 
     item-arrivals : (d y e t f : Vector) → IsClear v.map d y → OnItem v.map x y → IsClear v.map e t → OnItem v.map x t → (sign (dot (item_normal x) f) ≡ nought → ⊥)
         → sign (dot (item_normal x) d) ≡ sign (dot (item_normal x) f) → sign (dot (item_normal x) e) ≡ sign (dot (item_normal x) f) → IsTied s (ahead s v.point d) (ahead s v.point e)
@@ -158,12 +158,12 @@ module _ (s : Set) (C : Complex) (S : Shows s C) (i : ℕ) (v : Vertex) (listed 
         let g = ahead s (ahead s v.point y) f in
         let h = ahead s (ahead s v.point t) f in
         tied-both s (ahead s v.point d) g (ahead s v.point e) (item-arrival d y f c o (λ w. off (sym same ∙ w)) (sym same))
-        (tied-both s g h (ahead s v.point e) (tied-ahead s (ahead s v.point y) (ahead s v.point t) f (item-tied s C S (corner_of i k) v x corner y t o q))
+        (tied-both s g h (ahead s v.point e) (tied-ahead s (ahead s v.point y) (ahead s v.point t) f (item-tied s C S (corner_of_numbers i k) v x corner y t o q))
         (tied-turned s (ahead s v.point e) h (item-arrival e t f b q (λ w. off (sym also ∙ w)) (sym also))))
 
   arrivals : (o : Side) (l : Label) → HasSide v.map o l → (d y e t : Vector) → IsClear v.map d y → Reaches v.map o d y → IsClear v.map e t → Reaches v.map o e t → IsTied s (ahead s v.point d) (ahead s v.point e)
   arrivals (around_svertex k) l (u, a, f) d y e t c (w, b, m) g (r, h, n) =
-      let one = λ (q : MapVertex) (j : At v.map.svertices k q). at-one v.map.svertices k q u j a in
+      let one = λ (q : MapVertex) (j : IsAt v.map.svertices k q). at-one v.map.svertices k q u j a in
       lone-tied v.map s v.point K k u a (lone-of v.map K.valid.shaped k u l a f) d e y t c (subst (λ (q : MapVertex). SameDirection q.dir y) (one w b) m) g (subst (λ (q : MapVertex). SameDirection q.dir t) (one r h) n)
   arrivals (pos_item k) l has d y e t c (x, a, o, h) g (z, b, q, m) =
       let same = at-one (items v.map) k z x b a in
@@ -198,10 +198,10 @@ module _ (s : Set) (C : Complex) (S : Shows s C) (i : ℕ) (v : Vertex) (listed 
 
 -- ---- all points at one side are joined
 module _ (s : Set) (C : Complex) (S : Shows s C) where
-  pub side-close : (v : Vertex) (o : Side) (p : Place) → Sees v.map o (toward v.point p) → IsEvenAfter s 3 v.point p → IsTied s p (ahead s v.point (toward v.point p))
+  pub side-close : (v : Vertex) (o : Side) (p : SpacePoint) → Sees v.map o (toward v.point p) → IsEvenAfter s 3 v.point p → IsTied s p (ahead s v.point (toward v.point p))
   side-close v o p a even = tied-ray s 3 v.point p (toward v.point p) (dir-self (toward v.point p) (let F = seen-free v.map o (toward v.point p) a in F.direction)) even
 
-  pub one-side : (x : VertexSide) (p q : Place) → IsAtSide s C x p → IsAtSide s C x q → IsTied s p q
+  pub one-side : (x : VertexSide) (p q : SpacePoint) → IsAtSide s C x p → IsAtSide s C x q → IsTied s p q
   one-side x p q a b =
       let v = a.vertex in
       let e = at-one C.vertices x.vertex b.vertex v b.is_vertex a.is_vertex in

@@ -1,5 +1,5 @@
 -- What sides see: the same way, some direction each, everything where there is nothing.
-use Rattle.law_links.proofs.Prelude.{◌≡◌, ℕ, ◌*◌, ◌<◌, ◌≤◌, pos, ◌*ℤ◌, ◌<ℤ◌, arith, ap, sym, ◌∙◌, ⊎_elim, List, ◌∷◌, subst, Some, [], ints, mul-pos, sign, at, neg, ◌⊕◌, ◌⊗◌, given, none, follows, sign-scaled, mul_pos, Vector, vector, opposite, blend, dot, cross, IsDirection, SameDirection, IsOpposite, Label, SameUpToFactor, of_direction, same-factor, same-nought, forms, Keeps, At, MapVertex, Map, Item, arc_item, sloop_item, items, item_normal, OnItem, IsFree, Side, around_svertex, pos_item, neg_item, whole, HasSide, IsClear, Reaches, Sees, directly, by_way_of, HasArc, Shaped, dot-comb, normal-is, same-plus, same-minus, amount, far-keeps, far-level, axes-forms, free-by_signs, on-direction, on-level, circle-point, arc-at, item-point, keeps-between, kept-not_opposite, Beside, same_way, other_way, beside, free-beside, between-direction, ends-of, sloop-at, sees-around, dot-comm, zero-decided, dot-zero, self-pos, nought-if, dir-signs, opposite-turned, parallel-trans, dot-opposite, direction-right, blend-turned, is-at_none}
+use Rattle.law_links.proofs.Prelude.{◌≡◌, ℕ, ◌*◌, ◌<◌, ◌≤◌, pos, ◌*ℤ◌, ◌<ℤ◌, arith, ap, sym, ◌∙◌, ⊎_elim, List, ◌∷◌, subst, Some, [], ints, mul-pos, sign, at, neg, ◌⊕◌, ◌⊗◌, given, none, follows, sign-scaled, mul_pos, Vector, vector, opposite, blend, dot, cross, IsDirection, SameDirection, IsOpposite, Label, SameUpToFactor, of_direction, same-factor, same-nought, forms, Keeps, IsAt, MapVertex, Map, Item, arc_item, sloop_item, items, item_normal, OnItem, IsFree, Side, around_svertex, pos_item, neg_item, whole, HasSide, IsClear, Reaches, Sees, directly, by_way_of, HasArc, Shaped, dot-comb, normal-is, same-plus, same-minus, amount, far-keeps, far-level, axes-forms, free-by_signs, on-direction, on-level, circle-point, arc-at, item-point, keeps-between, kept-not_opposite, Beside, same_way, other_way, beside, free-beside, between-direction, ends-of, sloop-at, sees-around, dot-comm, zero-decided, dot-zero, self-pos, nought-if, dir-signs, opposite-turned, parallel-trans, dot-opposite, direction-right, blend-turned, is-at_none}
 use Rattle.law_sphere.proofs.Direct.{between-off_target}
 use Rattle.law_sphere.proofs.Sight.{clear-self}
 
@@ -64,7 +64,7 @@ blend-direction d e i j si sj hd he off = ⊎_elim (λ z. by (beside d e hd he z
 
 -- ---- beside an item
 -- f leads to one side of the item's plane; close to the item toward f all see that side of it
-module _ (M : Map) (V : Shaped M) (k : ℕ) (x : Item) (a : At (items M) k x) (c f : Vector) (on : OnItem M x c) (off : dot (item_normal x) f ≡ pos 0 → ⊥) (K : ℕ) (large : amount (forms M) f ≤ K) where
+module _ (M : Map) (V : Shaped M) (k : ℕ) (x : Item) (a : IsAt (items M) k x) (c f : Vector) (on : OnItem M x c) (off : dot (item_normal x) f ≡ pos 0 → ⊥) (K : ℕ) (large : amount (forms M) f ≤ K) where
   abbrev g : Vector
   g = blend K c 1 f
 
@@ -93,7 +93,7 @@ module _ (M : Map) (V : Shaped M) (k : ℕ) (x : Item) (a : At (items M) k x) (c
   sees-neg h = directly c clear (x, a, on, same-minus (dot (item_normal x) f) (dot (item_normal x) g) turn h)
 
 -- a svertex with its own side has no arc
-pub lone-of : (M : Map) → Shaped M → (k : ℕ) (u : MapVertex) (l : Label) → At M.svertices k u → u.around ≡ Some l → HasArc M k → ⊥
+pub lone-of : (M : Map) → Shaped M → (k : ℕ) (u : MapVertex) (l : Label) → IsAt M.svertices k u → u.around ≡ Some l → HasArc M k → ⊥
 lone-of M V k u l a e h = let f = sym e ∙ V.around_not k u a h in cc
 
 -- ---- a map with a side of the whole sphere has nothing on it
@@ -104,10 +104,10 @@ free-whole M V l e d i = record {
   off_items = off;
 }
   where
-    none : (k : ℕ) (v : MapVertex) → At M.svertices k v → ⊥
-    none k v a = is-at_none (subst (λ (vs : List MapVertex). At vs k v) (let g = V.ground_not l e in g.0) a)
+    none : (k : ℕ) (v : MapVertex) → IsAt M.svertices k v → ⊥
+    none k v a = is-at_none (subst (λ (vs : List MapVertex). IsAt vs k v) (let g = V.ground_not l e in g.0) a)
 
-    off : (k : ℕ) (x : Item) → At (items M) k x → OnItem M x d → ⊥
+    off : (k : ℕ) (x : Item) → IsAt (items M) k x → OnItem M x d → ⊥
     off k (arc_item r) a o = let E = ends-of M V k r (arc-at M.arcs M.sloop k r a) in none r.source E.source E.has_source
     off k (sloop_item r) a o = let f = sym (sloop-at M.arcs M.sloop k r a) ∙ (let g = V.ground_not l e in g.1) in cc
 

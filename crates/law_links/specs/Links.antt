@@ -1,9 +1,9 @@
 -- The links of items, whose classes are the facets, and the links of sides, whose classes are the volumes.
 use Rattle.std.specs.Prelude.{◌≡◌, ◌⊎◌}
-use Rattle.nef_space.specs.Prelude.{ℕ, SameDirection, opposite, plane_dir, up}
+use Rattle.nef_space.specs.Prelude.{ℕ, SameDirection, opposite, plane_dir, up, IsAt}
 use Rattle.nef_space.specs.declared.label.Label.{Label}
 use Rattle.nef_space.specs.declared.label.Label.TheVariants.{Out}
-use Rattle.law_sphere.specs.Maps.{At, Arc, Item, item_normal, OnItem, Side, around_svertex, pos_item, neg_item, HasSide, Sees, InOneSface}
+use Rattle.law_sphere.specs.Maps.{Arc, Item, item_normal, OnItem, Side, around_svertex, pos_item, neg_item, HasSide, Sees, InOneSface}
 use Rattle.law_complex.specs.Prelude.{Vertex, Edge, Complex, Corner, HasEnds, IsCorner, VertexSide, HasSideLabel, RayDown}
 use Rattle.law_complex.specs.Skeleton.{item_plane, RayNames}
 
@@ -15,8 +15,8 @@ pub record AreAlong (C : Complex) (e : Edge) (i j : ℕ) : Type 0 where
   pub ends : HasEnds C e low_vertex high_vertex
   pub low_arc : Arc
   pub high_arc : Arc
-  pub is_low : At low_vertex.map.arcs i low_arc
-  pub is_high : At high_vertex.map.arcs j high_arc
+  pub is_low : IsAt low_vertex.map.arcs i low_arc
+  pub is_high : IsAt high_vertex.map.arcs j high_arc
   pub one_normal : SameDirection low_arc.normal high_arc.normal
   pub one_way : ((low_arc.source ≡ e.low_svertex) × (high_arc.target ≡ e.high_svertex)) ⊎ ((low_arc.target ≡ e.low_svertex) × (high_arc.source ≡ e.high_svertex))
 
@@ -24,7 +24,7 @@ pub record AreAlong (C : Complex) (e : Edge) (i j : ℕ) : Type 0 where
 pub record LinkAlong (C : Complex) (j k : Corner) : Type 0 where
   pub number : ℕ
   pub edge : Edge
-  pub is_edge : At C.edges number edge
+  pub is_edge : IsAt C.edges number edge
   pub from_low : j.vertex ≡ edge.low
   pub to_high : k.vertex ≡ edge.high
   pub along : AreAlong C edge j.item k.item
@@ -48,7 +48,7 @@ IsSideOf C x i o = (l : Label) × (x.vertex ≡ i) × (x.side ≡ o) × HasSideL
 -- the link in one sface: two sides of a vertex, between which a chain of sides with common directions leads
 pub record LinkInSface (C : Complex) (x y : VertexSide) : Type 0 where
   pub vertex : Vertex
-  pub is_vertex : At C.vertices x.vertex vertex
+  pub is_vertex : IsAt C.vertices x.vertex vertex
   pub one_vertex : y.vertex ≡ x.vertex
   pub one : Label
   pub other : Label
@@ -66,7 +66,7 @@ pub data AreSidesAlong (C : Complex) (e : Edge) (o p : Side) : Type 0 where
 pub record LinkAlongEdge (C : Complex) (x y : VertexSide) : Type 0 where
   pub number : ℕ
   pub edge : Edge
-  pub is_edge : At C.edges number edge
+  pub is_edge : IsAt C.edges number edge
   pub low_side : Side
   pub high_side : Side
   pub is_low : IsSideOf C x edge.low low_side
@@ -84,7 +84,7 @@ pub record LinkAcrossFacet (C : Complex) (x y : VertexSide) : Type 0 where
 -- the link down: from a side that sees down and isn't outside to the side above the end of the vertex's ray down
 pub record LinkDown (C : Complex) (x y : VertexSide) : Type 0 where
   pub vertex : Vertex
-  pub is_vertex : At C.vertices x.vertex vertex
+  pub is_vertex : IsAt C.vertices x.vertex vertex
   pub label : Label
   pub has : HasSide vertex.map x.side label
   pub not_out : label ≡ Out → ⊥

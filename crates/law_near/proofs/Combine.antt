@@ -1,10 +1,10 @@
 -- The germ of a combination is the combination of the germs, so it is flat where both operands are.
-use Rattle.law_near.proofs.Prelude.{ℕ, ◌+◌, ◌≤◌, pos, ◌*ℤ◌, ◌<ℤ◌, arith, inl, inr, ⊎_elim, subst, ints, mul_le_right, LabelsCombine, slide, NearGerm, FlatCone, label_and, label_or, label_not, label_less, label_one_of, Place, Ratio, step, Vector, blend, Set, IsShort, HasLabel, Germ, Label, Out, Not, In}
+use Rattle.law_near.proofs.Prelude.{ℕ, ◌+◌, ◌≤◌, pos, ◌*ℤ◌, ◌<ℤ◌, arith, inl, inr, ⊎_elim, subst, ints, mul_le_right, LabelsCombine, slide, NearGerm, FlatCone, label_and, label_or, label_not, label_less, label_one_of, SpacePoint, Ratio, step, Vector, blend, Set, IsShort, HasLabel, Germ, Label, Out, Not, In}
 use Rattle.nef_space.specs.Sets.{Holds}
 use Rattle.law_near.proofs.Germs.{Germ-unique}
 use Rattle.law_near.proofs.Decided.{germ_of}
 
-pub and-label : (a b : Set) (p : Place) (m k : Label) → HasLabel a p m → HasLabel b p k → HasLabel (Set.both a b) p (label_and m k)
+pub and-label : (a b : Set) (p : SpacePoint) (m k : Label) → HasLabel a p m → HasLabel b p k → HasLabel (Set.both a b) p (label_and m k)
 unfolding Holds
 and-label a b p Out k h i = h
 and-label a b p Not Out h i = i
@@ -14,7 +14,7 @@ and-label a b p In Out h i = i
 and-label a b p In Not h i = (h.0, λ x. i.1 x.1)
 and-label a b p In In h i = (h.0, (h.1, i.1))
 
-pub or-label : (a b : Set) (p : Place) (m k : Label) → HasLabel a p m → HasLabel b p k → HasLabel (Set.either a b) p (label_or m k)
+pub or-label : (a b : Set) (p : SpacePoint) (m k : Label) → HasLabel a p m → HasLabel b p k → HasLabel (Set.either a b) p (label_or m k)
 unfolding Holds
 or-label a b p Out k h i = h
 or-label a b p In Out h i = i
@@ -24,13 +24,13 @@ or-label a b p Not Out h i = i
 or-label a b p Not Not h i = (h.0, ⊎_elim h.1 i.1)
 or-label a b p Not In h i = (h.0, inr i.1)
 
-pub not-label : (a : Set) (p : Place) (m : Label) → HasLabel a p m → HasLabel (Set.other a) p (label_not m)
+pub not-label : (a : Set) (p : SpacePoint) (m : Label) → HasLabel a p m → HasLabel (Set.other a) p (label_not m)
 unfolding Holds
 not-label a p Out h = h
 not-label a p Not h = h
 not-label a p In h = (h.0, λ n. n h.1)
 
-pub less-label : (a b : Set) (p : Place) (m k : Label) → HasLabel a p m → HasLabel b p k → HasLabel (Set.less a b) p (label_less m k)
+pub less-label : (a b : Set) (p : SpacePoint) (m k : Label) → HasLabel a p m → HasLabel b p k → HasLabel (Set.less a b) p (label_less m k)
 unfolding Holds
 less-label a b p Out k h i = h
 less-label a b p Not Out h i = i
@@ -40,7 +40,7 @@ less-label a b p In Out h i = i
 less-label a b p In Not h i = (h.0, (h.1, i.1))
 less-label a b p In In h i = (h.0, λ x. x.1 i.1)
 
-pub one_of-label : (a b : Set) (p : Place) (m k : Label) → HasLabel a p m → HasLabel b p k → HasLabel (Set.one_of a b) p (label_one_of m k)
+pub one_of-label : (a b : Set) (p : SpacePoint) (m k : Label) → HasLabel a p m → HasLabel b p k → HasLabel (Set.one_of a b) p (label_one_of m k)
 unfolding Holds
 one_of-label a b p Out k h i = h
 one_of-label a b p Not Out h i = i
@@ -59,10 +59,10 @@ shorter m n t l h =
 
 -- a node whose label is a function of the labels of its operands
 abbrev pub ByLabels : (Set → Set → Set) → (Label → Label → Label) → Type 0
-ByLabels node op = (a b : Set) (p : Place) (m k : Label) → HasLabel a p m → HasLabel b p k → HasLabel (node a b) p (op m k)
+ByLabels node op = (a b : Set) (p : SpacePoint) (m k : Label) → HasLabel a p m → HasLabel b p k → HasLabel (node a b) p (op m k)
 
 module _ (node : Set → Set → Set) (op : Label → Label → Label) (by : ByLabels node op) where
-  pub germ-by : (a b : Set) (p : Place) (d : Vector) (m k : Label) → Germ a p d m → Germ b p d k → Germ (node a b) p d (op m k)
+  pub germ-by : (a b : Set) (p : SpacePoint) (d : Vector) (m k : Label) → Germ a p d m → Germ b p d k → Germ (node a b) p d (op m k)
   germ-by a b p d m k (n, some, f) (n', some', g) = (
     n + n',
     omega arith,
@@ -70,7 +70,7 @@ module _ (node : Set → Set → Set) (op : Label → Label → Label) (by : ByL
         by a b (step p t d) m k (f t (shorter n (n + n') t (omega arith) h)) (g t (shorter n' (n + n') t (omega arith) h)),
   )
 
-  pub flat-by : (a b : Set) (p : Place) (d : Vector) → FlatCone a p d → FlatCone b p d → FlatCone (node a b) p d
+  pub flat-by : (a b : Set) (p : SpacePoint) (d : Vector) → FlatCone a p d → FlatCone b p d → FlatCone (node a b) p d
   flat-by a b p d f g e c k some m =
       let i = germ_of a p e in
       let j = germ_of b p e in
@@ -81,10 +81,10 @@ module _ (node : Set → Set → Set) (op : Label → Label → Label) (by : ByL
       )
 
 -- ---- the labels, germs and near germs of a combination
-pub germ-not : (a : Set) (p : Place) (d : Vector) (m : Label) → Germ a p d m → Germ (Set.other a) p d (label_not m)
+pub germ-not : (a : Set) (p : SpacePoint) (d : Vector) (m : Label) → Germ a p d m → Germ (Set.other a) p d (label_not m)
 germ-not a p d m (n, some, f) = (n, some, λ t h. not-label a (step p t d) m (f t h))
 
-pub germ-combines : (a b : Set) (p : Place) (d : Vector) (l m : Label) → Germ a p d l → Germ b p d m → LabelsCombine a b l m (λ s. Germ s p d)
+pub germ-combines : (a b : Set) (p : SpacePoint) (d : Vector) (l m : Label) → Germ a p d l → Germ b p d m → LabelsCombine a b l m (λ s. Germ s p d)
 germ-combines a b p d l m g h = record {
   both = germ-by Set.both label_and and-label a b p d l m g h;
   either = germ-by Set.either label_or or-label a b p d l m g h;
@@ -93,7 +93,7 @@ germ-combines a b p d l m g h = record {
   other = germ-not a p d l g;
 }
 
-pub near_germ-combines : (a b : Set) (p : Place) (d e : Vector) (l m : Label) → NearGerm a p d e l → NearGerm b p d e m → LabelsCombine a b l m (λ s. NearGerm s p d e)
+pub near_germ-combines : (a b : Set) (p : SpacePoint) (d e : Vector) (l m : Label) → NearGerm a p d e l → NearGerm b p d e m → LabelsCombine a b l m (λ s. NearGerm s p d e)
 near_germ-combines a b p d e l m (n, f) (n', g) = record {
   both = (n + n', λ k h. (germ-combines a b p (blend k d 1 e) l m (f k (omega arith)) (g k (omega arith))).both);
   either = (n + n', λ k h. (germ-combines a b p (blend k d 1 e) l m (f k (omega arith)) (g k (omega arith))).either);

@@ -2,20 +2,20 @@
 use Rattle.law_near.proofs.Prelude.{◌≡◌, ℕ, zero, suc, ◌<◌, ℤ, pos, negsuc, ◌+ℤ◌, ◌-ℤ◌, ◌*ℤ◌, nat_abs, arith, refl, ap, sym, ◌∙◌, ◌⊎◌, List, ◌∷◌, Bool, true, false, [], ints, ring, at, num, ◌⊕◌, ◌⊖◌, ◌⊗◌, Sign, minus, nought, plus, sign, sign-plus, sign-minus, sign-scaled, sign_of_product, mul_pos, mul_nonneg, Form}
 use Rattle.nef_space.proofs.Order.{sign_times, Lies}
 use Rattle.law_near.proofs.Counting.{count, find-passing, count-less}
-use Rattle.law_near.proofs.Sums.{Homogeneous, form_on, mix, IsMixed, SameSigns, form-mix, form-sum, mixed-mix, some-pos}
+use Rattle.law_near.proofs.Sums.{Homogeneous, form_on, mix, IsMixed, SameFormSigns, form-mix, form-sum, mixed-mix, some-pos}
 
 -- ---- signs along a segment
-abbrev pub opposite : Sign → Sign → Bool
-opposite minus plus = true
-opposite plus minus = true
-opposite _ _ = false
+abbrev pub opposite_signs : Sign → Sign → Bool
+opposite_signs minus plus = true
+opposite_signs plus minus = true
+opposite_signs _ _ = false
 
 -- the sign strictly inside a segment that the form doesn't cross
 abbrev pub joint : Sign → Sign → Sign
 joint nought t = t
 joint s t = s
 
-pub sign-inside : (f g : ℤ) (i j : ℕ) → 0 < i → 0 < j → opposite (sign f) (sign g) ≡ false → sign (pos i *ℤ f +ℤ pos j *ℤ g) ≡ joint (sign f) (sign g)
+pub sign-inside : (f g : ℤ) (i j : ℕ) → 0 < i → 0 < j → opposite_signs (sign f) (sign g) ≡ false → sign (pos i *ℤ f +ℤ pos j *ℤ g) ≡ joint (sign f) (sign g)
 sign-inside (pos zero) g i j a b o =
     let e = ring (pos i ∷ pos j ∷ g ∷ []) (at 0 ⊗ num (pos 0) ⊕ at 1 ⊗ at 2) (at 1 ⊗ at 2) tt in
     ap sign e ∙ sign_of_product (pos j) g ∙ ap (λ r. sign_times r (sign g)) (sign-plus (pos j) (omega (arith, ints)))
@@ -38,16 +38,16 @@ abbrev pub sign_on : Form → Homogeneous → Sign
 sign_on h v = sign (form_on h v)
 
 abbrev pub crosses : Form → Homogeneous → Homogeneous → Bool
-crosses h p q = opposite (sign_on h p) (sign_on h q)
+crosses h p q = opposite_signs (sign_on h p) (sign_on h q)
 
 pub sign-mixed : (h : Form) (p r q : Homogeneous) → IsMixed p r q → crosses h p q ≡ false → sign_on h r ≡ joint (sign_on h p) (sign_on h q)
 sign-mixed h p r q m c = sym (sign-scaled (pos m.k) (form_on h r) (some-pos m.k m.some_k)) ∙ ap sign (form-sum h m.k r m.i p m.j q m.sum) ∙ sign-inside (form_on h p) (form_on h q) m.i m.j m.some_i m.some_j c
 
-abbrev pub IsClear : List Form → Homogeneous → Homogeneous → Type 0
-IsClear hs p q = (h : Form) → Lies hs h → crosses h p q ≡ false
+abbrev pub CrossesNone : List Form → Homogeneous → Homogeneous → Type 0
+CrossesNone hs p q = (h : Form) → Lies hs h → crosses h p q ≡ false
 
 -- where nothing crosses, all vectors strictly between have the same signs
-pub clear-same : (hs : List Form) (p q r s : Homogeneous) → IsClear hs p q → IsMixed p r q → IsMixed p s q → SameSigns hs r s
+pub clear-same : (hs : List Form) (p q r s : Homogeneous) → CrossesNone hs p q → IsMixed p r q → IsMixed p s q → SameFormSigns hs r s
 clear-same hs p q r s c a b h l = sign-mixed h p r q a (c h l) ∙ sym (sign-mixed h p s q b (c h l))
 
 -- ---- counting
@@ -55,7 +55,7 @@ abbrev pub crossings : List Form → Homogeneous → Homogeneous → ℕ
 crossings hs p q = count (λ h. crosses h p q) hs
 
 module _ (p q : Homogeneous) where
-  pub find-crossing : (hs : List Form) → IsClear hs p q ⊎ ((h : Form) × Lies hs h × (crosses h p q ≡ true))
+  pub find-crossing : (hs : List Form) → CrossesNone hs p q ⊎ ((h : Form) × Lies hs h × (crosses h p q ≡ true))
   find-crossing hs = find-passing (λ h. crosses h p q) hs
 
   module _ (r s : Homogeneous) where
@@ -65,27 +65,27 @@ module _ (p q : Homogeneous) where
     pub crossings-less : (hs : List Form) → Fewer hs → (h : Form) → Lies hs h → crosses h p q ≡ true → crosses h r s ≡ false → crossings hs r s < crossings hs p q
     crossings-less hs f h l c d = count-less (λ h. crosses h p q) (λ h. crosses h r s) hs f h l c d
 
-pub opposite-left : (s t : Sign) → opposite s (joint s t) ≡ false
+pub opposite-left : (s t : Sign) → opposite_signs s (joint s t) ≡ false
 opposite-left minus t = refl
 opposite-left nought minus = refl
 opposite-left nought nought = refl
 opposite-left nought plus = refl
 opposite-left plus t = refl
 
-pub opposite-right : (s t : Sign) → opposite s t ≡ false → opposite (joint s t) t ≡ false
+pub opposite-right : (s t : Sign) → opposite_signs s t ≡ false → opposite_signs (joint s t) t ≡ false
 opposite-right minus t o = o
 opposite-right nought minus o = refl
 opposite-right nought nought o = refl
 opposite-right nought plus o = refl
 opposite-right plus t o = o
 
-pub to-nought : (s : Sign) → opposite s nought ≡ false
+pub to-nought : (s : Sign) → opposite_signs s nought ≡ false
 to-nought minus = refl
 to-nought nought = refl
 to-nought plus = refl
 
 -- ---- a vector at which a crossing form is nought
-pub balance : (f g : ℤ) → opposite (sign f) (sign g) ≡ true → (0 < nat_abs f) × (0 < nat_abs g) × (pos (nat_abs g) *ℤ f +ℤ pos (nat_abs f) *ℤ g ≡ pos 0)
+pub balance : (f g : ℤ) → opposite_signs (sign f) (sign g) ≡ true → (0 < nat_abs f) × (0 < nat_abs g) × (pos (nat_abs g) *ℤ f +ℤ pos (nat_abs f) *ℤ g ≡ pos 0)
 balance (pos zero) g o = cc
 balance (pos (suc f)) (pos zero) o = cc
 balance (pos (suc f)) (pos (suc g)) o = cc
@@ -120,6 +120,6 @@ split hs p q h m c =
     record {
       middle = r;
       between = a;
-      fewer_left = crossings-less p q p r hs (λ k v e. ap (opposite (sign_on k p)) (sign-mixed k p r q a e) ∙ opposite-left (sign_on k p) (sign_on k q)) h m c (ap (opposite (sign_on h p)) zero_at ∙ to-nought (sign_on h p));
-      fewer_right = crossings-less p q r q hs (λ k v e. ap (λ (z : Sign). opposite z (sign_on k q)) (sign-mixed k p r q a e) ∙ opposite-right (sign_on k p) (sign_on k q) e) h m c (ap (λ (z : Sign). opposite z (sign_on h q)) zero_at);
+      fewer_left = crossings-less p q p r hs (λ k v e. ap (opposite_signs (sign_on k p)) (sign-mixed k p r q a e) ∙ opposite-left (sign_on k p) (sign_on k q)) h m c (ap (opposite_signs (sign_on h p)) zero_at ∙ to-nought (sign_on h p));
+      fewer_right = crossings-less p q r q hs (λ k v e. ap (λ (z : Sign). opposite_signs z (sign_on k q)) (sign-mixed k p r q a e) ∙ opposite-right (sign_on k p) (sign_on k q) e) h m c (ap (λ (z : Sign). opposite_signs z (sign_on h q)) zero_at);
     }

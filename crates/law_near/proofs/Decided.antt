@@ -1,5 +1,5 @@
 -- Each set holds or does not hold at each point: no axiom is needed, since finitely many directions decide an interior.
-use Rattle.law_near.proofs.Prelude.{ℕ, ◌+◌, ◌*◌, ◌<◌, ◌≤◌, pos, nat_abs, arith, refl, sym, ◌∙◌, ◌⊎◌, inl, inr, ⊎_elim, List, ◌∷◌, subst, Bool, true, false, [], ints, by_lt_z, cases_lt, half_side, Lies, frame, carriers, SameSigns, SameSlopes, Place, Form, form_at, normal_of, Ratio, step, Within, InFrame, toward, Vector, Set, Interior, Closure, InHalf, halves, IsShort, HasLabel, Germ, Label, Out, Not, In, each, lies-each, lies-left, lies-right}
+use Rattle.law_near.proofs.Prelude.{ℕ, ◌+◌, ◌*◌, ◌<◌, ◌≤◌, pos, nat_abs, arith, refl, sym, ◌∙◌, ◌⊎◌, inl, inr, ⊎_elim, List, ◌∷◌, subst, Bool, true, false, [], ints, by_lt_z, cases_lt, half_side, Lies, frame, carriers, SameSigns, SameSlopes, SpacePoint, Form, form_at, normal_of, Ratio, step, Within, InFrame, toward, Vector, Set, Interior, Closure, InHalf, halves, IsShort, HasLabel, Germ, Label, Out, Not, In, each, lies-each, lies-left, lies-right}
 use Rattle.nef_space.specs.Sets.{Holds}
 use Rattle.law_near.proofs.Representatives.{representative_directions, Representative, representative}
 use Rattle.law_near.proofs.Near.{stride, step-within, reach_all}
@@ -21,27 +21,27 @@ pub same-slopes : (hs : List Form) (d : Vector) → SameSlopes hs d (way_of hs d
 same-slopes hs d h l = (way_of hs d).same (normal_of h) (lies-each normal_of hs h l)
 
 -- short steps along one direction, and the points that they lead to
-abbrev size : List Form → Place → Vector → ℕ
+abbrev size : List Form → SpacePoint → Vector → ℕ
 size hs q d = stride (reach_all hs q) d
 
 abbrev part_of : ℕ → Ratio
 part_of k = record { a = pos 1; b = k + 1; proper = omega arith }
 
-abbrev spot : List Form → Place → Vector → Place
+abbrev spot : List Form → SpacePoint → Vector → SpacePoint
 spot hs q d = step q (part_of (size hs q d)) d
 
 part-short : (n k : ℕ) → n ≤ k → IsShort n (part_of k)
 part-short n k h = (omega (arith, ints), omega (arith, ints))
 
 -- all short steps along d lead to one cell
-spot-same : (hs : List Form) (q : Place) (d : Vector) (k : ℕ) → size hs q d ≤ k → SameSigns hs (spot hs q d) (step q (part_of k) d)
+spot-same : (hs : List Form) (q : SpacePoint) (d : Vector) (k : ℕ) → size hs q d ≤ k → SameSigns hs (spot hs q d) (step q (part_of k) d)
 spot-same hs q d k l = near-same hs q (spot hs q d) (step q (part_of k) d)
     (step-within (reach_all hs q) q d (part_of (size hs q d)) (part-short (size hs q d) (size hs q d) (omega arith)))
     (step-within (reach_all hs q) q d (part_of k) (part-short (size hs q d) k l))
     (λ h i e. sign-along h q (part_of (size hs q d)) d e (omega (arith, ints)) ∙ sym (sign-along h q (part_of k) d e (omega (arith, ints))))
 
 -- a close point lies in the cell of one of the deciding directions
-spot-of : (hs : List Form) (q r : Place) → Within (reach_all hs q) q r → SameSigns hs r (spot hs q (way_of hs (toward q r)).direction)
+spot-of : (hs : List Form) (q r : SpacePoint) → Within (reach_all hs q) q r → SameSigns hs r (spot hs q (way_of hs (toward q r)).direction)
 spot-of hs q r c =
     let w = way_of hs (toward q r) in
     let d = w.direction in
@@ -80,7 +80,7 @@ decided-or (inr m) (inr n) = inr (λ p. ⊎_elim m n p)
 pub decided-lt : (a b : ℕ) → Decided (a < b)
 decided-lt a b = ⊎_elim (λ h. inl h) (λ h. inr (λ k. omega arith)) (cases_lt a b)
 
-pub InFrame-decided : (p : Place) → Decided (InFrame p)
+pub InFrame-decided : (p : SpacePoint) → Decided (InFrame p)
 InFrame-decided p = by (decided-lt (nat_abs p.x) (half_side * p.w)) (decided-lt (nat_abs p.y) (half_side * p.w)) (decided-lt (nat_abs p.z) (half_side * p.w))
   where
     by : Decided (nat_abs p.x < half_side * p.w) → Decided (nat_abs p.y < half_side * p.w) → Decided (nat_abs p.z < half_side * p.w) → Decided (InFrame p)
@@ -89,8 +89,8 @@ InFrame-decided p = by (decided-lt (nat_abs p.x) (half_side * p.w)) (decided-lt 
     by (inl d) (inl e) (inr n) = inr (λ c. n c.along_z)
     by (inl d) (inl e) (inl f) = inl (record { along_x = d; along_y = e; along_z = f })
 
-module _ (hs : List Form) (P : Place → Type 0) (F : Cells hs InFrame) (C : Cells hs P) (D : (p : Place) → Decided (P p)) where
-  Interior-decided : (q : Place) → Decided (Interior P q)
+module _ (hs : List Form) (P : SpacePoint → Type 0) (F : Cells hs InFrame) (C : Cells hs P) (D : (p : SpacePoint) → Decided (P p)) where
+  Interior-decided : (q : SpacePoint) → Decided (Interior P q)
   Interior-decided q = by (every (ways hs) (λ v. InFrame (spot hs q v) → P (spot hs q v))
       (λ v. decided-to (InFrame-decided (spot hs q v)) (D (spot hs q v))))
     where
@@ -112,7 +112,7 @@ module _ (hs : List Form) (P : Place → Type 0) (F : Cells hs InFrame) (C : Cel
           let c = step-within h.0 q d (part_of k) (part-short (stride h.0 d) k (omega arith)) in
           n (λ i. C r (spot hs q d) (same-sym hs (spot hs q d) r e) (h.2 r (F (spot hs q d) r e i) c)))
 
-  Closure-decided : (q : Place) → Decided (Closure P q)
+  Closure-decided : (q : SpacePoint) → Decided (Closure P q)
   Closure-decided q = by (every (ways hs) (λ v. InFrame (spot hs q v) × P (spot hs q v) → ⊥)
       (λ v. decided-not (decided-both (InFrame-decided (spot hs q v)) (D (spot hs q v)))))
     where
@@ -134,13 +134,13 @@ module _ (hs : List Form) (P : Place → Type 0) (F : Cells hs InFrame) (C : Cel
           let e = spot-same hs q d j (omega arith) in
           (r, F (spot hs q d) r e i.0, step-within k q d (part_of j) (part-short (stride k d) j (omega arith)), C (spot hs q d) r e i.1))
 
-InHalf-decided : (h : Form) (c : Bool) (p : Place) → Decided (InHalf h c p)
+InHalf-decided : (h : Form) (c : Bool) (p : SpacePoint) → Decided (InHalf h c p)
 InHalf-decided h false p = by_lt_z (form_at h p) (pos 0) (λ l. inl l) (λ l. inr (λ m. omega (arith, ints)))
 InHalf-decided h true p = by_lt_z (pos 0) (form_at h p) (λ l. inr (λ m. omega (arith, ints))) (λ l. inl l)
 
 module _ (hs : List Form) (wide : Inside frame hs) where
   -- each set holds or does not hold at each point
-  pub Holds-decided : (s : Set) → Inside (halves s) hs → (p : Place) → Decided (Holds s p)
+  pub Holds-decided : (s : Set) → Inside (halves s) hs → (p : SpacePoint) → Decided (Holds s p)
   unfolding Holds
   Holds-decided (Set.half h c) sub = InHalf-decided h c
   Holds-decided Set.empty sub = λ p. inr (λ e. e)
@@ -164,11 +164,11 @@ module _ (hs : List Form) (wide : Inside frame hs) where
       Closure-decided hs (Interior (Holds a)) (InFrame-cells hs wide) cells here
 
 -- ---- so each point has one label, and each direction one germ
-pub label_of : (s : Set) (p : Place) → (m : Label) × HasLabel s p m
+pub label_of : (s : Set) (p : SpacePoint) → (m : Label) × HasLabel s p m
 label_of s p = ⊎_elim
     (λ i. ⊎_elim (λ h. (In, (i, h))) (λ n. (Not, (i, n)))
     (Holds-decided (carriers s) (λ h l. lies-left frame (halves s) h l) s (λ h l. lies-right frame (halves s) h l) p))
     (λ n. (Out, n)) (InFrame-decided p)
 
-pub germ_of : (s : Set) (p : Place) (d : Vector) → (m : Label) × Germ s p d m
+pub germ_of : (s : Set) (p : SpacePoint) (d : Vector) → (m : Label) × Germ s p d m
 germ_of s p d = let r = label_of s (step p (sample s p d) d) in (r.0, Germ-from_sample s p d r.0 r.1)

@@ -1,5 +1,5 @@
 -- Finitely many vectors show all germs, so what is said of all directions is decided.
-use Rattle.law_near.proofs.Prelude.{◌≡◌, refl, sym, ◌∙◌, ◌⊎◌, inl, inr, ⊎_elim, ◌↔◌, List, ◌++◌, subst, Lies, Place, Form, step, Vector, IsDirection, Set, Holds, halves, HasLabel, Germ, Label, Out, Not, In, frame, carriers, SameSlopes, NearGerm, SameCone, lies-left, lies-right, zero-decided}
+use Rattle.law_near.proofs.Prelude.{◌≡◌, refl, sym, ◌∙◌, ◌⊎◌, inl, inr, ⊎_elim, ◌↔◌, List, ◌++◌, subst, Lies, SpacePoint, Form, step, Vector, IsDirection, Set, Holds, halves, HasLabel, Germ, Label, Out, Not, In, frame, carriers, SameSlopes, NearGerm, SameCone, lies-left, lies-right, zero-decided}
 use Rattle.law_near.proofs.Germs.{Germ-unique, label-one, sample, sample-short}
 use Rattle.law_near.proofs.Flats.{Germ-by_signs}
 use Rattle.law_near.proofs.Decided.{Decided, Holds-decided, label_of, germ_of, every, decided-not, decided-to, ways, way_of, same-slopes}
@@ -21,21 +21,21 @@ same-label_or In Out = inr (λ e. cc)
 same-label_or In Not = inr (λ e. cc)
 same-label_or In In = inl refl
 
-pub holds-decided : (s : Set) (p : Place) → Decided (Holds s p)
+pub holds-decided : (s : Set) (p : SpacePoint) → Decided (Holds s p)
 holds-decided s p = Holds-decided (carriers s) (λ h l. lies-left frame (halves s) h l) s (λ h l. lies-right frame (halves s) h l) p
 
-pub label-decided : (s : Set) (p : Place) (l : Label) → Decided (HasLabel s p l)
+pub label-decided : (s : Set) (p : SpacePoint) (l : Label) → Decided (HasLabel s p l)
 label-decided s p l =
     let m = label_of s p in
     ⊎_elim (λ e. inl (subst (HasLabel s p) e m.1)) (λ n. inr (λ h. n (label-one s p m.0 l m.1 h))) (same-label_or m.0 l)
 
-pub germ-decided : (s : Set) (p : Place) (d : Vector) (l : Label) → Decided (Germ s p d l)
+pub germ-decided : (s : Set) (p : SpacePoint) (d : Vector) (l : Label) → Decided (Germ s p d l)
 germ-decided s p d l =
     let m = germ_of s p d in
     ⊎_elim (λ e. inl (subst (Germ s p d) e m.1)) (λ n. inr (λ h. n (Germ-unique s p d m.0 l m.1 h))) (same-label_or m.0 l)
 
 -- ---- all directions
-pub germ-representatives : (s : Set) (p : Place) → (vs : List Vector) × ((d : Vector) → (v : Vector) × Lies vs v × ((l : Label) → Germ s p d l ↔ Germ s p v l))
+pub germ-representatives : (s : Set) (p : SpacePoint) → (vs : List Vector) × ((d : Vector) → (v : Vector) × Lies vs v × ((l : Label) → Germ s p d l ↔ Germ s p v l))
 germ-representatives s p =
     let r = representatives (carriers s) in (
       r.0,
@@ -47,13 +47,13 @@ germ-representatives s p =
           ),
     )
 
-pub all-germs : (s : Set) (p : Place) (l : Label) → ((d : Vector) → Germ s p d l) ⊎ ((d : Vector) × (Germ s p d l → ⊥))
+pub all-germs : (s : Set) (p : SpacePoint) (l : Label) → ((d : Vector) → Germ s p d l) ⊎ ((d : Vector) × (Germ s p d l → ⊥))
 all-germs s p l = by (germ-representatives s p)
   where
     by : ((vs : List Vector) × ((d : Vector) → (v : Vector) × Lies vs v × ((l : Label) → Germ s p d l ↔ Germ s p v l))) → ((d : Vector) → Germ s p d l) ⊎ ((d : Vector) × (Germ s p d l → ⊥))
     by (vs, f) = ⊎_elim (λ c. inr (c.0, c.2)) (λ g. inl (λ d. let v = f d in (v.2 l).1 (g v.0 v.1))) (every vs (λ v. Germ s p v l) (λ v. germ-decided s p v l))
 
-pub all-directions : (s : Set) (p : Place) (l : Label) → ((d : Vector) → IsDirection d → Germ s p d l) ⊎ ((d : Vector) × IsDirection d × (Germ s p d l → ⊥))
+pub all-directions : (s : Set) (p : SpacePoint) (l : Label) → ((d : Vector) → IsDirection d → Germ s p d l) ⊎ ((d : Vector) × IsDirection d × (Germ s p d l → ⊥))
 all-directions s p l = ⊎_elim
     (λ c. inr (found c.0 c.2))
     (λ g. inl (λ d i.
@@ -66,29 +66,29 @@ all-directions s p l = ⊎_elim
 
 -- ---- near directions
 -- a short step along d, at which the germs are the germs near d
-abbrev pub ahead : Set → Place → Vector → Place
+abbrev pub ahead : Set → SpacePoint → Vector → SpacePoint
 ahead s p d = step p (sample s p d) d
 
-pub near-ahead : (s : Set) (p : Place) (d e : Vector) (l : Label) → Germ s (ahead s p d) e l ↔ NearGerm s p d e l
+pub near-ahead : (s : Set) (p : SpacePoint) (d e : Vector) (l : Label) → Germ s (ahead s p d) e l ↔ NearGerm s p d e l
 near-ahead s p d e l = (near-from_there s p d e (sample s p d) (sample-short s p d) l, there-from_near s p d e (sample s p d) (sample-short s p d) l)
 
-pub near-germ_of : (s : Set) (p : Place) (d e : Vector) → (l : Label) × NearGerm s p d e l
+pub near-germ_of : (s : Set) (p : SpacePoint) (d e : Vector) → (l : Label) × NearGerm s p d e l
 near-germ_of s p d e = let g = germ_of s (ahead s p d) e in (g.0, (near-ahead s p d e g.0).0 g.1)
 
-pub near-germ_one : (s : Set) (p : Place) (d e : Vector) (l m : Label) → NearGerm s p d e l → NearGerm s p d e m → l ≡ m
+pub near-germ_one : (s : Set) (p : SpacePoint) (d e : Vector) (l m : Label) → NearGerm s p d e l → NearGerm s p d e m → l ≡ m
 near-germ_one s p d e l m f g = Germ-unique s (ahead s p d) e l m ((near-ahead s p d e l).1 f) ((near-ahead s p d e m).1 g)
 
-pub near-germ_decided : (s : Set) (p : Place) (d e : Vector) (l : Label) → Decided (NearGerm s p d e l)
+pub near-germ_decided : (s : Set) (p : SpacePoint) (d e : Vector) (l : Label) → Decided (NearGerm s p d e l)
 near-germ_decided s p d e l = ⊎_elim (λ g. inl ((near-ahead s p d e l).0 g)) (λ n. inr (λ g. n ((near-ahead s p d e l).1 g))) (germ-decided s (ahead s p d) e l)
 
-pub all-near_germs : (s : Set) (p : Place) (d : Vector) (l : Label) → ((e : Vector) → NearGerm s p d e l) ⊎ ((e : Vector) × (NearGerm s p d e l → ⊥))
+pub all-near_germs : (s : Set) (p : SpacePoint) (d : Vector) (l : Label) → ((e : Vector) → NearGerm s p d e l) ⊎ ((e : Vector) × (NearGerm s p d e l → ⊥))
 all-near_germs s p d l = ⊎_elim (λ f. inl (λ e. (near-ahead s p d e l).0 (f e))) (λ c. inr (c.0, λ g. c.1 ((near-ahead s p d c.0 l).1 g))) (all-germs s (ahead s p d) l)
 
 -- ---- equal cones
-one-germ : (s : Set) (p : Place) (v : Vector) (l m : Label) → l ≡ m → Germ s p v l → Germ s p v m
+one-germ : (s : Set) (p : SpacePoint) (v : Vector) (l m : Label) → l ≡ m → Germ s p v l → Germ s p v m
 one-germ s p v l m e g = subst (Germ s p v) e g
 
-pub same-cone_decided : (s t : Set) (p : Place) → Decided (SameCone s t p)
+pub same-cone_decided : (s t : Set) (p : SpacePoint) → Decided (SameCone s t p)
 same-cone_decided s t p = by (representatives (carriers s ++ carriers t)) (same-label_or (label_of s p).0 (label_of t p).0)
   where
     by : ((vs : List Vector) × ((d : Vector) → (v : Vector) × Lies vs v × SameSlopes (carriers s ++ carriers t) d v)) → Decided ((label_of s p).0 ≡ (label_of t p).0) → Decided (SameCone s t p)

@@ -1,48 +1,48 @@
 -- Along a segment: what is settled is the same at both ends; the first change of a decided predicate, and the first point of a closed one.
-use Rattle.law_near.proofs.Prelude.{ℕ, ◌+◌, ◌*◌, ◌<◌, arith, refl, ◌⊎◌, inl, inr, ⊎_elim, List, Place, Form, Within, SamePlace, toward, IsBetween, of_place, OnPlaces, IsSettled, FirstChange, FirstPoint, direction-left}
+use Rattle.law_near.proofs.Prelude.{ℕ, ◌+◌, ◌*◌, ◌<◌, arith, refl, ◌⊎◌, inl, inr, ⊎_elim, List, SpacePoint, Form, Within, SamePoint, toward, IsBetween, of_point, OnPoints, IsSettled, FirstChange, FirstPoint, direction-left}
 use Rattle.law_near.proofs.Sums.{same-sym, mixed-mix, mixed-inner, on-past, on-after}
-use Rattle.law_near.proofs.Mixed.{between-is, between-same, factor-place, places-on, place-toward, end-zero}
-use Rattle.law_near.proofs.Places.{mix_place, mix-close, far, settled-segment_places, PlaceChange, first-change_or_places}
+use Rattle.law_near.proofs.Mixed.{between-is, between-same, factor-point, points-on, point-toward, end-zero}
+use Rattle.law_near.proofs.Points.{mix_point, mix-close, far, settled-segment_points, PointChange, first-change_or_points}
 use Rattle.law_near.proofs.Cells.{Cells, same-sym as signs-sym}
-use Rattle.law_near.proofs.Rays.{signs-same, same-place_sym}
+use Rattle.law_near.proofs.Rays.{signs-same, same-point_sym}
 use Rattle.law_near.proofs.Between.{between-mix, between-inner}
 
 -- what is settled along a segment is the same at both ends
-pub settled-along : (hs : List Form) (P : Place → Type 0) → Cells hs P → (p q : Place) → IsSettled P p q → P p → P q
-settled-along hs P C p q S h = settled-segment_places hs P p q (λ r s a b same. C r s same) S h
+pub settled-along : (hs : List Form) (P : SpacePoint → Type 0) → Cells hs P → (p q : SpacePoint) → IsSettled P p q → P p → P q
+settled-along hs P C p q S h = settled-segment_points hs P p q (λ r s a b same. C r s same) S h
 
 -- before the end, a point z after x leaves room for one between x and z
-module _ (p q x z : Place) (on : OnPlaces p z q) (after : OnPlaces p x z) (apart : SamePlace x z → ⊥) where
-  abbrev next : Place
-  next = mix_place 1 x z
+module _ (p q x z : SpacePoint) (on : OnPoints p z q) (after : OnPoints p x z) (apart : SamePoint x z → ⊥) where
+  abbrev next : SpacePoint
+  next = mix_point 1 x z
 
   next-between : IsBetween x next z
-  next-between = (between-is x next z).1 (mixed-mix 1 (of_place x) 1 (of_place z) (omega arith) (omega arith), apart)
+  next-between = (between-is x next z).1 (mixed-mix 1 (of_point x) 1 (of_point z) (omega arith) (omega arith), apart)
 
   next-before : IsBetween x next q
   next-before =
-      let a = on-past (of_place x) (of_place z) (of_place q) (on-after (of_place p) (of_place x) (of_place z) (of_place q) (places-on p x z after) (places-on p z q on))
-      (λ s. apart (factor-place x z (same-sym (of_place z) (of_place x) s))) in
-      let m = mixed-inner (of_place x) (of_place z) (of_place q) (of_place next) a ((between-is x next z).0 next-between).0 in
-      (between-is x next q).1 (m, λ s. direction-left (toward x next) (toward next z) next-between (end-zero x next q m (place-toward x q s)))
+      let a = on-past (of_point x) (of_point z) (of_point q) (on-after (of_point p) (of_point x) (of_point z) (of_point q) (points-on p x z after) (points-on p z q on))
+      (λ s. apart (factor-point x z (same-sym (of_point z) (of_point x) s))) in
+      let m = mixed-inner (of_point x) (of_point z) (of_point q) (of_point next) a ((between-is x next z).0 next-between).0 in
+      (between-is x next q).1 (m, λ s. direction-left (toward x next) (toward next z) next-between (end-zero x next q m (point-toward x q s)))
 
-  pub room : (P : Place → Type 0) → ((r : Place) → IsBetween x r z → P r → ⊥) → (y : Place) × IsBetween x y q × ((r : Place) → IsBetween x r y → P r → ⊥)
+  pub room : (P : SpacePoint → Type 0) → ((r : SpacePoint) → IsBetween x r z → P r → ⊥) → (y : SpacePoint) × IsBetween x y q × ((r : SpacePoint) → IsBetween x r y → P r → ⊥)
   room P f = (next, next-before, λ r b. f r (between-inner x next z r next-between b))
 
-module _ (hs : List Form) (P : Place → Type 0) (C : Cells hs P) (D : (r : Place) → P r ⊎ (P r → ⊥)) where
+module _ (hs : List Form) (P : SpacePoint → Type 0) (C : Cells hs P) (D : (r : SpacePoint) → P r ⊎ (P r → ⊥)) where
   -- the first change
-  pub first-change : (p q : Place) → P p → ((r : Place) → IsBetween p r q → P r) ⊎ FirstChange P p q
-  first-change p q h = ⊎_elim (λ f. inl f) (λ c. by c c.on) (first-change_or_places hs P p q (λ r s a b same. C r s same) (λ r a. D r) h)
+  pub first-change : (p q : SpacePoint) → P p → ((r : SpacePoint) → IsBetween p r q → P r) ⊎ FirstChange P p q
+  first-change p q h = ⊎_elim (λ f. inl f) (λ c. by c c.on) (first-change_or_points hs P p q (λ r s a b same. C r s same) (λ r a. D r) h)
     where
-      itself : (r : Place) → SamePlace r r
+      itself : (r : SpacePoint) → SamePoint r r
       itself r = record { along_x = refl; along_y = refl; along_z = refl }
 
-      by : (c : PlaceChange P p q) → OnPlaces p c.place q → ((r : Place) → IsBetween p r q → P r) ⊎ FirstChange P p q
+      by : (c : PointChange P p q) → OnPoints p c.place q → ((r : SpacePoint) → IsBetween p r q → P r) ⊎ FirstChange P p q
       by c (inl s) = inr (record {
         at_place = c.place;
         on_segment = inl s;
         stands_before = c.before;
-        change = ⊎_elim (λ f. absurd (f (C p c.place (signs-same hs p c.place (same-place_sym c.place p s)) h))) (λ g. let t = g.1 in inr (g.0, room p q c.place t.0 t.1 t.2 t.3 P t.4)) c.change;
+        change = ⊎_elim (λ f. absurd (f (C p c.place (signs-same hs p c.place (same-point_sym c.place p s)) h))) (λ g. let t = g.1 in inr (g.0, room p q c.place t.0 t.1 t.2 t.3 P t.4)) c.change;
       })
       by c (inr (inl b)) = inr (record {
         at_place = c.place;
@@ -50,22 +50,22 @@ module _ (hs : List Form) (P : Place → Type 0) (C : Cells hs P) (D : (r : Plac
         stands_before = c.before;
         change = ⊎_elim (λ f. inl (f, b)) (λ g. let t = g.1 in inr (g.0, room p q c.place t.0 t.1 t.2 t.3 P t.4)) c.change;
       })
-      by c (inr (inr s)) = inl (λ r b. c.before r (between-same p r q p r c.place (itself p) (itself r) (same-place_sym c.place q s) b))
+      by c (inr (inr s)) = inl (λ r b. c.before r (between-same p r q p r c.place (itself p) (itself r) (same-point_sym c.place q s) b))
 
 -- the first point at which a closed predicate holds
-module _ (hs : List Form) (P : Place → Type 0) (C : Cells hs P) (D : (r : Place) → P r ⊎ (P r → ⊥))
-    (open-not : (r : Place) → (P r → ⊥) → (n : ℕ) × (0 < n) × ((s : Place) → Within n r s → P s → ⊥)) where
-  abbrev N : Place → Type 0
+module _ (hs : List Form) (P : SpacePoint → Type 0) (C : Cells hs P) (D : (r : SpacePoint) → P r ⊎ (P r → ⊥))
+    (open-not : (r : SpacePoint) → (P r → ⊥) → (n : ℕ) × (0 < n) × ((s : SpacePoint) → Within n r s → P s → ⊥)) where
+  abbrev N : SpacePoint → Type 0
   N r = P r → ⊥
 
-  first-of : (p q : Place) (c : FirstChange N p q) → ((N c.at_place → ⊥) × IsBetween p c.at_place q) ⊎ (N c.at_place × ((y : Place) × IsBetween c.at_place y q × ((r : Place) → IsBetween c.at_place r y → N r → ⊥))) → FirstPoint P p q
+  first-of : (p q : SpacePoint) (c : FirstChange N p q) → ((N c.at_place → ⊥) × IsBetween p c.at_place q) ⊎ (N c.at_place × ((y : SpacePoint) × IsBetween c.at_place y q × ((r : SpacePoint) → IsBetween c.at_place r y → N r → ⊥))) → FirstPoint P p q
   first-of p q c (inl (n, b)) = record { at_place = c.at_place; between = b; holds = ⊎_elim (λ x. x) (λ f. absurd (n f)) (D c.at_place); none_before = c.stands_before }
   first-of p q c (inr (f, (y, b, g))) =
       let x = c.at_place in
       let o = open-not x f in
       let k = o.0 * far x y + 1 in
-      absurd (g (mix_place k x y) (between-mix k x y (omega arith) (direction-left (toward x y) (toward y q) b)) (o.2 (mix_place k x y) (mix-close o.0 k x y (omega arith))))
+      absurd (g (mix_point k x y) (between-mix k x y (omega arith) (direction-left (toward x y) (toward y q) b)) (o.2 (mix_point k x y) (mix-close o.0 k x y (omega arith))))
 
-  pub first-between : (p q : Place) → (P p → ⊥) → ((r : Place) → IsBetween p r q → P r → ⊥) ⊎ FirstPoint P p q
+  pub first-between : (p q : SpacePoint) → (P p → ⊥) → ((r : SpacePoint) → IsBetween p r q → P r → ⊥) ⊎ FirstPoint P p q
   first-between p q z = ⊎_elim (λ f. inl f) (λ c. inr (first-of p q c c.change))
       (first-change hs N (λ r s same n x. n (C s r (signs-sym hs r s same) x)) (λ r. ⊎_elim (λ x. inr (λ n. n x)) (λ n. inl n) (D r)) p q z)

@@ -2,7 +2,7 @@
 use Rattle.law_near.proofs.Prelude.{◌≡◌, ℕ, zero, suc, ◌+◌, ◌<◌, arith, ◌⊎◌, inl, inr, ⊎_elim, List, true, Form}
 use Rattle.nef_space.proofs.Order.{Lies}
 use Rattle.law_near.proofs.Sums.{Homogeneous, mix, SameUpToFactor, IsMixed, OnSegment, same-sym, signs-same, mixed-mix, mixed-turned, mixed-itself, on-start, on-end, on-mixed, on-same, on-convex, past-mixed, past-on, past-nearer, before-at-after}
-use Rattle.law_near.proofs.Crossings.{crosses, crossings, IsClear, clear-same, find-crossing, split, Split}
+use Rattle.law_near.proofs.Crossings.{crosses, crossings, CrossesNone, clear-same, find-crossing, split, Split}
 use Rattle.law_near.proofs.Segment.{Cells, cells-part, SettledToward}
 
 -- P holds at all vectors strictly between p and x, and changes at x: it fails at x, or holds there and fails strictly between x and a later z
@@ -23,10 +23,10 @@ change-at P p q d = record { on = d.on; before = d.before; change = d.change }
 
 module _ (hs : List Form) (P : Homogeneous → Type 0) where
   -- P is decided on the segment
-  abbrev pub Decided : Homogeneous → Homogeneous → Type 0
-  Decided p q = (r : Homogeneous) → OnSegment p r q → P r ⊎ (P r → ⊥)
+  abbrev pub DecidedOnSegment : Homogeneous → Homogeneous → Type 0
+  DecidedOnSegment p q = (r : Homogeneous) → OnSegment p r q → P r ⊎ (P r → ⊥)
 
-  decided-part : (p q r t : Homogeneous) → OnSegment p r q → OnSegment p t q → Decided p q → Decided r t
+  decided-part : (p q r t : Homogeneous) → OnSegment p r q → OnSegment p t q → DecidedOnSegment p q → DecidedOnSegment r t
   decided-part p q r t a b d x f = d x (on-convex p q r t x a b f)
 
   abbrev All : Homogeneous → Homogeneous → Type 0
@@ -35,14 +35,14 @@ module _ (hs : List Form) (P : Homogeneous → Type 0) where
   carried : (p q r s : Homogeneous) → Cells hs P p q → OnSegment p r q → SameUpToFactor s r → P r → P s
   carried p q r s c a e x = c r s a (on-same p r q s e a) (signs-same hs r s (same-sym s r e)) x
 
-  scan : (n : ℕ) (p q : Homogeneous) → crossings hs p q < n → Decided p q → Cells hs P p q → P p → All p q ⊎ Change P p q
+  scan : (n : ℕ) (p q : Homogeneous) → crossings hs p q < n → DecidedOnSegment p q → Cells hs P p q → P p → All p q ⊎ Change P p q
   scan zero p q l D c x = absurd (omega arith)
   scan (suc n) p q l D c x = by (λ r t. scan n r t) (find-crossing p q hs)
     where
       middle : Homogeneous
       middle = mix 1 p 1 q
 
-      clear : IsClear hs p q → P middle ⊎ (P middle → ⊥) → All p q ⊎ Change P p q
+      clear : CrossesNone hs p q → P middle ⊎ (P middle → ⊥) → All p q ⊎ Change P p q
       clear f d =
           let a = mixed-mix 1 p 1 q (omega arith) (omega arith) in
           let b = on-mixed p middle q a in
@@ -55,7 +55,7 @@ module _ (hs : List Form) (P : Homogeneous → Type 0) where
             change = inr (x, (q, on-end p q, on-start p q, λ r m w. y (c r middle (on-mixed p r q m) b (clear-same hs p q r middle f m a) w)));
           })) d
 
-      by : ((r t : Homogeneous) → crossings hs r t < n → Decided r t → Cells hs P r t → P r → All r t ⊎ Change P r t) → IsClear hs p q ⊎ ((h : Form) × Lies hs h × (crosses h p q ≡ true)) → All p q ⊎ Change P p q
+      by : ((r t : Homogeneous) → crossings hs r t < n → DecidedOnSegment r t → Cells hs P r t → P r → All r t ⊎ Change P r t) → CrossesNone hs p q ⊎ ((h : Form) × Lies hs h × (crosses h p q ≡ true)) → All p q ⊎ Change P p q
       by again (inl f) = clear f (D middle (on-mixed p middle q (mixed-mix 1 p 1 q (omega arith) (omega arith))))
       by again (inr (h, m, e)) = halves (again p r (let f = u.fewer_left in omega arith) (decided-part p q p r (on-start p q) on_r D) (cells-part hs P p q p r (on-start p q) on_r c) x) (D r on_r)
         where
@@ -96,11 +96,11 @@ module _ (hs : List Form) (P : Homogeneous → Type 0) where
               (again r q (let f = u.fewer_right in omega arith) (decided-part p q r q on_r (on-end p q) D) (cells-part hs P p q r q on_r (on-end p q) c) y)
 
   -- P is true all along, or there is a first vector at which it changes
-  pub first-change_or : (p q : Homogeneous) → Decided p q → Cells hs P p q → P p → ((r : Homogeneous) → IsMixed p r q → P r) ⊎ Change P p q
+  pub first-change_or : (p q : Homogeneous) → DecidedOnSegment p q → Cells hs P p q → P p → ((r : Homogeneous) → IsMixed p r q → P r) ⊎ Change P p q
   first-change_or p q = scan (crossings hs p q + 1) p q (omega arith)
 
   -- THE FIRST CHANGE
-  pub first-change : (p q : Homogeneous) → Decided p q → Cells hs P p q → P p → (P q → ⊥) → Change P p q
+  pub first-change : (p q : Homogeneous) → DecidedOnSegment p q → Cells hs P p q → P p → (P q → ⊥) → Change P p q
   first-change p q D c x f = ⊎_elim (λ a. record { vector = q; on = on-end p q; before = a; change = inl f }) (λ d. d) (first-change_or p q D c x)
 
 -- where it changes it isn't settled

@@ -1,5 +1,5 @@
 -- The flat directions of a point are decided, and so is how many independent ones there are.
-use Rattle.law_near.proofs.Prelude.{◌≡◌, ℕ, ◌+◌, ◌<◌, ◌≤◌, ℤ, pos, negsuc, ◌+ℤ◌, ◌*ℤ◌, neg_ℤ, nat_abs, arith, refl, ap, sym, ◌∙◌, ◌⊎◌, inl, inr, ⊎_elim, ◌↔◌, List, ◌∷◌, ◌++◌, subst, [], ints, cases_order, sign_times, Lies, ring, at, num, neg, ◌⊕◌, ◌⊖◌, ◌⊗◌, given, none, follows, nought-is, sign-plus, sign_of_product, nought-or, Place, Form, form, slope, Vector, blend, dot, cross, IsZero, IsDirection, Set, Germ, Flat, FlatDim, Label, sign_at, carriers, SameSlopes, SameSlopesAt, slide, NearGerm, FlatCone, lies-left, lies-right, vector-same, triple-dot, parallel-both, triple-in_plane}
+use Rattle.law_near.proofs.Prelude.{◌≡◌, ℕ, ◌+◌, ◌<◌, ◌≤◌, ℤ, pos, negsuc, ◌+ℤ◌, ◌*ℤ◌, neg_ℤ, nat_abs, arith, refl, ap, sym, ◌∙◌, ◌⊎◌, inl, inr, ⊎_elim, ◌↔◌, List, ◌∷◌, ◌++◌, subst, [], ints, cases_order, sign_times, Lies, ring, at, num, neg, ◌⊕◌, ◌⊖◌, ◌⊗◌, given, none, follows, nought-is, sign-plus, sign_of_product, nought-or, SpacePoint, Form, form, slope, Vector, blend, dot, cross, IsZero, IsDirection, Set, Germ, Flat, FlatDim, Label, sign_at, carriers, SameSlopes, SameSlopesAt, slide, NearGerm, FlatCone, lies-left, lies-right, vector-same, triple-dot, parallel-both, triple-in_plane}
 use Rattle.nef_space.specs.Signs.{nought, sign}
 use Rattle.law_near.proofs.Cells.{is_nought}
 use Rattle.law_near.proofs.Germs.{Germ-unique}
@@ -11,7 +11,7 @@ use Rattle.law_near.proofs.Decisions.{representatives, near-germ_of, near-germ_o
 
 -- ---- what decides the germs near a direction
 -- d and d' lead to the same sides, and e and e' do where d doesn't decide
-pub near-by_signs : (s : Set) (p : Place) (d d' e e' : Vector) (l : Label) → SameSlopesAt (carriers s) p d d'
+pub near-by_signs : (s : Set) (p : SpacePoint) (d d' e e' : Vector) (l : Label) → SameSlopesAt (carriers s) p d d'
     → ((h : Form) → Lies (carriers s) h → sign_at h p ≡ nought → sign (slope h d) ≡ nought → sign (slope h e) ≡ sign (slope h e')) → NearGerm s p d e l → NearGerm s p d' e' l
 near-by_signs s p d d' e e' l same beside (n, g) = (
   n + steep (carriers s) e + steep (carriers s) e',
@@ -31,7 +31,7 @@ near-by_signs s p d d' e e' l same beside (n, g) = (
         (is_nought (sign (slope h d)))
 
 -- ---- a direction is flat where the cone near it is the cone
-pub near-of_flat : (s : Set) (p : Place) (d : Vector) → FlatCone s p d → (v : Vector) (l : Label) → Germ s p v l ↔ NearGerm s p d v l
+pub near-of_flat : (s : Set) (p : SpacePoint) (d : Vector) → FlatCone s p d → (v : Vector) (l : Label) → Germ s p v l ↔ NearGerm s p d v l
 near-of_flat s p d f v l = (onward v l, back)
   where
     turned : (k : ℕ) (w : Vector) → slide 1 w (pos k) d ≡ blend k d 1 w
@@ -46,7 +46,7 @@ near-of_flat s p d f v l = (onward v l, back)
     back : NearGerm s p d v l → Germ s p v l
     back g = let m = germ_of s p v in subst (Germ s p v) (near-germ_one s p d v m.0 l (onward v m.0 m.1) g) m.1
 
-pub flat-of_near : (s : Set) (p : Place) (d : Vector) → ((v : Vector) (l : Label) → Germ s p v l ↔ NearGerm s p d v l) → FlatCone s p d
+pub flat-of_near : (s : Set) (p : SpacePoint) (d : Vector) → ((v : Vector) (l : Label) → Germ s p v l ↔ NearGerm s p d v l) → FlatCone s p d
 flat-of_near s p d f v b a some l = (onward l, back)
   where
     -- (k + |a| + a) d + b v = (k + |a|) d + (b v + a d)
@@ -84,14 +84,14 @@ flat-of_near s p d f v b a some l = (onward l, back)
     back g = let m = germ_of s p v in subst (Germ s p v) (Germ-unique s p (slide b v a d) m.0 l (onward m.0 m.1) g) m.1
 
 -- a flat direction's cell is flat
-pub flat-by_signs : (s : Set) (p : Place) (d d' : Vector) → SameSlopesAt (carriers s) p d d' → FlatCone s p d → FlatCone s p d'
+pub flat-by_signs : (s : Set) (p : SpacePoint) (d d' : Vector) → SameSlopesAt (carriers s) p d d' → FlatCone s p d → FlatCone s p d'
 flat-by_signs s p d d' same f = flat-of_near s p d' (λ v l. let g = near-of_flat s p d f v l in (
   λ h. near-by_signs s p d d' v v l same (λ k i o z. refl) (g.0 h),
   λ h. g.1 (near-by_signs s p d' d v v l (λ k i o. sym (same k i o)) (λ k i o z. refl) h),
 ))
 
 -- ---- a direction is flat or isn't
-pub flat-decided : (s : Set) (p : Place) (d : Vector) → Decided (FlatCone s p d)
+pub flat-decided : (s : Set) (p : SpacePoint) (d : Vector) → Decided (FlatCone s p d)
 flat-decided s p d = by (representatives (carriers s))
   where
     by : ((vs : List Vector) × ((v : Vector) → (w : Vector) × Lies vs w × SameSlopes (carriers s) v w)) → Decided (FlatCone s p d)
@@ -121,7 +121,7 @@ all-zero_decided gs e = ⊎_elim (λ c. inr (λ f. c.2 (f c.0 c.1))) (λ f. inl 
 all-zero_same : (gs : List Form) (d e : Vector) → SameSlopes gs d e → AllZero gs e → AllZero gs d
 all-zero_same gs d e same f h l = nought-is (slope h d) (same h l ∙ ap sign (f h l))
 
-pub find-flat : (s : Set) (p : Place) (gs : List Form) → ((e : Vector) × FlatCone s p e × (AllZero gs e → ⊥)) ⊎ ((e : Vector) → FlatCone s p e → AllZero gs e)
+pub find-flat : (s : Set) (p : SpacePoint) (gs : List Form) → ((e : Vector) × FlatCone s p e × (AllZero gs e → ⊥)) ⊎ ((e : Vector) → FlatCone s p e → AllZero gs e)
 find-flat s p gs = by (representatives (carriers s ++ gs))
   where
     by : ((vs : List Vector) × ((v : Vector) → (w : Vector) × Lies vs w × SameSlopes (carriers s ++ gs) v w)) → ((e : Vector) × FlatCone s p e × (AllZero gs e → ⊥)) ⊎ ((e : Vector) → FlatCone s p e → AllZero gs e)
@@ -191,7 +191,7 @@ normal-zero n e z h (inl o) = subst (λ (x : Form). slope x e ≡ pos 0) o z
 normal-zero n e z h (inr o) = absurd o
 
 -- each point has a number of independent flat directions
-pub flat_dim-of : (s : Set) (p : Place) → (k : ℕ) × FlatDim s p k
+pub flat_dim-of : (s : Set) (p : SpacePoint) → (k : ℕ) × FlatDim s p k
 flat_dim-of s p = first (find-flat s p numbers)
   where
     cone : (d : Vector) → Flat s p d → FlatCone s p d
@@ -212,7 +212,7 @@ flat_dim-of s p = first (find-flat s p numbers)
     first (inl (d, g, n)) = second d (λ z. n ((numbers-zero d).1 z)) g (find-flat s p (crosses d))
     first (inr all) = (0, (tt, λ o. o.1 ((numbers-zero o.0).0 (all o.0 (cone o.0 o.2)))))
 
-pub flat_dim-decided : (s : Set) (p : Place) (k : ℕ) → Decided (FlatDim s p k)
+pub flat_dim-decided : (s : Set) (p : SpacePoint) (k : ℕ) → Decided (FlatDim s p k)
 flat_dim-decided s p k =
     let j = flat_dim-of s p in
     ⊎_elim (λ e. inl (subst (FlatDim s p) e j.1)) (λ n. inr (λ f. n (FlatDim-one s p j.0 k j.1 f))) (same-or j.0 k)

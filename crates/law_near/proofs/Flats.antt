@@ -1,19 +1,19 @@
 -- Near a point a set is a cone, and its flat directions are a space.
-use Rattle.law_near.proofs.Prelude.{◌≡◌, ℕ, ◌+◌, ◌*◌, ◌<◌, ℤ, pos, ◌+ℤ◌, ◌-ℤ◌, ◌*ℤ◌, ◌<ℤ◌, nat_abs, arith, ap, sym, ◌∙◌, ◌∷◌, subst, [], ints, unsigned_abs-mul, mul-pos, mul-lt-mul_of_pos_left, ring, at, num, ◌⊕◌, ◌⊖◌, ◌⊗◌, nought, sign, sign-plus, nought-is, sign_of_product, mul_pos, Lies, slide, FlatCone, sign_at, carriers, Place, Form, form_at, slope, Ratio, step, Within, toward, Vector, Set, IsShort, HasLabel, Germ, Flat, Label, vector-same}
+use Rattle.law_near.proofs.Prelude.{◌≡◌, ℕ, ◌+◌, ◌*◌, ◌<◌, ℤ, pos, ◌+ℤ◌, ◌-ℤ◌, ◌*ℤ◌, ◌<ℤ◌, nat_abs, arith, ap, sym, ◌∙◌, ◌∷◌, subst, [], ints, unsigned_abs-mul, mul-pos, mul-lt-mul_of_pos_left, ring, at, num, ◌⊕◌, ◌⊖◌, ◌⊗◌, nought, sign, sign-plus, nought-is, sign_of_product, mul_pos, Lies, slide, FlatCone, sign_at, carriers, SpacePoint, Form, form_at, slope, Ratio, step, Within, toward, Vector, Set, IsShort, HasLabel, Germ, Flat, Label, vector-same}
 use Rattle.nef_space.proofs.Order.{sign_times}
 use Rattle.law_near.proofs.Near.{form-step, slope-toward, weaken, stride, step-within, reach_all}
 use Rattle.law_near.proofs.Cells.{reach-some}
 use Rattle.law_near.proofs.Germs.{locality, sign-along, short_enough}
 
 -- a form through p has at q the sign of its slope toward q
-pub sign-toward : (h : Form) (p q : Place) → sign_at h p ≡ nought → sign_at h q ≡ sign (slope h (toward p q))
+pub sign-toward : (h : Form) (p q : SpacePoint) → sign_at h p ≡ nought → sign_at h q ≡ sign (slope h (toward p q))
 sign-toward h p q e =
     let i = ring (pos p.w ∷ pos q.w ∷ form_at h q ∷ []) (at 0 ⊗ at 2 ⊖ at 1 ⊗ num (pos 0)) (at 0 ⊗ at 2) tt in
     let j = slope-toward h p q ∙ ap (λ z. pos p.w *ℤ form_at h q -ℤ pos q.w *ℤ z) (nought-is (form_at h p) e) ∙ i in
     sym (ap sign j ∙ sign_of_product (pos p.w) (form_at h q) ∙ ap (λ z. sign_times z (sign (form_at h q))) (sign-plus (pos p.w) (let k = p.proper in omega (arith, ints))))
 
 -- the label at a close point is the germ toward it
-pub germ-toward : (s : Set) (m : Label) (p q : Place) → Within (reach_all (carriers s) p) p q → HasLabel s q m → Germ s p (toward p q) m
+pub germ-toward : (s : Set) (m : Label) (p q : SpacePoint) → Within (reach_all (carriers s) p) p q → HasLabel s q m → Germ s p (toward p q) m
 germ-toward s m p q c h = (
   short_enough s p (toward p q),
   omega arith,
@@ -22,7 +22,7 @@ germ-toward s m p q c h = (
       (λ f l e. sign-toward f p q e ∙ sym (sign-along f p t (toward p q) e k.0)) h,
 )
 
-pub label-toward : (s : Set) (m : Label) (p q : Place) → Within (reach_all (carriers s) p) p q → Germ s p (toward p q) m → HasLabel s q m
+pub label-toward : (s : Set) (m : Label) (p q : SpacePoint) → Within (reach_all (carriers s) p) p q → Germ s p (toward p q) m → HasLabel s q m
 label-toward s m p q c (n, some, f) =
     let k = short_enough s p (toward p q) in
     let t : Ratio = record { a = pos 1; b = n + k + 1; proper = omega arith } in
@@ -34,11 +34,11 @@ toward-one : (x : ℤ) (v : ℕ) (u : ℤ) (w : ℕ) (t : Ratio) (d : ℤ) → (
 toward-one x v u w t d = ring (x ∷ pos v ∷ u ∷ pos w ∷ t.a ∷ pos t.b ∷ d ∷ [])
     ((at 0 ⊗ at 5 ⊕ at 4 ⊗ at 1 ⊗ at 6) ⊗ at 3 ⊖ at 2 ⊗ (at 1 ⊗ at 5)) (at 5 ⊗ (at 0 ⊗ at 3 ⊖ at 2 ⊗ at 1) ⊕ at 4 ⊗ at 1 ⊗ at 3 ⊗ at 6) tt
 
-toward-step : (p q : Place) (t : Ratio) (d : Vector) → toward p (step q t d) ≡ slide t.b (toward p q) (t.a *ℤ pos q.w *ℤ pos p.w) d
+toward-step : (p q : SpacePoint) (t : Ratio) (d : Vector) → toward p (step q t d) ≡ slide t.b (toward p q) (t.a *ℤ pos q.w *ℤ pos p.w) d
 toward-step p q t d = vector-same (toward p (step q t d)) (slide t.b (toward p q) (t.a *ℤ pos q.w *ℤ pos p.w) d)
     (toward-one q.x q.w p.x p.w t d.x) (toward-one q.y q.w p.y p.w t d.y) (toward-one q.z q.w p.z p.w t d.z)
 
-pub Flat-from_cone : (s : Set) (p : Place) (d : Vector) → FlatCone s p d → Flat s p d
+pub Flat-from_cone : (s : Set) (p : SpacePoint) (d : Vector) → FlatCone s p d → Flat s p d
 Flat-from_cone s p d f = (
   reach_all (carriers s) p,
   reach-some (carriers s) p,
@@ -51,7 +51,7 @@ Flat-from_cone s p d f = (
 )
 
 -- the flat directions are a space
-pub FlatCone-add : (s : Set) (p : Place) (d e : Vector) → FlatCone s p d → FlatCone s p e → FlatCone s p (slide 1 d (pos 1) e)
+pub FlatCone-add : (s : Set) (p : SpacePoint) (d e : Vector) → FlatCone s p d → FlatCone s p e → FlatCone s p (slide 1 d (pos 1) e)
 FlatCone-add s p d e f g v b a some m =
     let i = f v b a some m in
     let j = g (slide b v a d) 1 a (omega arith) m in
@@ -64,7 +64,7 @@ FlatCone-add s p d e f g v b a some m =
 abbrev pub scaled : ℤ → Vector → Vector
 scaled k d = record { x = k *ℤ d.x; y = k *ℤ d.y; z = k *ℤ d.z }
 
-pub FlatCone-scale : (s : Set) (p : Place) (k : ℤ) (d : Vector) → FlatCone s p d → FlatCone s p (scaled k d)
+pub FlatCone-scale : (s : Set) (p : SpacePoint) (k : ℤ) (d : Vector) → FlatCone s p d → FlatCone s p (scaled k d)
 FlatCone-scale s p k d f v b a some m =
     let r = vector-same (slide b v (a *ℤ k) d) (slide b v a (scaled k d)) (one v.x d.x) (one v.y d.y) (one v.z d.z) in
     let i = f v b (a *ℤ k) some m in
@@ -74,7 +74,7 @@ FlatCone-scale s p k d f v b a some m =
     one x y = ring (pos b ∷ a ∷ k ∷ x ∷ y ∷ []) (at 0 ⊗ at 3 ⊕ at 1 ⊗ at 2 ⊗ at 4) (at 0 ⊗ at 3 ⊕ at 1 ⊗ (at 2 ⊗ at 4)) tt
 
 -- ---- signs decide a germ
-pub Germ-by_signs : (s : Set) (p : Place) (d e : Vector) → ((h : Form) → Lies (carriers s) h → sign_at h p ≡ nought → sign (slope h d) ≡ sign (slope h e)) → (m : Label) → Germ s p d m → Germ s p e m
+pub Germ-by_signs : (s : Set) (p : SpacePoint) (d e : Vector) → ((h : Form) → Lies (carriers s) h → sign_at h p ≡ nought → sign (slope h d) ≡ sign (slope h e)) → (m : Label) → Germ s p d m → Germ s p e m
 Germ-by_signs s p d e same m (n, some, f) =
     let k = short_enough s p d in
     let t : Ratio = record { a = pos 1; b = n + k + 1; proper = omega arith } in
@@ -92,7 +92,7 @@ slope-slide h b e a d = ring (h.a ∷ h.b ∷ h.c ∷ pos b ∷ a ∷ e.x ∷ e.
     (at 3 ⊗ (at 0 ⊗ at 5 ⊕ at 1 ⊗ at 6 ⊕ at 2 ⊗ at 7) ⊕ at 4 ⊗ (at 0 ⊗ at 8 ⊕ at 1 ⊗ at 9 ⊕ at 2 ⊗ at 10)) tt
 
 -- a direction in all carriers through p is flat
-pub FlatCone-from_carriers : (s : Set) (p : Place) (d : Vector) → ((h : Form) → Lies (carriers s) h → sign_at h p ≡ nought → slope h d ≡ pos 0) → FlatCone s p d
+pub FlatCone-from_carriers : (s : Set) (p : SpacePoint) (d : Vector) → ((h : Form) → Lies (carriers s) h → sign_at h p ≡ nought → slope h d ≡ pos 0) → FlatCone s p d
 FlatCone-from_carriers s p d flat e b a some m =
     (Germ-by_signs s p e (slide b e a d) (λ h l o. sym (same h l o)) m, Germ-by_signs s p (slide b e a d) e same m)
   where
@@ -106,10 +106,10 @@ FlatCone-from_carriers s p d flat e b a some m =
 abbrev part_of : ℤ → ℕ → Ratio
 part_of a k = record { a = a; b = k + 1; proper = omega arith }
 
-abbrev first : Place → ℕ → ℕ → Vector → Place
+abbrev first : SpacePoint → ℕ → ℕ → Vector → SpacePoint
 first p b k e = step p (part_of (pos b) k) e
 
-abbrev second : Place → ℕ → ℕ → Vector → ℤ → Vector → Place
+abbrev second : SpacePoint → ℕ → ℕ → Vector → ℤ → Vector → SpacePoint
 second p b k e a d = step (first p b k e) (part_of (a) k) d
 
 second-gap : (x : ℤ) (w b n : ℕ) (e a d : ℤ) → ((x *ℤ pos n +ℤ pos b *ℤ pos w *ℤ e) *ℤ pos n +ℤ a *ℤ pos (w * n) *ℤ d) *ℤ pos w -ℤ x *ℤ pos (w * n * n) ≡ pos n *ℤ pos w *ℤ pos w *ℤ (pos b *ℤ e +ℤ a *ℤ d)
@@ -122,7 +122,7 @@ second-one n k w v p h =
     let e = mul-lt-mul_of_pos_left {k = k * w * w} h (mul-pos {m = k * w} {n = w} (mul-pos {m = k} {n = w} (omega arith) p) p) in
     omega arith
 
-second-within : (n : ℕ) (p : Place) (b k : ℕ) (e : Vector) (a : ℤ) (d : Vector) → n * (nat_abs (slide b e a d).x + nat_abs (slide b e a d).y + nat_abs (slide b e a d).z) < k + 1 → Within n p (second p b k e a d)
+second-within : (n : ℕ) (p : SpacePoint) (b k : ℕ) (e : Vector) (a : ℤ) (d : Vector) → n * (nat_abs (slide b e a d).x + nat_abs (slide b e a d).y + nat_abs (slide b e a d).z) < k + 1 → Within n p (second p b k e a d)
 second-within n p b k e a d h = record { along_x = one p.x e.x d.x (omega arith); along_y = one p.y e.y d.y (omega arith); along_z = one p.z e.z d.z (omega arith) }
   where
     one : (x y z : ℤ) → n * nat_abs (pos b *ℤ y +ℤ a *ℤ z) < k + 1 → n * nat_abs (((x *ℤ pos (k + 1) +ℤ pos b *ℤ pos p.w *ℤ y) *ℤ pos (k + 1) +ℤ a *ℤ pos (p.w * (k + 1)) *ℤ z) *ℤ pos p.w -ℤ x *ℤ pos (p.w * (k + 1) * (k + 1))) < p.w * (k + 1) * (k + 1) * p.w
@@ -134,7 +134,7 @@ second-within n p b k e a d h = record { along_x = one p.x e.x d.x (omega arith)
         omega arith
 
 -- at a form through p
-second-sign : (h : Form) (p : Place) (b k : ℕ) (e : Vector) (a : ℤ) (d : Vector) → sign_at h p ≡ nought → sign_at h (second p b k e a d) ≡ sign (slope h (slide b e a d))
+second-sign : (h : Form) (p : SpacePoint) (b k : ℕ) (e : Vector) (a : ℤ) (d : Vector) → sign_at h p ≡ nought → sign_at h (second p b k e a d) ≡ sign (slope h (slide b e a d))
 second-sign h p b k e a d o =
     let t : Ratio = part_of (pos b) k in
     let u : Ratio = part_of (a) k in
@@ -146,7 +146,7 @@ second-sign h p b k e a d o =
     let q : pos 0 <ℤ (pos (k + 1) *ℤ pos p.w) = mul_pos (pos (k + 1)) (pos p.w) (omega (arith, ints)) (let l = p.proper in omega (arith, ints)) in
     ap sign m ∙ sign_of_product (pos (k + 1) *ℤ pos p.w) (slope h (slide b e a d)) ∙ ap (λ z. sign_times z (sign (slope h (slide b e a d)))) (sign-plus (pos (k + 1) *ℤ pos p.w) q)
 
-pub FlatCone-from_flat : (s : Set) (p : Place) (d : Vector) → Flat s p d → FlatCone s p d
+pub FlatCone-from_flat : (s : Set) (p : SpacePoint) (d : Vector) → Flat s p d → FlatCone s p d
 FlatCone-from_flat s p d (n, some, f) e b a pb m = (onward, back)
   where
     onward : Germ s p e m → Germ s p (slide b e a d) m

@@ -1,9 +1,9 @@
 -- Vectors in general position: with the signs of a given vector, and with no form of a list nought.
-use Rattle.law_near.proofs.Prelude.{◌≡◌, ℕ, ◌+◌, ◌*◌, ◌<◌, ◌≤◌, ℤ, pos, ◌+ℤ◌, ◌-ℤ◌, ◌*ℤ◌, ◌<ℤ◌, nat_abs, arith, refl, ap, sym, ◌∙◌, ◌⊎◌, inl, inr, ⊎_elim, List, ◌∷◌, subst, [], ints, le-mul_of_pos_right, mul-le-mul_left, ring, at, num, ◌⊕◌, ◌⊖◌, ◌⊗◌, follows, given, none, sign, sign-plus, plus-is, square_nonneg, nought-or, square_pos, abs-pos, Vector, vector, dot, blend, IsDirection, Place, Form, form, form_at, Near, Within, of_place, of_direction, direction_form, IsZeroForm, Avoids, homogeneous}
+use Rattle.law_near.proofs.Prelude.{◌≡◌, ℕ, ◌+◌, ◌*◌, ◌<◌, ◌≤◌, ℤ, pos, ◌+ℤ◌, ◌-ℤ◌, ◌*ℤ◌, ◌<ℤ◌, nat_abs, arith, refl, ap, sym, ◌∙◌, ◌⊎◌, inl, inr, ⊎_elim, List, ◌∷◌, subst, [], ints, le-mul_of_pos_right, mul-le-mul_left, ring, at, num, ◌⊕◌, ◌⊖◌, ◌⊗◌, follows, given, none, sign, sign-plus, plus-is, square_nonneg, nought-or, square_pos, abs-pos, Vector, vector, dot, blend, IsDirection, SpacePoint, Form, form, form_at, NearNumber, Within, of_point, of_direction, direction_form, IsZeroForm, Avoids, homogeneous}
 use Rattle.nef_space.proofs.Order.{Lies}
 use Rattle.nef_space.proofs.Samples.{each, lies-each}
 use Rattle.law_near.proofs.Sums.{Homogeneous, form_on, mix}
-use Rattle.law_near.proofs.Far.{amount, Keeps, far-keeps, far-level, same-off}
+use Rattle.law_near.proofs.Far.{form_amount, KeepsFormSigns, far-keeps, far-level, same-off}
 
 -- the form's own numbers as a vector
 abbrev pub numbers_of : Form → Homogeneous
@@ -39,7 +39,7 @@ generic (h ∷ hs) = by (generic hs)
         (λ n. ⊎_elim
         (λ z.
         let u = numbers_of h in
-        let k = amount hs u in
+        let k = form_amount hs u in
         let s = form-self h n in (
           mix k e 1 u,
           λ g l i. ⊎_elim
@@ -51,7 +51,7 @@ generic (h ∷ hs) = by (generic hs)
         (zero-form h)
 
 -- and so it is at all k v + e with large k, where the forms keep the signs that they have at v
-pub generic-near : (hs : List Form) (e v : Homogeneous) (k : ℕ) → Avoids hs e → amount hs e ≤ k → Keeps hs v (mix k v 1 e) × Avoids hs (mix k v 1 e)
+pub generic-near : (hs : List Form) (e v : Homogeneous) (k : ℕ) → Avoids hs e → form_amount hs e ≤ k → KeepsFormSigns hs v (mix k v 1 e) × Avoids hs (mix k v 1 e)
 generic-near hs e v k f l = (
   far-keeps hs v e k l,
   λ h m n. ⊎_elim
@@ -81,7 +81,7 @@ module _ (ns : List Vector) where
   direction-avoids n l f z = (generic (direction_forms ns)).1 (direction_form n) (lies-each direction_form ns n l) (nonzero n f) (dot-form n chosen ∙ z)
 
   pub direction_bound : ℕ
-  direction_bound = amount (direction_forms ns) chosen
+  direction_bound = form_amount (direction_forms ns) chosen
 
   pub direction-near : (d : Vector) (k : ℕ) → direction_bound ≤ k → (n : Vector) → Lies ns n
       → ((dot n d ≡ pos 0 → ⊥) → sign (dot n (blend k d 1 (generic_direction ns))) ≡ sign (dot n d)) × (IsDirection n → dot n (blend k d 1 (generic_direction ns)) ≡ pos 0 → ⊥)
@@ -104,15 +104,15 @@ weight-form : (v : Homogeneous) → form_on weight_form v ≡ v.w
 weight-form v = ring (v.x ∷ v.y ∷ v.z ∷ v.w ∷ []) (num (pos 0) ⊗ at 0 ⊕ num (pos 0) ⊗ at 1 ⊕ num (pos 0) ⊗ at 2 ⊕ num (pos 1) ⊗ at 3) (at 3) tt
 
 -- the point of a vector with abs-pos weight
-abbrev pub place_of : (v : Homogeneous) → pos 0 <ℤ v.w → Place
-place_of v h = record { x = v.x; y = v.y; z = v.z; w = nat_abs v.w; proper = abs-pos v.w h }
+abbrev pub point_of_vector : (v : Homogeneous) → pos 0 <ℤ v.w → SpacePoint
+point_of_vector v h = record { x = v.x; y = v.y; z = v.z; w = nat_abs v.w; proper = abs-pos v.w h }
 
-pub place-of-form : (h : Form) (v : Homogeneous) (s : pos 0 <ℤ v.w) → form_at h (place_of v s) ≡ form_on h v
+pub place-of-form : (h : Form) (v : Homogeneous) (s : pos 0 <ℤ v.w) → form_at h (point_of_vector v s) ≡ form_on h v
 place-of-form h v s = ap (λ r. h.a *ℤ v.x +ℤ h.b *ℤ v.y +ℤ h.c *ℤ v.z +ℤ h.d *ℤ r) (let e : pos (nat_abs v.w) ≡ v.w = omega (arith, ints) in e)
 
 -- k p + e is near to p for large k: one coordinate
 close-one : (n k v : ℕ) (x y w u : ℤ) (s : pos 0 <ℤ u) → u ≡ pos k *ℤ pos v +ℤ pos 1 *ℤ w → 0 < v → n * nat_abs (y *ℤ pos v -ℤ x *ℤ w) + nat_abs w < k
-    → Near n (pos k *ℤ x +ℤ pos 1 *ℤ y) (nat_abs u) x v
+    → NearNumber n (pos k *ℤ x +ℤ pos 1 *ℤ y) (nat_abs u) x v
 close-one n k v x y w u s e p h =
     let a : pos (nat_abs u) ≡ u = omega (arith, ints) in
     let i = follows (pos k ∷ pos v ∷ x ∷ y ∷ w ∷ u ∷ pos (nat_abs u) ∷ []) ((at 0 ⊗ at 2 ⊕ num (pos 1) ⊗ at 3) ⊗ at 1 ⊖ at 2 ⊗ at 6) (at 3 ⊗ at 1 ⊖ at 2 ⊗ at 4)
@@ -127,26 +127,26 @@ close-one n k v x y w u s e p h =
     size m l w e = omega (arith, ints)
 
 -- a point in general position near p
-pub record GenericPlace (hs : List Form) (p : Place) (m : ℕ) : Type 0 where
-  pub place : Place
+pub record GenericSpacePoint (hs : List Form) (p : SpacePoint) (m : ℕ) : Type 0 where
+  pub place : SpacePoint
   pub near : Within m p place
   pub keeps : (h : Form) → Lies hs h → (form_at h p ≡ pos 0 → ⊥) → sign (form_at h place) ≡ sign (form_at h p)
   pub avoids : (h : Form) → Lies hs h → ¬ IsZeroForm h → form_at h place ≡ pos 0 → ⊥
 
-pub generic_place : (hs : List Form) (p : Place) (m : ℕ) → GenericPlace hs p m
-generic_place hs p m =
+pub generic_point : (hs : List Form) (p : SpacePoint) (m : ℕ) → GenericSpacePoint hs p m
+generic_point hs p m =
     let g = generic hs in
     let e = g.0 in
     let gap : ℤ → ℤ → ℕ = λ x y. nat_abs (y *ℤ pos p.w -ℤ x *ℤ e.w) in
-    let k = m * (gap p.x e.x + gap p.y e.y + gap p.z e.z) + nat_abs e.w + 1 + amount (weight_form ∷ hs) e in
-    let v = mix k (of_place p) 1 e in
-    let f = far-keeps (weight_form ∷ hs) (of_place p) e k (omega arith) weight_form (inl refl) (λ z. let w = p.proper in let i = weight-form (of_place p) in omega (arith, ints)) in
-    let s : pos 0 <ℤ v.w = plus-is v.w (ap sign (sym (weight-form v)) ∙ f ∙ ap sign (weight-form (of_place p)) ∙ sign-plus (pos p.w) (let w = p.proper in omega (arith, ints))) in
-    let n = generic-near hs e (of_place p) k g.1 (omega arith) in
-    let near : (x y : ℤ) → gap x y ≤ gap p.x e.x + gap p.y e.y + gap p.z e.z → Near m (pos k *ℤ x +ℤ pos 1 *ℤ y) (nat_abs v.w) x p.w = λ x y l.
+    let k = m * (gap p.x e.x + gap p.y e.y + gap p.z e.z) + nat_abs e.w + 1 + form_amount (weight_form ∷ hs) e in
+    let v = mix k (of_point p) 1 e in
+    let f = far-keeps (weight_form ∷ hs) (of_point p) e k (omega arith) weight_form (inl refl) (λ z. let w = p.proper in let i = weight-form (of_point p) in omega (arith, ints)) in
+    let s : pos 0 <ℤ v.w = plus-is v.w (ap sign (sym (weight-form v)) ∙ f ∙ ap sign (weight-form (of_point p)) ∙ sign-plus (pos p.w) (let w = p.proper in omega (arith, ints))) in
+    let n = generic-near hs e (of_point p) k g.1 (omega arith) in
+    let near : (x y : ℤ) → gap x y ≤ gap p.x e.x + gap p.y e.y + gap p.z e.z → NearNumber m (pos k *ℤ x +ℤ pos 1 *ℤ y) (nat_abs v.w) x p.w = λ x y l.
     close-one m k p.w x y e.w v.w s refl p.proper (let c = mul-le-mul_left {m = gap x y} {n = gap p.x e.x + gap p.y e.y + gap p.z e.z} m l in omega arith) in
     record {
-      place = place_of v s;
+      place = point_of_vector v s;
       near = record { along_x = near p.x e.x (omega arith); along_y = near p.y e.y (omega arith); along_z = near p.z e.z (omega arith) };
       keeps = λ h l z. ap sign (place-of-form h v s) ∙ n.0 h l z;
       avoids = λ h l z y. n.1 h l z (sym (place-of-form h v s) ∙ y);

@@ -10,7 +10,7 @@ pub mod Directions
 pub mod Mixed
 pub mod Generic
 pub mod Representatives
-pub mod Places
+pub mod Points
 pub mod Tests
 pub mod FormExamples
 pub mod Cells
@@ -36,4 +36,4 @@ pub mod Edges
 pub mod Vertices
 pub mod Determined
 pub mod Supports
-pub mod PlaceOrder
+pub mod PointOrder

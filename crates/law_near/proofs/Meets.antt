@@ -1,5 +1,5 @@
 -- A vertex is the common point of three carriers with independent normals.
-use Rattle.law_near.proofs.Prelude.{◌≡◌, pos, arith, refl, ◌∙◌, ◌⊎◌, inl, inr, ⊎_elim, List, ◌∷◌, subst, [], ints, nought, nought-or, Lies, IsMeet, sign_at, carriers, Place, Form, slope, normal_of, Vector, IsDirection, IsZero, cross, triple, Set, IsVertex, zero-decided, cross-none, cross-self, cross-turned, dot-zero, triple-cycle, triple-dot, triple-middle, zero-dot}
+use Rattle.law_near.proofs.Prelude.{◌≡◌, pos, arith, refl, ◌∙◌, ◌⊎◌, inl, inr, ⊎_elim, List, ◌∷◌, subst, [], ints, nought, nought-or, Lies, IsMeet, sign_at, carriers, SpacePoint, Form, slope, normal_of, Vector, IsDirection, IsZero, cross, triple, Set, IsVertex, zero-decided, cross-none, cross-self, cross-turned, dot-zero, triple-cycle, triple-dot, triple-middle, zero-dot}
 use Rattle.law_near.proofs.Cells.{is_nought}
 use Rattle.law_near.proofs.Flats.{Flat-from_cone, FlatCone-from_carriers}
 
@@ -14,7 +14,7 @@ pub slope-none : (h : Form) (d : Vector) → IsZero (normal_of h) → slope h d 
 slope-none h d z = zero-dot (normal_of h) d z
 
 -- how far the normals of the forms through p reach
-data Rank (hs ks : List Form) (p : Place) : Type 0 where
+data Rank (hs ks : List Form) (p : SpacePoint) : Type 0 where
   rank_0 : ((h : Form) → Lies ks h → sign_at h p ≡ nought → IsZero (normal_of h)) → Rank hs ks p
   rank_1 : (n : Form) → Lies hs n → sign_at n p ≡ nought → IsDirection (normal_of n) → ((h : Form) → Lies ks h → sign_at h p ≡ nought → IsZero (cross (normal_of n) (normal_of h))) → Rank hs ks p
   rank_2 : (n m : Form) → Lies hs n → sign_at n p ≡ nought → Lies hs m → sign_at m p ≡ nought → IsDirection (cross (normal_of n) (normal_of m)) → ((h : Form) → Lies ks h → sign_at h p ≡ nought → triple (normal_of n) (normal_of m) (normal_of h) ≡ pos 0) → Rank hs ks p
@@ -29,7 +29,7 @@ triple-parallel n m k z = triple-middle n m k ∙ zero-dot (cross k n) m (cross-
 extend : (k : Form) (ks : List Form) (R : Form → Type 0) → R k → ((h : Form) → Lies ks h → R h) → (h : Form) → Lies (k ∷ ks) h → R h
 extend k ks R r f h l = ⊎_elim (λ e. subst R e r) (f h) l
 
-module _ (hs : List Form) (p : Place) where
+module _ (hs : List Form) (p : SpacePoint) where
   rank_of : (ks : List Form) → ((h : Form) → Lies ks h → Lies hs h) → Rank hs ks p
   rank_of [] sub = rank_0 (λ h l. absurd l)
   rank_of (k ∷ ks) sub = ⊎_elim (λ o. through o (rank_of ks (λ h l. sub h (inr l)))) (λ n. off n (rank_of ks (λ h l. sub h (inr l)))) (is_nought (sign_at k p))
@@ -73,5 +73,5 @@ module _ (hs : List Form) (p : Place) where
       by (rank_3 m) = inl m
 
 -- a vertex is a meet of three carriers
-pub vertex-meets : (s : Set) (p : Place) → IsVertex s p → IsMeet (carriers s) p
+pub vertex-meets : (s : Set) (p : SpacePoint) → IsVertex s p → IsMeet (carriers s) p
 vertex-meets s p v = ⊎_elim (λ m. m) (λ w. absurd (v.1 (w.0, w.1, Flat-from_cone s p w.0 (FlatCone-from_carriers s p w.0 w.2)))) (meet_or_way (carriers s) p)

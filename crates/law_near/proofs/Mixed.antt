@@ -1,12 +1,12 @@
 -- Points that are the same, and points strictly between two others, as sums of homogeneous vectors.
-use Rattle.law_near.proofs.Prelude.{◌≡◌, ◌+◌, ◌*◌, ℤ, pos, ◌+ℤ◌, ◌-ℤ◌, ◌*ℤ◌, arith, ◌⊎◌, inl, inr, ⊎_elim, List, ◌∷◌, ◌↔◌, [], ints, mul-pos, ring, at, num, ◌⊕◌, ◌⊖◌, ◌⊗◌, follows, follows_times, given, none, IsZero, Place, SamePlace, toward, IsBetween, zero-decided, zero-dot}
-pub use Rattle.law_near.specs.Homogeneous.{of_place, of_direction, OnPlaces}
+use Rattle.law_near.proofs.Prelude.{◌≡◌, ◌+◌, ◌*◌, ℤ, pos, ◌+ℤ◌, ◌-ℤ◌, ◌*ℤ◌, arith, ◌⊎◌, inl, inr, ⊎_elim, List, ◌∷◌, ◌↔◌, [], ints, mul-pos, ring, at, num, ◌⊕◌, ◌⊖◌, ◌⊗◌, follows, follows_times, given, none, IsZero, SpacePoint, SamePoint, toward, IsBetween, zero-decided, zero-dot}
+pub use Rattle.law_near.specs.Homogeneous.{of_point, of_direction, OnPoints}
 use Rattle.law_near.proofs.Sums.{SameUpToFactor, IsMixed, OnSegment, some-pos, same-sym, same-refl, same-trans, mixed-same, mixed-itself, on-cases, on-same, on-start, on-end, on-mixed}
 use Rattle.law_near.proofs.Directions.{same-factor, factor-same}
 
 -- ---- the same point
-pub place-factor : (p q : Place) → SamePlace p q → SameUpToFactor (of_place p) (of_place q)
-place-factor p q s = record {
+pub point-factor : (p q : SpacePoint) → SamePoint p q → SameUpToFactor (of_point p) (of_point q)
+point-factor p q s = record {
   k = q.w;
   l = p.w;
   some_k = q.proper;
@@ -20,34 +20,34 @@ place-factor p q s = record {
     turned : (x y : ℤ) → x *ℤ pos q.w ≡ y *ℤ pos p.w → pos q.w *ℤ x ≡ pos p.w *ℤ y
     turned x y e = follows (x ∷ y ∷ pos p.w ∷ pos q.w ∷ []) (at 3 ⊗ at 0) (at 2 ⊗ at 1) (given (num (pos 1)) (at 0 ⊗ at 3) (at 1 ⊗ at 2) e none) tt
 
-pub factor-place : (p q : Place) → SameUpToFactor (of_place p) (of_place q) → SamePlace p q
-factor-place p q s = record { along_x = one p.x q.x s.is_x; along_y = one p.y q.y s.is_y; along_z = one p.z q.z s.is_z }
+pub factor-point : (p q : SpacePoint) → SameUpToFactor (of_point p) (of_point q) → SamePoint p q
+factor-point p q s = record { along_x = one p.x q.x s.is_x; along_y = one p.y q.y s.is_y; along_z = one p.z q.z s.is_z }
   where
     one : (x y : ℤ) → pos s.k *ℤ x ≡ pos s.l *ℤ y → x *ℤ pos q.w ≡ y *ℤ pos p.w
     one x y e = follows_times (x ∷ y ∷ pos p.w ∷ pos q.w ∷ pos s.k ∷ pos s.l ∷ []) (at 5) (at 0 ⊗ at 3) (at 1 ⊗ at 2)
         (given (at 2) (at 4 ⊗ at 0) (at 5 ⊗ at 1) e (given (num (pos 0) ⊖ at 0) (at 4 ⊗ at 2) (at 5 ⊗ at 3) s.is_w none)) (some-pos s.l s.some_l) tt
 
 -- THE SAME POINT IS THE SAME UP TO A POSITIVE FACTOR
-pub same-place : (p q : Place) → SamePlace p q ↔ SameUpToFactor (of_place p) (of_place q)
-same-place p q = (place-factor p q, factor-place p q)
+pub same-point : (p q : SpacePoint) → SamePoint p q ↔ SameUpToFactor (of_point p) (of_point q)
+same-point p q = (point-factor p q, factor-point p q)
 
-pub toward-place : (p q : Place) → IsZero (toward p q) → SamePlace p q
-toward-place p q z = record { along_x = one p.x q.x z.0; along_y = one p.y q.y z.1; along_z = one p.z q.z z.2 }
+pub toward-point : (p q : SpacePoint) → IsZero (toward p q) → SamePoint p q
+toward-point p q z = record { along_x = one p.x q.x z.0; along_y = one p.y q.y z.1; along_z = one p.z q.z z.2 }
   where
     one : (x y : ℤ) → y *ℤ pos p.w -ℤ x *ℤ pos q.w ≡ pos 0 → x *ℤ pos q.w ≡ y *ℤ pos p.w
     one x y e = omega (arith, ints)
 
-pub place-toward : (p q : Place) → SamePlace p q → IsZero (toward p q)
-place-toward p q s = (one p.x q.x s.along_x, one p.y q.y s.along_y, one p.z q.z s.along_z)
+pub point-toward : (p q : SpacePoint) → SamePoint p q → IsZero (toward p q)
+point-toward p q s = (one p.x q.x s.along_x, one p.y q.y s.along_y, one p.z q.z s.along_z)
   where
     one : (x y : ℤ) → x *ℤ pos q.w ≡ y *ℤ pos p.w → y *ℤ pos p.w -ℤ x *ℤ pos q.w ≡ pos 0
     one x y e = omega (arith, ints)
 
-pub place-decided : (p q : Place) → SamePlace p q ⊎ (SamePlace p q → ⊥)
-place-decided p q = ⊎_elim (λ z. inl (toward-place p q z)) (λ f. inr (λ s. f (place-toward p q s))) (zero-decided (toward p q))
+pub point-decided : (p q : SpacePoint) → SamePoint p q ⊎ (SamePoint p q → ⊥)
+point-decided p q = ⊎_elim (λ z. inl (toward-point p q z)) (λ f. inr (λ s. f (point-toward p q s))) (zero-decided (toward p q))
 
 -- ---- strictly between
-between-mixed : (p r q : Place) → SameUpToFactor (of_direction (toward p r)) (of_direction (toward r q)) → IsMixed (of_place p) (of_place r) (of_place q)
+between-mixed : (p r q : SpacePoint) → SameUpToFactor (of_direction (toward p r)) (of_direction (toward r q)) → IsMixed (of_point p) (of_point r) (of_point q)
 between-mixed p r q s = record {
   k = s.k * p.w + s.l * q.w;
   i = r.w * s.k;
@@ -68,7 +68,7 @@ between-mixed p r q s = record {
         ((at 3 ⊗ at 5 ⊕ at 4 ⊗ at 6) ⊗ at 2) (at 7 ⊗ at 3 ⊗ at 0 ⊕ at 7 ⊗ at 4 ⊗ at 1)
         (given (num (pos 1)) (at 3 ⊗ (at 2 ⊗ at 5 ⊖ at 0 ⊗ at 7)) (at 4 ⊗ (at 1 ⊗ at 7 ⊖ at 2 ⊗ at 6)) e none) tt
 
-module _ (p r q : Place) (m : IsMixed (of_place p) (of_place r) (of_place q)) where
+module _ (p r q : SpacePoint) (m : IsMixed (of_point p) (of_point r) (of_point q)) where
   -- k (r - p) = j (q - p) and k (q - r) = i (q - p)
   abbrev numbers : ℤ → ℤ → ℤ → List ℤ
   numbers x y u = x ∷ y ∷ u ∷ pos p.w ∷ pos q.w ∷ pos r.w ∷ pos m.k ∷ pos m.i ∷ pos m.j ∷ []
@@ -120,31 +120,31 @@ module _ (p r q : Place) (m : IsMixed (of_place p) (of_place r) (of_place q)) wh
           (given (num (pos 1)) (at 2 ⊗ at 0) (at 3 ⊗ at 1) (from-start x y u e) (given (at 3) (at 1) (num (pos 0)) z none)) (some-pos m.k m.some_k) tt
 
 -- STRICTLY BETWEEN TWO POINTS THAT AREN'T THE SAME ARE THE POINTS i p + j q
-pub between-is : (p r q : Place) → IsBetween p r q ↔ IsMixed (of_place p) (of_place r) (of_place q) × (SamePlace p q → ⊥)
+pub between-is : (p r q : SpacePoint) → IsBetween p r q ↔ IsMixed (of_point p) (of_point r) (of_point q) × (SamePoint p q → ⊥)
 between-is p r q = (
   λ b.
       let m = between-mixed p r q (same-factor (toward p r) (toward r q) b) in
-      (m, λ s. let e = zero-dot (toward p r) (toward r q) (end-zero p r q m (place-toward p q s)) in let f = b.forward in omega (arith, ints)),
-  λ t. factor-same (toward p r) (toward r q) (mixed-factor p r q t.0) (λ z. t.1 (toward-place p q (start-zero p r q t.0 z))),
+      (m, λ s. let e = zero-dot (toward p r) (toward r q) (end-zero p r q m (point-toward p q s)) in let f = b.forward in omega (arith, ints)),
+  λ t. factor-same (toward p r) (toward r q) (mixed-factor p r q t.0) (λ z. t.1 (toward-point p q (start-zero p r q t.0 z))),
 )
 
-pub between-same : (p r q p' r' q' : Place) → SamePlace p p' → SamePlace r r' → SamePlace q q' → IsBetween p r q → IsBetween p' r' q'
+pub between-same : (p r q p' r' q' : SpacePoint) → SamePoint p p' → SamePoint r r' → SamePoint q q' → IsBetween p r q → IsBetween p' r' q'
 between-same p r q p' r' q' a c b m =
     let t = (between-is p r q).0 m in
-    let f = place-factor p p' a in
-    let g = place-factor q q' b in
+    let f = point-factor p p' a in
+    let g = point-factor q q' b in
     (between-is p' r' q').1 (
-      mixed-same (of_place p) (of_place r) (of_place q) (of_place p') (of_place r') (of_place q') f (place-factor r r' c) g t.0,
-      λ s. t.1 (factor-place p q (same-trans (of_place p) (of_place p') (of_place q) f (same-trans (of_place p') (of_place q') (of_place q) (place-factor p' q' s) (same-sym (of_place q) (of_place q') g)))),
+      mixed-same (of_point p) (of_point r) (of_point q) (of_point p') (of_point r') (of_point q') f (point-factor r r' c) g t.0,
+      λ s. t.1 (factor-point p q (same-trans (of_point p) (of_point p') (of_point q) f (same-trans (of_point p') (of_point q') (of_point q) (point-factor p' q' s) (same-sym (of_point q) (of_point q') g)))),
     )
 
 -- ---- the closed segment between two points
-pub places-on : (p r q : Place) → OnPlaces p r q → OnSegment (of_place p) (of_place r) (of_place q)
-places-on p r q (inl s) = on-same (of_place p) (of_place p) (of_place q) (of_place r) (place-factor r p s) (on-start (of_place p) (of_place q))
-places-on p r q (inr (inl b)) = on-mixed (of_place p) (of_place r) (of_place q) ((between-is p r q).0 b).0
-places-on p r q (inr (inr s)) = on-same (of_place p) (of_place q) (of_place q) (of_place r) (place-factor r q s) (on-end (of_place p) (of_place q))
+pub points-on : (p r q : SpacePoint) → OnPoints p r q → OnSegment (of_point p) (of_point r) (of_point q)
+points-on p r q (inl s) = on-same (of_point p) (of_point p) (of_point q) (of_point r) (point-factor r p s) (on-start (of_point p) (of_point q))
+points-on p r q (inr (inl b)) = on-mixed (of_point p) (of_point r) (of_point q) ((between-is p r q).0 b).0
+points-on p r q (inr (inr s)) = on-same (of_point p) (of_point q) (of_point q) (of_point r) (point-factor r q s) (on-end (of_point p) (of_point q))
 
-pub on-places : (p r q : Place) → OnSegment (of_place p) (of_place r) (of_place q) → OnPlaces p r q
-on-places p r q m = ⊎_elim (λ s. inl (factor-place r p s)) (λ t. ⊎_elim (λ s. inr (inr (factor-place r q s))) (λ b. ⊎_elim
-    (λ s. inl (factor-place r p (mixed-itself (of_place p) (of_place r) (mixed-same (of_place p) (of_place r) (of_place q) (of_place p) (of_place r) (of_place p) (same-refl (of_place p)) (same-refl (of_place r)) (same-sym (of_place p) (of_place q) (place-factor p q s)) b))))
-    (λ f. inr (inl ((between-is p r q).1 (b, f)))) (place-decided p q)) t) (on-cases (of_place p) (of_place r) (of_place q) m)
+pub on-points : (p r q : SpacePoint) → OnSegment (of_point p) (of_point r) (of_point q) → OnPoints p r q
+on-points p r q m = ⊎_elim (λ s. inl (factor-point r p s)) (λ t. ⊎_elim (λ s. inr (inr (factor-point r q s))) (λ b. ⊎_elim
+    (λ s. inl (factor-point r p (mixed-itself (of_point p) (of_point r) (mixed-same (of_point p) (of_point r) (of_point q) (of_point p) (of_point r) (of_point p) (same-refl (of_point p)) (same-refl (of_point r)) (same-sym (of_point p) (of_point q) (point-factor p q s)) b))))
+    (λ f. inr (inl ((between-is p r q).1 (b, f)))) (point-decided p q)) t) (on-cases (of_point p) (of_point r) (of_point q) m)

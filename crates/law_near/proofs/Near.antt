@@ -1,14 +1,12 @@
 -- Close to a point the sign of a form that isn't nought there stays; short steps stay close; rays and differences of points.
-use Rattle.law_near.proofs.Prelude.{◌≡◌, ℕ, ◌+◌, ◌*◌, ◌<◌, ◌≤◌, ℤ, pos, negsuc, ◌+ℤ◌, ◌-ℤ◌, ◌*ℤ◌, ◌<ℤ◌, nat_abs, arith, refl, ap, sym, ◌∙◌, inl, inr, ⊎_elim, List, ◌∷◌, subst, [], ints, unsigned_abs-mul, mul-le, cases_lt, mul-le-mul_left, mul-pos, mul-lt-mul_of_pos_right, lt_of_mul-lt-mul_right, ring, at, num, ◌⊕◌, ◌⊖◌, ◌⊗◌, follows, given, none, Sign, minus, nought, plus, sign, sign-plus, sign-minus, sign-scaled, plus-is, minus-is, nought-is, abs_plus, abs_times, mul_nonneg, mul_pos, mul_le_right, cancel_lt, Vector, Place, Form, form_at, slope, Ratio, step, Near, Within, SamePlace, toward, IsShort}
+use Rattle.law_near.proofs.Prelude.{◌≡◌, ℕ, ◌+◌, ◌*◌, ◌<◌, ◌≤◌, ℤ, pos, negsuc, ◌+ℤ◌, ◌-ℤ◌, ◌*ℤ◌, ◌<ℤ◌, nat_abs, arith, refl, ap, sym, ◌∙◌, inl, inr, ⊎_elim, List, ◌∷◌, subst, [], ints, unsigned_abs-mul, mul-le, cases_lt, mul-le-mul_left, mul-pos, mul-lt-mul_of_pos_right, lt_of_mul-lt-mul_right, ring, at, num, ◌⊕◌, ◌⊖◌, ◌⊗◌, follows, given, none, Sign, minus, nought, plus, sign, sign-plus, sign-minus, sign-scaled, plus-is, minus-is, nought-is, abs_plus, abs_times, mul_nonneg, mul_pos, mul_le_right, cancel_lt, Vector, SpacePoint, Form, form_at, slope, Ratio, step, NearNumber, Within, SamePoint, toward, IsShort}
 use Rattle.nef_space.proofs.Order.{Lies}
 pub use Rattle.law_near.specs.Near.{reach, reach_all, span, unit_ratio}
+use Rattle.law_near.specs.Cells.{sign_at}
 use Rattle.law_near.proofs.Far.{sign-large}
 
-abbrev pub sign_at : Form → Place → Sign
-sign_at h p = sign (form_at h p)
-
 -- ---- identities
-pub form-step : (h : Form) (p : Place) (t : Ratio) (d : Vector) → form_at h (step p t d) ≡ pos t.b *ℤ form_at h p +ℤ t.a *ℤ pos p.w *ℤ slope h d
+pub form-step : (h : Form) (p : SpacePoint) (t : Ratio) (d : Vector) → form_at h (step p t d) ≡ pos t.b *ℤ form_at h p +ℤ t.a *ℤ pos p.w *ℤ slope h d
 form-step h p t d =
     let a = at 0 in let b = at 1 in let c = at 2 in let e = at 3 in
     let x = at 4 in let y = at 5 in let z = at 6 in let w = at 7 in
@@ -21,7 +19,7 @@ form-step h p t d =
 abbrev pub gap : ℤ → ℕ → ℤ → ℕ → ℤ
 gap s v t w = s *ℤ pos w -ℤ t *ℤ pos v
 
-pub slope-toward : (h : Form) (p q : Place) → slope h (toward p q) ≡ pos p.w *ℤ form_at h q -ℤ pos q.w *ℤ form_at h p
+pub slope-toward : (h : Form) (p q : SpacePoint) → slope h (toward p q) ≡ pos p.w *ℤ form_at h q -ℤ pos q.w *ℤ form_at h p
 slope-toward h p q =
     let a = at 0 in let b = at 1 in let c = at 2 in let d = at 3 in
     let x = at 4 in let y = at 5 in let z = at 6 in let w = at 7 in
@@ -31,7 +29,7 @@ slope-toward h p q =
     (w ⊗ (a ⊗ x' ⊕ b ⊗ y' ⊕ c ⊗ z' ⊕ d ⊗ w') ⊖ w' ⊗ (a ⊗ x ⊕ b ⊗ y ⊕ c ⊗ z ⊕ d ⊗ w)) tt
 
 -- ---- close points
-pub weaken : (m n : ℕ) (p q : Place) → m ≤ n → Within n p q → Within m p q
+pub weaken : (m n : ℕ) (p q : SpacePoint) → m ≤ n → Within n p q → Within m p q
 weaken m n p q l c = record { along_x = less (nat_abs (gap q.x q.w p.x p.w)) c.along_x; along_y = less (nat_abs (gap q.y q.w p.y p.w)) c.along_y; along_z = less (nat_abs (gap q.z q.w p.z p.w)) c.along_z }
   where
     less : (k : ℕ) → n * k < q.w * p.w → m * k < q.w * p.w
@@ -47,7 +45,7 @@ small-sum a b c x y z v w p f g h = ⊎_elim (λ l. l) (λ l.
     let o = mul-le-mul_left n l in
     absurd (omega arith)) (cases_lt (a * x + b * y + c * z) v)
 
-small-slope : (h : Form) (p q : Place) → Within (reach h p) p q → nat_abs (slope h (toward p q)) < q.w
+small-slope : (h : Form) (p q : SpacePoint) → Within (reach h p) p q → nat_abs (slope h (toward p q)) < q.w
 small-slope h p q c =
     let dx = gap q.x q.w p.x p.w in
     let dy = gap q.y q.w p.y p.w in
@@ -75,7 +73,7 @@ keeps-minus f g s v w p e l h =
     cancel_lt g (pos 0) (pos w) (omega (arith, ints)) m
 
 -- a form that isn't nought at p keeps its sign near p
-pub keeps : (h : Form) (p q : Place) → Within (reach h p) p q → (sign_at h p ≡ nought → ⊥) → sign_at h q ≡ sign_at h p
+pub keeps : (h : Form) (p q : SpacePoint) → Within (reach h p) p q → (sign_at h p ≡ nought → ⊥) → sign_at h q ≡ sign_at h p
 keeps h p q c n = by (sign_at h p) refl
   where
     by : (s : Sign) → sign_at h p ≡ s → sign_at h q ≡ sign_at h p
@@ -110,7 +108,7 @@ step-gap : (x : ℤ) (t : Ratio) (w : ℕ) (d : ℤ) → gap (x *ℤ pos t.b +�
 step-gap x t w d = let x' = at 0 in let b = at 1 in let a = at 2 in let v = at 3 in let e = at 4 in
     ring (x ∷ pos t.b ∷ t.a ∷ pos w ∷ d ∷ []) ((x' ⊗ b ⊕ a ⊗ v ⊗ e) ⊗ v ⊖ x' ⊗ (v ⊗ b)) (a ⊗ v ⊗ v ⊗ e) tt
 
-pub step-within : (n : ℕ) (p : Place) (d : Vector) (t : Ratio) → IsShort (stride n d) t → Within n p (step p t d)
+pub step-within : (n : ℕ) (p : SpacePoint) (d : Vector) (t : Ratio) → IsShort (stride n d) t → Within n p (step p t d)
 step-within n p d t h = record { along_x = one p.x d.x (omega arith); along_y = one p.y d.y (omega arith); along_z = one p.z d.z (omega arith) }
   where
     one : (x e : ℤ) → nat_abs e ≤ length_of d → n * nat_abs (gap (x *ℤ pos t.b +ℤ t.a *ℤ pos p.w *ℤ e) (p.w * t.b) x p.w) < p.w * t.b * p.w
@@ -124,20 +122,20 @@ step-within n p d t h = record { along_x = one p.x d.x (omega arith); along_y = 
         omega arith
 
 -- ---- lists of forms
-pub keeps-all : (hs : List Form) (p q : Place) → Within (reach_all hs p) p q → (h : Form) → Lies hs h → (form_at h p ≡ pos 0 → ⊥) → sign_at h q ≡ sign_at h p
+pub keeps-all : (hs : List Form) (p q : SpacePoint) → Within (reach_all hs p) p q → (h : Form) → Lies hs h → (form_at h p ≡ pos 0 → ⊥) → sign_at h q ≡ sign_at h p
 keeps-all [] p q c h l n = absurd l
 keeps-all (k ∷ ks) p q c h (inl e) n = subst (λ (g : Form). sign_at g q ≡ sign_at g p) e
     (keeps k p q (weaken (reach k p) (reach k p + reach_all ks p) p q (omega arith) c) (λ z. n (subst (λ (g : Form). form_at g p ≡ pos 0) e (nought-is (form_at k p) z))))
 keeps-all (k ∷ ks) p q c h (inr l) n = keeps-all ks p q (weaken (reach_all ks p) (reach k p + reach_all ks p) p q (omega arith) c) h l n
 
 -- ---- along a ray
-pub ray-level : (h : Form) (p : Place) (t : Ratio) (d : Vector) → pos 0 <ℤ t.a → form_at h p ≡ pos 0 → sign_at h (step p t d) ≡ sign (slope h d)
+pub ray-level : (h : Form) (p : SpacePoint) (t : Ratio) (d : Vector) → pos 0 <ℤ t.a → form_at h p ≡ pos 0 → sign_at h (step p t d) ≡ sign (slope h d)
 ray-level h p t d s z =
     let e = form-step h p t d ∙ ap (λ r. pos t.b *ℤ r +ℤ t.a *ℤ pos p.w *ℤ slope h d) z ∙ ring (pos t.b ∷ t.a ∷ pos p.w ∷ slope h d ∷ []) (at 0 ⊗ num (pos 0) ⊕ at 1 ⊗ at 2 ⊗ at 3) (at 1 ⊗ at 2 ⊗ at 3) tt in
     let w = p.proper in
     ap sign e ∙ sign-scaled (t.a *ℤ pos p.w) (slope h d) (mul_pos t.a (pos p.w) s (omega (arith, ints)))
 
-pub ray-keeps : (h : Form) (p : Place) (t : Ratio) (d : Vector) → IsShort (span h p d) t → (form_at h p ≡ pos 0 → ⊥) → sign_at h (step p t d) ≡ sign_at h p
+pub ray-keeps : (h : Form) (p : SpacePoint) (t : Ratio) (d : Vector) → IsShort (span h p d) t → (form_at h p ≡ pos 0 → ⊥) → sign_at h (step p t d) ≡ sign_at h p
 ray-keeps h p t d s f =
     let m = short-ratio (span h p d) t s in
     let c = t.a *ℤ pos p.w *ℤ slope h d in
@@ -147,14 +145,14 @@ ray-keeps h p t d s f =
     ap sign e ∙ sign-large t.b (form_at h p) c l f
 
 -- ---- the difference of two points
-pub difference : (p q : Place) → SamePlace q (step p (unit_ratio p q) (toward p q))
+pub difference : (p q : SpacePoint) → SamePoint q (step p (unit_ratio p q) (toward p q))
 difference p q = record { along_x = one p.x q.x; along_y = one p.y q.y; along_z = one p.z q.z }
   where
     one : (x y : ℤ) → y *ℤ pos (p.w * (p.w * q.w)) ≡ (x *ℤ pos (p.w * q.w) +ℤ pos 1 *ℤ pos p.w *ℤ (y *ℤ pos p.w -ℤ x *ℤ pos q.w)) *ℤ pos q.w
     one x y = ring (x ∷ y ∷ pos p.w ∷ pos q.w ∷ []) (at 1 ⊗ (at 2 ⊗ (at 2 ⊗ at 3))) ((at 0 ⊗ (at 2 ⊗ at 3) ⊕ num (pos 1) ⊗ at 2 ⊗ (at 1 ⊗ at 2 ⊖ at 0 ⊗ at 3)) ⊗ at 3) tt
 
 -- ---- within doesn't see a factor
-within-one : (n : ℕ) (x x' y y' : ℤ) (v v' w w' : ℕ) → 0 < v → 0 < w → 0 < v' → 0 < w' → x *ℤ pos v' ≡ x' *ℤ pos v → y *ℤ pos w' ≡ y' *ℤ pos w → Near n x v y w → Near n x' v' y' w'
+within-one : (n : ℕ) (x x' y y' : ℤ) (v v' w w' : ℕ) → 0 < v → 0 < w → 0 < v' → 0 < w' → x *ℤ pos v' ≡ x' *ℤ pos v → y *ℤ pos w' ≡ y' *ℤ pos w → NearNumber n x v y w → NearNumber n x' v' y' w'
 within-one n x x' y y' v v' w w' a b a' b' e f h =
     let i = follows (x ∷ x' ∷ y ∷ y' ∷ pos v ∷ pos v' ∷ pos w ∷ pos w' ∷ [])
     (at 4 ⊗ at 6 ⊗ (at 1 ⊗ at 7 ⊖ at 3 ⊗ at 5)) (at 5 ⊗ at 7 ⊗ (at 0 ⊗ at 6 ⊖ at 2 ⊗ at 4))
@@ -165,7 +163,7 @@ within-one n x x' y y' v v' w w' a b a' b' e f h =
     let l = mul-lt-mul_of_pos_right {k = v' * w'} h (mul-pos a' b') in
     lt_of_mul-lt-mul_right (v * w) {m = n * nat_abs (x' *ℤ pos w' -ℤ y' *ℤ pos v')} {n = v' * w'} (omega arith)
 
-pub within-same : (n : ℕ) (p p' q q' : Place) → SamePlace p p' → SamePlace q q' → Within n p q → Within n p' q'
+pub within-same : (n : ℕ) (p p' q q' : SpacePoint) → SamePoint p p' → SamePoint q q' → Within n p q → Within n p' q'
 within-same n p p' q q' s t c = record {
   along_x = within-one n q.x q'.x p.x p'.x q.w q'.w p.w p'.w q.proper p.proper q'.proper p'.proper t.along_x s.along_x c.along_x;
   along_y = within-one n q.y q'.y p.y p'.y q.w q'.w p.w p'.w q.proper p.proper q'.proper p'.proper t.along_y s.along_y c.along_y;

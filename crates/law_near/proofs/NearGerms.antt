@@ -1,5 +1,5 @@
 -- The germ at a point of a ray is the germ near the ray's direction.
-use Rattle.law_near.proofs.Prelude.{◌≡◌, ℕ, ◌+◌, ◌<◌, ◌≤◌, ℤ, pos, ◌+ℤ◌, ◌*ℤ◌, nat_abs, arith, ap, sym, ◌∙◌, ⊎_elim, List, ◌∷◌, subst, [], ints, ring, at, num, ◌⊕◌, ◌⊗◌, nought, sign, nought-is, Lies, form_on, of_direction, amount, NearGerm, sign_at, carriers, SameSigns, Place, Form, slope, Ratio, step, Within, Vector, blend, Set, IsShort, Germ, Label}
+use Rattle.law_near.proofs.Prelude.{◌≡◌, ℕ, ◌+◌, ◌<◌, ◌≤◌, ℤ, pos, ◌+ℤ◌, ◌*ℤ◌, nat_abs, arith, ap, sym, ◌∙◌, ⊎_elim, List, ◌∷◌, subst, [], ints, ring, at, num, ◌⊕◌, ◌⊗◌, nought, sign, nought-is, Lies, form_on, of_direction, form_amount, NearGerm, sign_at, carriers, SameSigns, SpacePoint, Form, slope, Ratio, step, Within, Vector, blend, Set, IsShort, Germ, Label}
 use Rattle.law_near.proofs.Far.{amount-above, sign-large as sign-far}
 use Rattle.law_near.proofs.Near.{step-within, reach_all}
 use Rattle.law_near.proofs.Cells.{same-sym, keeps-all, is_nought}
@@ -11,7 +11,7 @@ slope-on h e = ring (h.a ∷ h.b ∷ h.c ∷ h.d ∷ e.x ∷ e.y ∷ e.z ∷ [])
 
 -- all slopes along e are smaller than this
 abbrev pub steep : List Form → Vector → ℕ
-steep hs e = amount hs (of_direction e)
+steep hs e = form_amount hs (of_direction e)
 
 pub steep-one : (hs : List Form) (h : Form) (e : Vector) → Lies hs h → nat_abs (slope h e) < steep hs e
 steep-one hs h e l = subst (λ (z : ℤ). nat_abs z < steep hs e) (slope-on h e) (amount-above hs (of_direction e) h l)
@@ -20,8 +20,8 @@ steep-one hs h e l = subst (λ (z : ℤ). nat_abs z < steep hs e) (slope-on h e)
 pub sign-large : (x y : ℤ) (k : ℕ) → nat_abs y < k → (sign x ≡ nought → ⊥) → sign (pos k *ℤ x +ℤ pos 1 *ℤ y) ≡ sign x
 sign-large x y k h n = sign-far k x y h (λ z. n (ap sign z))
 
-module _ (s : Set) (p : Place) (d e : Vector) (t : Ratio) (short : IsShort (short_enough s p d) t) where
-  abbrev there : Place
+module _ (s : Set) (p : SpacePoint) (d e : Vector) (t : Ratio) (short : IsShort (short_enough s p d) t) where
+  abbrev there : SpacePoint
   there = step p t d
 
   abbrev forms : List Form

@@ -10,7 +10,7 @@ pub use Rattle.nef_space.proofs.Ring.{Poly, at, entry, neg, num, ring, ◌⊕◌
 pub use Rattle.nef_space.proofs.Vectors.{cross-none, cross-self, cross-turned, cross_of, direction-left, direction-right, dot-comm, dot-zero, dot_of, in-span, level-both, level_cross_second, nought-if, numbers, parallel-both, scaled-coordinates, self-pos, square-cross, triple-cycle, triple-dot, triple-in_plane, triple-middle, triple_poly, vec, vector-same, zero-decided, zero-dot}
 pub use Rattle.nef_space.specs.Limits.{half_side}
 pub use Rattle.nef_space.specs.Local.{Flat, FlatDim, Germ, HasFlat, HasLabel, IsEven, IsEvenPath, IsShort, IsVertex, Joined, SameSet}
-pub use Rattle.nef_space.specs.Place.{Form, InClosedFrame, InFrame, IsBetween, IsPlaceBelow, Near, Place, Ratio, SamePlace, Within, form, form_at, normal_of, slope, step, toward}
+pub use Rattle.nef_space.specs.Points.{Form, InClosedFrame, InFrame, IsBetween, IsPointBelow, NearNumber, Ratio, SamePoint, SpacePoint, Within, form, form_at, normal_of, slope, step, toward}
 pub use Rattle.nef_space.specs.Sets.{Closure, Holds, InHalf, Interior, Set, halves}
 pub use Rattle.nef_space.specs.Signs.{Lies, sign_times}
 pub use Rattle.nef_space.specs.Vectors.{IsDirection, IsParallel, IsZero, SameDirection, Vector, blend, cross, dot, opposite, triple, vector, zero_vector}
@@ -18,5 +18,5 @@ pub use Rattle.nef_space.specs.declared.label.Label.{Label}
 pub use Rattle.nef_space.specs.declared.label.Label.TheVariants.{In, Not, Out}
 pub use Rattle.law_near.specs.Cells.{IsInAllAt, SameSigns, SameSlopes, SameSlopesAt, carriers, frame, side, sign_at}
 pub use Rattle.law_near.specs.Cones.{FlatCone, IsMeet, IsOnSegment, NearGerm, SameCone, SameNear, combination, label_and, label_less, label_not, label_one_of, label_or, slide}
-pub use Rattle.law_near.specs.Homogeneous.{Avoids, IsMixed, IsPassed, IsZeroForm, OnPlaces, OnWay, SameUpToFactor, amount, direction_form, form_on, homogeneous, of_direction, of_place}
+pub use Rattle.law_near.specs.Homogeneous.{Avoids, IsMixed, IsPassed, IsZeroForm, OnPoints, OnWay, SameUpToFactor, direction_form, form_amount, form_on, homogeneous, of_direction, of_point}
 pub use Rattle.law_near.specs.Laws.{Drop, EdgeAround, EdgeSupport, FacetSupport, FirstChange, FirstPoint, IsFlatBelow, IsHeldBy, IsSettled, LabelsCombine, SameGerms, WayEnd}

@@ -1,8 +1,8 @@
 -- What is settled at each vector of a segment is the same at both ends: between two forms nothing happens, and there are finitely many.
 use Rattle.law_near.proofs.Prelude.{◌≡◌, ℕ, zero, suc, ◌+◌, ◌<◌, ◌≤◌, arith, ◌⊎◌, inl, inr, ◌↔◌, List, true, Form}
 use Rattle.nef_space.proofs.Order.{Lies}
-use Rattle.law_near.proofs.Sums.{Homogeneous, mix, OnSegment, SameSigns, mixed-mix, mixed-turned, on-start, on-end, on-mixed, on-convex}
-use Rattle.law_near.proofs.Crossings.{crosses, crossings, IsClear, clear-same, find-crossing, split}
+use Rattle.law_near.proofs.Sums.{Homogeneous, mix, OnSegment, SameFormSigns, mixed-mix, mixed-turned, on-start, on-end, on-mixed, on-convex}
+use Rattle.law_near.proofs.Crossings.{crosses, crossings, CrossesNone, clear-same, find-crossing, split}
 
 -- the truth of P is the same at x and from some k on at k x + y
 abbrev pub SettledToward : (Homogeneous → Type 0) → Homogeneous → Homogeneous → Type 0
@@ -11,7 +11,7 @@ SettledToward P x y = (n : ℕ) × ((k : ℕ) → n ≤ k → P x ↔ P (mix k x
 module _ (hs : List Form) (P : Homogeneous → Type 0) where
   -- vectors of the segment with the same signs agree on P
   abbrev pub Cells : Homogeneous → Homogeneous → Type 0
-  Cells p q = (r s : Homogeneous) → OnSegment p r q → OnSegment p s q → SameSigns hs r s → P r → P s
+  Cells p q = (r s : Homogeneous) → OnSegment p r q → OnSegment p s q → SameFormSigns hs r s → P r → P s
 
   abbrev pub Settled : Homogeneous → Homogeneous → Type 0
   Settled p q = (x y : Homogeneous) → OnSegment p x q → OnSegment p y q → SettledToward P x y
@@ -23,7 +23,7 @@ module _ (hs : List Form) (P : Homogeneous → Type 0) where
   settled-part p q r t a b c x y f g = c x y (on-convex p q r t x a b f) (on-convex p q r t y a b g)
 
   -- no form crosses
-  clear-segment : (p q : Homogeneous) → Cells p q → Settled p q → IsClear hs p q → P p → P q
+  clear-segment : (p q : Homogeneous) → Cells p q → Settled p q → CrossesNone hs p q → P p → P q
   clear-segment p q c s clear x =
       let u = s p q (on-start p q) (on-end p q) in
       let v = s q p (on-end p q) (on-start p q) in
@@ -39,7 +39,7 @@ module _ (hs : List Form) (P : Homogeneous → Type 0) where
   settled-within zero p q l c s x = absurd (omega arith)
   settled-within (suc n) p q l c s x = by (λ r t. settled-within n r t) (find-crossing p q hs)
     where
-      by : ((r t : Homogeneous) → crossings hs r t < n → Cells r t → Settled r t → P r → P t) → IsClear hs p q ⊎ ((h : Form) × Lies hs h × (crosses h p q ≡ true)) → P q
+      by : ((r t : Homogeneous) → crossings hs r t < n → Cells r t → Settled r t → P r → P t) → CrossesNone hs p q ⊎ ((h : Form) × Lies hs h × (crosses h p q ≡ true)) → P q
       by again (inl clear) = clear-segment p q c s clear x
       by again (inr (h, m, e)) =
           let u = split hs p q h m e in

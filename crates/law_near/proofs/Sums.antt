@@ -1,6 +1,6 @@
 -- Sums of homogeneous vectors, and vectors that are equal up to a positive factor.
 use Rattle.law_near.proofs.Prelude.{◌≡◌, ℕ, zero, suc, ◌+◌, ◌-◌, ◌*◌, ◌<◌, ℤ, pos, ◌+ℤ◌, ◌*ℤ◌, ◌<ℤ◌, arith, refl, ap, sym, ◌∙◌, ◌⊎◌, inl, inr, List, ◌∷◌, [], ints, cases_order, mul-pos, ring, at, num, ◌⊕◌, ◌⊖◌, ◌⊗◌, follows, given, none, sign, sign-scaled, Form}
-pub use Rattle.law_near.specs.Homogeneous.{Homogeneous, homogeneous, form_on, mix, IsSum, SameUpToFactor, IsMixed, OnSegment, SameSigns}
+pub use Rattle.law_near.specs.Homogeneous.{Homogeneous, homogeneous, form_on, mix, IsSum, SameUpToFactor, IsMixed, OnSegment, SameFormSigns}
 
 pub some-pos : (k : ℕ) → 0 < k → pos 0 <ℤ pos k
 some-pos k h = omega (arith, ints)
@@ -79,13 +79,13 @@ form-same h p q s =
 pub sign-same : (h : Form) (p q : Homogeneous) → SameUpToFactor p q → sign (form_on h p) ≡ sign (form_on h q)
 sign-same h p q s = sym (sign-scaled (pos s.k) (form_on h p) (some-pos s.k s.some_k)) ∙ ap sign (form-same h p q s) ∙ sign-scaled (pos s.l) (form_on h q) (some-pos s.l s.some_l)
 
-pub signs-same : (hs : List Form) (p q : Homogeneous) → SameUpToFactor p q → SameSigns hs p q
+pub signs-same : (hs : List Form) (p q : Homogeneous) → SameUpToFactor p q → SameFormSigns hs p q
 signs-same hs p q s h l = sign-same h p q s
 
-pub signs-sym : (hs : List Form) (p q : Homogeneous) → SameSigns hs p q → SameSigns hs q p
+pub signs-sym : (hs : List Form) (p q : Homogeneous) → SameFormSigns hs p q → SameFormSigns hs q p
 signs-sym hs p q s h l = sym (s h l)
 
-pub signs-trans : (hs : List Form) (p q r : Homogeneous) → SameSigns hs p q → SameSigns hs q r → SameSigns hs p r
+pub signs-trans : (hs : List Form) (p q r : Homogeneous) → SameFormSigns hs p q → SameFormSigns hs q r → SameFormSigns hs p r
 signs-trans hs p q r s t h l = s h l ∙ t h l
 
 -- ---- mixed vectors don't see it either
@@ -222,7 +222,7 @@ nearer-one x y u v k i j l m n e f =
     (given (num (pos 0) ⊖ at 6) (at 7 ⊗ at 3) (at 8 ⊗ at 2 ⊕ at 9 ⊗ at 1) f none)) tt
 
 -- r is on the segment from p to q, and isn't p
-pub record IsPast (p r q : Homogeneous) : Type 0 where
+pub record IsPastStart (p r q : Homogeneous) : Type 0 where
   pub k : ℕ
   pub i : ℕ
   pub j : ℕ
@@ -230,17 +230,17 @@ pub record IsPast (p r q : Homogeneous) : Type 0 where
   pub some_j : 0 < j
   pub sum : IsSum k r i p j q
 
-pub past-mixed : (p r q : Homogeneous) → IsMixed p r q → IsPast p r q
+pub past-mixed : (p r q : Homogeneous) → IsMixed p r q → IsPastStart p r q
 past-mixed p r q m = record { k = m.k; i = m.i; j = m.j; some_k = m.some_k; some_j = m.some_j; sum = m.sum }
 
-pub past-on : (p r q : Homogeneous) → IsPast p r q → OnSegment p r q
+pub past-on : (p r q : Homogeneous) → IsPastStart p r q → OnSegment p r q
 past-on p r q m = record { k = m.k; i = m.i; j = m.j; some_k = m.some_k; some = let s = m.some_j in omega arith; sum = m.sum }
 
 some-past : (k j m n : ℕ) → 0 < k → 0 < j → 0 < m + n → 0 < n * k + j * m
 some-past k j zero n a b c = let e = mul-pos {m = n} {n = k} (omega arith) a in omega arith
 some-past k j (suc m) n a b c = let e = mul-pos {m = j} {n = suc m} b (omega arith) in omega arith
 
-pub past-nearer : (p r q x : Homogeneous) → IsMixed p r q → OnSegment r x q → IsPast p r x
+pub past-nearer : (p r q x : Homogeneous) → IsMixed p r q → OnSegment r x q → IsPastStart p r x
 past-nearer p r q x a b = record {
   k = b.j * a.k + a.j * b.i;
   i = b.j * a.i;
@@ -256,10 +256,10 @@ past-nearer p r q x a b = record {
 }
 
 -- what is on the segment and isn't its start is past the start
-pub on-past : (p r q : Homogeneous) → OnSegment p r q → (SameUpToFactor r p → ⊥) → IsPast p r q
+pub on-past : (p r q : Homogeneous) → OnSegment p r q → (SameUpToFactor r p → ⊥) → IsPastStart p r q
 on-past p r q m f = by m.k m.i m.j m.some_k m.some m.sum
   where
-    by : (k i j : ℕ) → 0 < k → 0 < i + j → IsSum k r i p j q → IsPast p r q
+    by : (k i j : ℕ) → 0 < k → 0 < i + j → IsSum k r i p j q → IsPastStart p r q
     by k zero zero a b s = absurd (omega arith)
     by k (suc i) zero a b s = absurd (f (same-sum k r (suc i) p q a (omega arith) s))
     by k i (suc j) a b s = record { k = k; i = i; j = suc j; some_k = a; some_j = omega arith; sum = s }
@@ -271,7 +271,7 @@ inner-one x y u v k i j l m n e f =
     (given (at 9) (at 4 ⊗ at 2) (at 5 ⊗ at 0 ⊕ at 6 ⊗ at 1) e
     (given (at 4) (at 7 ⊗ at 3) (at 8 ⊗ at 0 ⊕ at 9 ⊗ at 2) f none)) tt
 
-pub mixed-inner : (p r q s : Homogeneous) → IsPast p r q → IsMixed p s r → IsMixed p s q
+pub mixed-inner : (p r q s : Homogeneous) → IsPastStart p r q → IsMixed p s r → IsMixed p s q
 mixed-inner p r q s a b = record {
   k = b.k * a.k;
   i = b.i * a.k + b.j * a.i;
@@ -357,7 +357,7 @@ some-right : (j i0 x : ℕ) → x < j * i0 → 0 < i0
 some-right j zero x l = absurd (omega arith)
 some-right j (suc i0) x l = omega arith
 
-module _ (p q r s : Homogeneous) (a : IsPast p r q) (b : IsMixed p s q) where
+module _ (p q r s : Homogeneous) (a : IsPastStart p r q) (b : IsMixed p s q) where
   -- s is before r, at r or after r
   pub before-at-after : IsMixed p s r ⊎ SameUpToFactor s r ⊎ IsMixed r s q
   before-at-after = by (cases_order (b.j * a.i) (a.j * b.i))

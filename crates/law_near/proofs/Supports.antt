@@ -1,5 +1,5 @@
 -- Facets lie in a carrier and edges in two: the flat directions are decided by the carriers that hold them.
-use Rattle.law_near.proofs.Prelude.{◌≡◌, ℕ, ◌<◌, ℤ, pos, ◌+ℤ◌, ◌*ℤ◌, ◌<ℤ◌, arith, refl, ap, sym, ◌∙◌, ◌⊎◌, inl, inr, ⊎_elim, ◌↔◌, List, ◌∷◌, [], ints, sign_times, Lies, ring, at, num, ◌⊕◌, ◌⊖◌, ◌⊗◌, given, none, follows, nought-is, sign-plus, sign_of_product, nought-or, Place, Form, slope, normal_of, Vector, vector, blend, dot, cross, triple, IsZero, IsDirection, IsParallel, Set, Flat, FlatDim, sign_at, carriers, slide, IsHeldBy, EdgeSupport, FacetSupport, zero-decided, self-pos, triple-dot, cross-turned, parallel-both, cross-self, dot-comm, square-cross, in-span, level-both, level_cross_second, nought-if}
+use Rattle.law_near.proofs.Prelude.{◌≡◌, ℕ, ◌<◌, ℤ, pos, ◌+ℤ◌, ◌*ℤ◌, ◌<ℤ◌, arith, refl, ap, sym, ◌∙◌, ◌⊎◌, inl, inr, ⊎_elim, ◌↔◌, List, ◌∷◌, [], ints, sign_times, Lies, ring, at, num, ◌⊕◌, ◌⊖◌, ◌⊗◌, given, none, follows, nought-is, sign-plus, sign_of_product, nought-or, SpacePoint, Form, slope, normal_of, Vector, vector, blend, dot, cross, triple, IsZero, IsDirection, IsParallel, Set, Flat, FlatDim, sign_at, carriers, slide, IsHeldBy, EdgeSupport, FacetSupport, zero-decided, self-pos, triple-dot, cross-turned, parallel-both, cross-self, dot-comm, square-cross, in-span, level-both, level_cross_second, nought-if}
 use Rattle.nef_space.specs.Signs.{nought, sign}
 use Rattle.law_near.proofs.Cells.{is_nought}
 use Rattle.law_near.proofs.Flats.{Flat-from_cone, FlatCone-from_flat, slope-slide}
@@ -11,7 +11,7 @@ use Rattle.law_near.proofs.Even.{span-1, span-2}
 use Rattle.law_near.proofs.Meets.{slope-none}
 
 -- ---- what lies in all carriers that hold a flat direction is flat
-pub flat-held : (s : Set) (p : Place) (d e : Vector) → Flat s p d → IsHeldBy s p d e → Flat s p e
+pub flat-held : (s : Set) (p : SpacePoint) (d e : Vector) → Flat s p d → IsHeldBy s p d e → Flat s p e
 flat-held s p d e f held = Flat-from_cone s p e (λ v b a some l.
     let g = near-of_flat s p d (FlatCone-from_flat s p d f) in
     let there = g v l in
@@ -26,7 +26,7 @@ flat-held s p d e f held = Flat-from_cone s p e (λ v b a some l.
         ap sign k ∙ sign_of_product (pos b) (slope h v) ∙ ap (λ r. sign_times r (sign (slope h v))) (sign-plus (pos b) (omega (arith, ints)))
 
 -- ---- the flat directions where there is one, and where there are two
-pub flat-line : (s : Set) (p : Place) → FlatDim s p 1 → (d : Vector) × IsDirection d × ((v : Vector) → Flat s p v ↔ IsParallel d v)
+pub flat-line : (s : Set) (p : SpacePoint) → FlatDim s p 1 → (d : Vector) × IsDirection d × ((v : Vector) → Flat s p v ↔ IsParallel d v)
 flat-line s p ((d, i, f), n) = (
   d,
   i,
@@ -36,7 +36,7 @@ flat-line s p ((d, i, f), n) = (
   ),
 )
 
-pub flat-plane : (s : Set) (p : Place) → FlatDim s p 2 → (n : Vector) × IsDirection n × ((v : Vector) → Flat s p v ↔ (dot n v ≡ pos 0))
+pub flat-plane : (s : Set) (p : SpacePoint) → FlatDim s p 2 → (n : Vector) × IsDirection n × ((v : Vector) → Flat s p v ↔ (dot n v ≡ pos 0))
 flat-plane s p ((d, e, i, f, g), n) = (
   cross d e,
   i,
@@ -61,14 +61,14 @@ twice-cross n d some e z = nought-if d n some (cross-turned n d (nought-if d (cr
 
 -- ---- searching the carriers
 -- a form of the list that passes through p, is zero along d and satisfies Q
-record Held (hs : List Form) (p : Place) (d : Vector) (Q : Form → Type 0) : Type 0 where
+record Held (hs : List Form) (p : SpacePoint) (d : Vector) (Q : Form → Type 0) : Type 0 where
   pub plane : Form
   pub listed : Lies hs plane
   pub passes : sign_at plane p ≡ nought
   pub holds : slope plane d ≡ pos 0
   pub more : Q plane
 
-find-held : (hs : List Form) (p : Place) (d : Vector) (Q : Form → Type 0) → ((h : Form) → Decided (Q h))
+find-held : (hs : List Form) (p : SpacePoint) (d : Vector) (Q : Form → Type 0) → ((h : Form) → Decided (Q h))
     → Held hs p d Q ⊎ ((h : Form) → Lies hs h → sign_at h p ≡ nought → slope h d ≡ pos 0 → Q h → ⊥)
 find-held hs p d Q D = ⊎_elim (λ c. inl (found c.0 c.1 c.2 (is_nought (sign_at c.0 p)) (nought-or (slope c.0 d)) (D c.0))) (λ clear. inr (λ h l o z q. clear h l (o, (z, q))))
     (every hs (λ h. (sign_at h p ≡ nought) × ((slope h d ≡ pos 0) × Q h) → ⊥) (λ h. decided-not (decided-both (is_nought (sign_at h p)) (decided-both (nought-or (slope h d)) (D h)))))
@@ -83,11 +83,11 @@ has-normal : (h : Form) → Decided (IsDirection (normal_of h))
 has-normal h = ⊎_elim (λ z. inr (λ i. i z)) (λ i. inl i) (zero-decided (normal_of h))
 
 -- where no form through p that is zero along d has a normal, all is held
-held-without : (s : Set) (p : Place) (d v : Vector) → ((h : Form) → Lies (carriers s) h → sign_at h p ≡ nought → slope h d ≡ pos 0 → IsDirection (normal_of h) → ⊥) → IsHeldBy s p d v
+held-without : (s : Set) (p : SpacePoint) (d v : Vector) → ((h : Form) → Lies (carriers s) h → sign_at h p ≡ nought → slope h d ≡ pos 0 → IsDirection (normal_of h) → ⊥) → IsHeldBy s p d v
 held-without s p d v clear h l o z = ⊎_elim (λ e. slope-none h v e) (λ i. absurd (clear h l o z i)) (zero-decided (normal_of h))
 
 -- ---- the carrier of a facet
-pub facet-support : (s : Set) (p : Place) → FlatDim s p 2 → FacetSupport s p
+pub facet-support : (s : Set) (p : SpacePoint) → FlatDim s p 2 → FacetSupport s p
 facet-support s p ((d, e, i, f, g), few) = by (find-held (carriers s) p (blend (steep (carriers s) e) d 1 e) (λ h. IsDirection (normal_of h)) has-normal)
   where
     -- a direction in the plane that lies in no carrier but those that hold the plane
@@ -132,7 +132,7 @@ facet-support s p ((d, e, i, f, g), few) = by (find-held (carriers s) p (blend (
         }
 
 -- ---- the carriers of an edge
-pub edge-support : (s : Set) (p : Place) → FlatDim s p 1 → EdgeSupport s p
+pub edge-support : (s : Set) (p : SpacePoint) → FlatDim s p 1 → EdgeSupport s p
 edge-support s p one = by (flat-line s p one)
   where
     by : (d : Vector) × IsDirection d × ((v : Vector) → Flat s p v ↔ IsParallel d v) → EdgeSupport s p

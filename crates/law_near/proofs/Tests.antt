@@ -3,7 +3,7 @@ use Rattle.law_near.proofs.Prelude.{◌≡◌, refl, sym, ◌∙◌, ◌⊎◌, 
 use Rattle.law_near.specs.FormLaws.{SegmentLaw, SegmentOfPoints, SegmentOfDirections, FirstChangeLaw, FirstChangeAtPoints, FirstChangeAtDirections}
 use Rattle.law_near.proofs.Segment.{settled-segment}
 use Rattle.law_near.proofs.FirstVector.{first-change, change-unsettled}
-use Rattle.law_near.proofs.Places.{settled-segment_places, settled-segment_ways, first-change_places, first-change_ways}
+use Rattle.law_near.proofs.Points.{settled-segment_points, settled-segment_ways, first-change_points, first-change_ways}
 
 not-true : (b : Bool) → (b ≡ true → ⊥) → b ≡ false
 not-true true f = absurd (f refl)
@@ -23,7 +23,7 @@ segment_law hs P p q c s = sym (settled-segment hs (λ v. P v ≡ P p) p q
     (λ x y a b. let t = s x y a b in (t.0, λ k l. (λ f. sym (t.1 k l) ∙ f, λ f. t.1 k l ∙ f))) refl)
 
 pub segment_of_points : SegmentOfPoints
-segment_of_points hs P p q c s = sym (settled-segment_places hs (λ v. P v ≡ P p) p q
+segment_of_points hs P p q c s = sym (settled-segment_points hs (λ v. P v ≡ P p) p q
     (λ x y a b e f. sym (c x y a b e) ∙ f)
     (λ r a. let t = s r a in (t.0, t.1, λ z b w. (λ f. sym (t.2 z b w) ∙ f, λ f. t.2 z b w ∙ f))) refl)
 
@@ -45,7 +45,7 @@ first_change_law hs P p q c x y =
 
 pub first_change_at_points : FirstChangeAtPoints
 first_change_at_points hs P p q c x y =
-    let d = first-change_places hs (λ v. P v ≡ true) p q (λ r s a b e f. sym (c r s a b e) ∙ f) (λ r a. true-decided (P r)) x (not-false (P q) y) in
+    let d = first-change_points hs (λ v. P v ≡ true) p q (λ r s a b e f. sym (c r s a b e) ∙ f) (λ r a. true-decided (P r)) x (not-false (P q) y) in
     record {
       place = d.place;
       on = d.on;

@@ -1,6 +1,6 @@
 -- The cone of a set at a point: its label there, and its germs in all directions.
 use Rattle.std.specs.Prelude.{◌≡◌, ◌<◌, ◌≤◌, ◌+ℤ◌, ◌*ℤ◌, ◌⊎◌, ◌↔◌}
-use Rattle.nef_space.specs.Prelude.{ℕ, ℤ, pos, List, nought, Lies, HasLabel, Germ, Place, Form, normal_of, Within, SamePlace, IsBetween, Set, Vector, vector, blend, triple}
+use Rattle.nef_space.specs.Prelude.{ℕ, ℤ, pos, List, nought, Lies, HasLabel, Germ, SpacePoint, Form, normal_of, Within, SamePoint, IsBetween, Set, Vector, vector, blend, triple}
 use Rattle.nef_space.specs.declared.label.Label.{Label}
 use Rattle.nef_space.specs.declared.label.Label.TheVariants.{Out, Not, In}
 use Rattle.law_near.specs.Cells.{sign_at}
@@ -14,24 +14,24 @@ abbrev pub combination : ℤ → Vector → ℤ → Vector → Vector
 combination j d k e = vector (j *ℤ d.x +ℤ k *ℤ e.x) (j *ℤ d.y +ℤ k *ℤ e.y) (j *ℤ d.z +ℤ k *ℤ e.z)
 
 -- the germs in the directions n d + e have the label l for all large n
-abbrev pub NearGerm : Set → Place → Vector → Vector → Label → Type 0
+abbrev pub NearGerm : Set → SpacePoint → Vector → Vector → Label → Type 0
 NearGerm s p d e l = (n : ℕ) × ((k : ℕ) → n ≤ k → Germ s p (blend k d 1 e) l)
 
 -- the germs in the directions v and v + (a/b) d agree for each v and each a/b
-abbrev pub FlatCone : Set → Place → Vector → Type 0
+abbrev pub FlatCone : Set → SpacePoint → Vector → Type 0
 FlatCone s p d = (v : Vector) (b : ℕ) (a : ℤ) → 0 < b → (l : Label) → Germ s p v l ↔ Germ s p (slide b v a d) l
 
 -- the sets have one label at p, and one germ in each direction
-pub record SameCone (s t : Set) (p : Place) : Type 0 where
+pub record SameCone (s t : Set) (p : SpacePoint) : Type 0 where
   pub label : (l : Label) → HasLabel s p l ↔ HasLabel t p l
   pub germs : (d : Vector) (l : Label) → Germ s p d l ↔ Germ t p d l
 
 -- the sets have one label at all points close enough to p
-abbrev pub SameNear : Set → Set → Place → Type 0
-SameNear s t p = (n : ℕ) × (0 < n) × ((q : Place) → Within n p q → (l : Label) → HasLabel s q l ↔ HasLabel t q l)
+abbrev pub SameNear : Set → Set → SpacePoint → Type 0
+SameNear s t p = (n : ℕ) × (0 < n) × ((q : SpacePoint) → Within n p q → (l : Label) → HasLabel s q l ↔ HasLabel t q l)
 
 -- three planes of the list, with independent normals, meet at p
-pub record IsMeet (hs : List Form) (p : Place) : Type 0 where
+pub record IsMeet (hs : List Form) (p : SpacePoint) : Type 0 where
   pub first : Form
   pub second : Form
   pub third : Form
@@ -44,8 +44,8 @@ pub record IsMeet (hs : List Form) (p : Place) : Type 0 where
   pub independent : triple (normal_of first) (normal_of second) (normal_of third) ≡ pos 0 → ⊥
 
 -- r lies on the segment from p to q, ends included
-abbrev pub IsOnSegment : Place → Place → Place → Type 0
-IsOnSegment p r q = SamePlace r p ⊎ IsBetween p r q ⊎ SamePlace r q
+abbrev pub IsOnSegment : SpacePoint → SpacePoint → SpacePoint → Type 0
+IsOnSegment p r q = SamePoint r p ⊎ IsBetween p r q ⊎ SamePoint r q
 
 -- ---- the labels that the operations make of labels
 abbrev pub label_and : Label → Label → Label

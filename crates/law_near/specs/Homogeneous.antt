@@ -1,7 +1,7 @@
 -- Homogeneous vectors (x, y, z, w): the point (x/w, y/w, z/w) for a positive w, the direction (x, y, z) where w is
 -- nought. So points, rays, directions and segments, also of great circles, share laws.
 use Rattle.std.specs.Prelude.{◌≡◌, ◌+◌, ◌<◌, ◌+ℤ◌, ◌*ℤ◌, ◌∷◌, ◌⊎◌}
-use Rattle.nef_space.specs.Prelude.{ℕ, ℤ, pos, nat_abs, List, [], sign, Lies, Vector, Place, Form, form, SamePlace, IsBetween}
+use Rattle.nef_space.specs.Prelude.{ℕ, ℤ, pos, nat_abs, List, [], sign, Lies, Vector, SpacePoint, Form, form, SamePoint, IsBetween}
 
 pub record Homogeneous : Type 0 where
   pub x : ℤ
@@ -12,8 +12,8 @@ pub record Homogeneous : Type 0 where
 abbrev pub homogeneous : ℤ → ℤ → ℤ → ℤ → Homogeneous
 homogeneous x y z w = record { x = x; y = y; z = z; w = w }
 
-abbrev pub of_place : Place → Homogeneous
-of_place p = homogeneous p.x p.y p.z (pos p.w)
+abbrev pub of_point : SpacePoint → Homogeneous
+of_point p = homogeneous p.x p.y p.z (pos p.w)
 
 abbrev pub of_direction : Vector → Homogeneous
 of_direction d = homogeneous d.x d.y d.z (pos 0)
@@ -72,8 +72,8 @@ pub record OnSegment (p r q : Homogeneous) : Type 0 where
   pub sum : IsSum k r i p j q
 
 -- the point r is p or q or lies strictly between them
-abbrev pub OnPlaces : Place → Place → Place → Type 0
-OnPlaces p r q = SamePlace r p ⊎ IsBetween p r q ⊎ SamePlace r q
+abbrev pub OnPoints : SpacePoint → SpacePoint → SpacePoint → Type 0
+OnPoints p r q = SamePoint r p ⊎ IsBetween p r q ⊎ SamePoint r q
 
 -- the direction r is passed strictly on the way from d to e along a great circle; r is passed, or is an end
 abbrev pub IsPassed : Vector → Vector → Vector → Type 0
@@ -83,12 +83,12 @@ abbrev pub OnWay : Vector → Vector → Vector → Type 0
 OnWay d r e = OnSegment (of_direction d) (of_direction r) (of_direction e)
 
 -- the forms of the list have the same signs at u and v
-abbrev pub SameSigns : List Form → Homogeneous → Homogeneous → Type 0
-SameSigns hs u v = (h : Form) → Lies hs h → sign (form_on h u) ≡ sign (form_on h v)
+abbrev pub SameFormSigns : List Form → Homogeneous → Homogeneous → Type 0
+SameFormSigns hs u v = (h : Form) → Lies hs h → sign (form_on h u) ≡ sign (form_on h v)
 
 -- the forms of the list that aren't nought at v have the same signs at u
-abbrev pub Keeps : List Form → Homogeneous → Homogeneous → Type 0
-Keeps hs v u = (h : Form) → Lies hs h → (form_on h v ≡ pos 0 → ⊥) → sign (form_on h u) ≡ sign (form_on h v)
+abbrev pub KeepsFormSigns : List Form → Homogeneous → Homogeneous → Type 0
+KeepsFormSigns hs v u = (h : Form) → Lies hs h → (form_on h v ≡ pos 0 → ⊥) → sign (form_on h u) ≡ sign (form_on h v)
 
 abbrev pub IsZeroForm : Form → Type 0
 IsZeroForm h = (h.a ≡ pos 0) × (h.b ≡ pos 0) × (h.c ≡ pos 0) × (h.d ≡ pos 0)
@@ -98,6 +98,6 @@ abbrev pub Avoids : List Form → Homogeneous → Type 0
 Avoids hs v = (h : Form) → Lies hs h → ¬ IsZeroForm h → form_on h v ≡ pos 0 → ⊥
 
 -- from this k on, k p + e has the sign of p at each form of the list that isn't nought at p
-abbrev pub amount : List Form → Homogeneous → ℕ
-amount [] e = 1
-amount (h ∷ hs) e = nat_abs (form_on h e) + amount hs e
+abbrev pub form_amount : List Form → Homogeneous → ℕ
+form_amount [] e = 1
+form_amount (h ∷ hs) e = nat_abs (form_on h e) + form_amount hs e

@@ -2,7 +2,7 @@
 
 ghost use Rattle.law_near.specs.FormLaws.{
   BetweenIsMixed,
-  BetweenRespectsPlace,
+  BetweenRespectsPoint,
   ClosedIsOnSegment,
   DifferenceLeads,
   DifferenceSlope,
@@ -20,7 +20,7 @@ ghost use Rattle.law_near.specs.FormLaws.{
   RepresentativeDirections,
   RepresentativePoints,
   SameDirectionIsFactor,
-  SamePlaceIsFactor,
+  SamePointIsFactor,
   SegmentLaw,
   SegmentOfDirections,
   SegmentOfPoints,
@@ -28,21 +28,21 @@ ghost use Rattle.law_near.specs.FormLaws.{
   StableFar,
   StableListNear,
   StableNear,
-  WithinRespectsPlace,
+  WithinRespectsPoint,
 };
 
 /// The vectors of one point, and of one direction, are equal up to a positive factor, which doesn't change signs of
 /// forms, betweenness and nearness.
 pub fn factor_laws()
-    ensures same_place { SamePlaceIsFactor }
+    ensures same_place { SamePointIsFactor }
     ensures same_direction { SameDirectionIsFactor }
     ensures equivalence { FactorIsEquivalence }
     ensures signs { SignsRespectFactor }
     ensures between { BetweenIsMixed }
     ensures closed { ClosedIsOnSegment }
     ensures mixed_respects { MixedRespectsFactor }
-    ensures between_respects { BetweenRespectsPlace }
-    ensures within_respects { WithinRespectsPlace }
+    ensures between_respects { BetweenRespectsPoint }
+    ensures within_respects { WithinRespectsPoint }
 {}
 
 /// A form that isn't nought at a point keeps its sign near the point and along short steps from it; the values of forms

@@ -1,7 +1,7 @@
 //! The laws, grouped by their subject.
 
-ghost use Rattle.law_near.specs.Examples.{HalvesDisjoint, TwoHalves, Wall, WallPart, Edge, PointAlone};
-ghost use Rattle.law_near.specs.Laws.{HoldsByCell, LabelByCell, GermByCell, FlatByCell, FlatDimByCell, SignsAtSamePlace, HoldsAtSamePlace, LabelAtSamePlace, GermAtSamePlace, FlatDimAtSamePlace, LabelExists, LabelIsUnique, GermExists, GermIsUnique, SetIsItsCone, LabelAlongRay, GermBySlopes, GermTowardZero, NoGermOutInFrame, GermOutForAll, GermOnRay, NearGermExists, NearGermIsUnique, NearGermTowardZero, NearGermBySlopes, ConeNearby, HoldsIsDecided, LabelIsDecided, GermIsDecided, NearGermIsDecided, Representatives, GermRepresentatives, AllGermsAreDecided, AllDirectionsAreDecided, AllNearGermsAreDecided, SameConeIsDecided, FlatIsDecided, FlatDimExists, FlatIsFlatCone, FlatInCarriers, FlatCombination, FlatIsNearCone, FlatBySlopes, FlatNearby, AllFlat, FlatOutside, FlatDimOutside, FlatDimIsUnique, FlatWhereHeld, FlatLine, FlatPlane, VertexIsMeet, EdgeInCarriers, FacetInCarrier, LabelOfCombination, GermOfCombination, NearGermOfCombination, FlatOfTwo, FlatOfOne, InsideAt, ClosedAt, BorderAt, RegularAt, InsideToward, ClosedToward, BorderToward, RegularToward, SameSetBySameCones, SameConeIsSameNear, FlatBySameCone, FlatDimBySameCone, NearGermBySameCone, JoinedBySameSet, SameSetByVertices, LabelAlongSegment, FlatDimAlongSegment, LabelChangesFirst, FlatDimChangesFirst, FlatDimNearby, FlatBelowFirst, EvenUntilDrop, FlatWayEnds, EdgeHasEnds, FiniteVertices, OneConeAlongEven, OneConeOfJoined, OneLabelOfJoined, JoinedToItself, JoinedTurned, JoinedThrough};
+ghost use Rattle.law_near.specs.Examples.{HalvesDisjoint, TwoHalves, WallExample, WallPart, EdgeExample, PointAlone};
+ghost use Rattle.law_near.specs.Laws.{HoldsByCell, LabelByCell, GermByCell, FlatByCell, FlatDimByCell, SignsAtSamePoint, HoldsAtSamePoint, LabelAtSamePoint, GermAtSamePoint, FlatDimAtSamePoint, LabelExists, LabelIsUnique, GermExists, GermIsUnique, SetIsItsCone, LabelAlongRay, GermBySlopes, GermTowardZero, NoGermOutInFrame, GermOutForAll, GermOnRay, NearGermExists, NearGermIsUnique, NearGermTowardZero, NearGermBySlopes, ConeNearby, HoldsIsDecided, LabelIsDecided, GermIsDecided, NearGermIsDecided, Representatives, GermRepresentatives, AllGermsAreDecided, AllDirectionsAreDecided, AllNearGermsAreDecided, SameConeIsDecided, FlatIsDecided, FlatDimExists, FlatIsFlatCone, FlatInCarriers, FlatCombination, FlatIsNearCone, FlatBySlopes, FlatNearby, AllFlat, FlatOutside, FlatDimOutside, FlatDimIsUnique, FlatWhereHeld, FlatLine, FlatPlane, VertexIsMeet, EdgeInCarriers, FacetInCarrier, LabelOfCombination, GermOfCombination, NearGermOfCombination, FlatOfTwo, FlatOfOne, InsideAt, ClosedAt, BorderAt, RegularAt, InsideToward, ClosedToward, BorderToward, RegularToward, SameSetBySameCones, SameConeIsSameNear, FlatBySameCone, FlatDimBySameCone, NearGermBySameCone, JoinedBySameSet, SameSetByVertices, LabelAlongSegment, FlatDimAlongSegment, LabelChangesFirst, FlatDimChangesFirst, FlatDimNearby, FlatBelowFirst, EvenUntilDrop, FlatWayEnds, EdgeHasEnds, FiniteVertices, OneConeAlongEven, OneConeOfJoined, OneLabelOfJoined, JoinedToItself, JoinedSymmetric, JoinedThrough};
 
 /// A set is constant on the cells of its carriers, which are the planes of its halves at any depth and the sides of the
 /// frame: on which side of each carrier a point lies decides whether the set holds there, its label, its germs and its
@@ -12,11 +12,11 @@ pub fn cell_laws()
     ensures germ_by_cell { GermByCell }
     ensures flat_by_cell { FlatByCell }
     ensures flat_dim_by_cell { FlatDimByCell }
-    ensures signs_at_same_place { SignsAtSamePlace }
-    ensures holds_at_same_place { HoldsAtSamePlace }
-    ensures label_at_same_place { LabelAtSamePlace }
-    ensures germ_at_same_place { GermAtSamePlace }
-    ensures flat_dim_at_same_place { FlatDimAtSamePlace }
+    ensures signs_at_same_place { SignsAtSamePoint }
+    ensures holds_at_same_place { HoldsAtSamePoint }
+    ensures label_at_same_place { LabelAtSamePoint }
+    ensures germ_at_same_place { GermAtSamePoint }
+    ensures flat_dim_at_same_place { FlatDimAtSamePoint }
 {}
 
 /// Each point has one label and each direction one germ. Close to a point the label doesn't change along a ray from the
@@ -149,7 +149,7 @@ pub fn joined_laws()
     ensures one_cone_of_joined { OneConeOfJoined }
     ensures one_label_of_joined { OneLabelOfJoined }
     ensures joined_to_itself { JoinedToItself }
-    ensures joined_turned { JoinedTurned }
+    ensures joined_turned { JoinedSymmetric }
     ensures joined_through { JoinedThrough }
 {}
 
@@ -157,8 +157,8 @@ pub fn joined_laws()
 pub fn cone_examples()
     ensures halves_disjoint { HalvesDisjoint }
     ensures two_halves { TwoHalves }
-    ensures wall { Wall }
+    ensures wall { WallExample }
     ensures wall_part { WallPart }
-    ensures edge { Edge }
+    ensures edge { EdgeExample }
     ensures point { PointAlone }
 {}

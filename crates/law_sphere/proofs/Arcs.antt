@@ -1,5 +1,5 @@
 -- Two least maps with the same labels have the same arcs and the same sloop.
-use Rattle.law_sphere.proofs.Prelude.{◌≡◌, ℕ, zero, suc, ◌+◌, pos, ◌<ℤ◌, arith, refl, ap, sym, ◌∙◌, inl, inr, List, ◌∷◌, subst, Option, Some, None, [], sign, Vector, IsDirection, triple, cross, dot, SameDirection, At, MapVertex, Arc, MapSloop, Map, Item, arc_item, sloop_item, items, items_then, item_normal, item_pos, item_mark, item_neg, dir_of, OnItem, Shaped, Valid, IsStrictlyOn, Keeps, arc_forms, forms, Least, SameLabels, MatchedArc, MatchedSloop, Decided, same-nought, same-off, dot-comm, SameDirection-turned, SameDirection-trans, dir-self, dir-signs, direction-left, is-at_none, is-at_first}
+use Rattle.law_sphere.proofs.Prelude.{◌≡◌, ℕ, zero, suc, ◌+◌, pos, ◌<ℤ◌, arith, refl, ap, sym, ◌∙◌, inl, inr, List, ◌∷◌, subst, Option, Some, None, [], sign, Vector, IsDirection, triple, cross, dot, SameDirection, IsAt, MapVertex, Arc, MapSloop, Map, Item, arc_item, sloop_item, items, items_then, item_normal, item_pos, item_mark, item_neg, dir_of, OnItem, Shaped, Valid, IsStrictlyOn, Keeps, arc_forms, forms, Least, SameLabels, MatchedArc, MatchedSloop, Decided, same-nought, same-off, dot-comm, SameDirection-turned, SameDirection-trans, dir-self, dir-signs, direction-left, is-at_none, is-at_first}
 use Rattle.law_sphere.proofs.Vectors.{normal-is, same-plus}
 use Rattle.law_sphere.proofs.Generic.{amount, far-keeps}
 use Rattle.law_sphere.proofs.Places.{SameDirection-decided}
@@ -14,8 +14,8 @@ use Rattle.law_sphere.proofs.Turn.{turn-same, IsStrictlyOn-same, after-target, e
 pub record Ends (M : Map) (a : Arc) : Type 0 where
   pub source : MapVertex
   pub target : MapVertex
-  pub has_source : At M.svertices a.source source
-  pub has_target : At M.svertices a.target target
+  pub has_source : IsAt M.svertices a.source source
+  pub has_target : IsAt M.svertices a.target target
   pub source_is : dir_of M.svertices a.source ≡ source.dir
   pub target_is : dir_of M.svertices a.target ≡ target.dir
   pub source_direction : IsDirection (dir_of M.svertices a.source)
@@ -23,7 +23,7 @@ pub record Ends (M : Map) (a : Arc) : Type 0 where
   pub source_level : dot a.normal (dir_of M.svertices a.source) ≡ pos 0
   pub target_level : dot a.normal (dir_of M.svertices a.target) ≡ pos 0
 
-pub ends-of : (M : Map) → Shaped M → (k : ℕ) (a : Arc) → At M.arcs k a → Ends M a
+pub ends-of : (M : Map) → Shaped M → (k : ℕ) (a : Arc) → IsAt M.arcs k a → Ends M a
 ends-of M V k a h =
     let b = V.arcs_between k a h in
     let e = dir-at M.svertices a.source b.source b.has_source in
@@ -49,7 +49,7 @@ pub level-same : (n m d e : Vector) → SameDirection n m → SameDirection d e 
 level-same n m d e a w z = same-nought (dot n d) (dot m e) (ap sign (dot-comm m e) ∙ dir-signs n m e (direction-left n m a) a ∙ ap sign (dot-comm e n) ∙ dir-signs d e n (direction-left d e w) w) z
 
 -- ---- lists
-pub sloop-at : (as' : List Arc) (o : Option MapSloop) (k : ℕ) (l : MapSloop) → At (items_then as' o) k (sloop_item l) → o ≡ Some l
+pub sloop-at : (as' : List Arc) (o : Option MapSloop) (k : ℕ) (l : MapSloop) → IsAt (items_then as' o) k (sloop_item l) → o ≡ Some l
 sloop-at [] None k l h = absurd (is-at_none h)
 sloop-at [] (Some m) zero l e = ap (λ r. Some (sloop_of m r)) (is-at_first e)
   where
@@ -60,7 +60,7 @@ sloop-at [] (Some m) (suc k) l h = absurd (is-at_none h)
 sloop-at (b ∷ as') o zero l e = cc
 sloop-at (b ∷ as') o (suc k) l h = sloop-at as' o k l h
 
-pub at-sloop : (as' : List Arc) (o : Option MapSloop) (l : MapSloop) → o ≡ Some l → (k : ℕ) × At (items_then as' o) k (sloop_item l)
+pub at-sloop : (as' : List Arc) (o : Option MapSloop) (l : MapSloop) → o ≡ Some l → (k : ℕ) × IsAt (items_then as' o) k (sloop_item l)
 at-sloop [] None l e = cc
 at-sloop [] (Some m) l e = (zero, ap (λ r. Some (sloop_item (in_option m r))) e)
   where
@@ -69,7 +69,7 @@ at-sloop [] (Some m) l e = (zero, ap (λ r. Some (sloop_item (in_option m r))) e
     in_option d (Some x) = x
 at-sloop (b ∷ as') o l e = let r = at-sloop as' o l e in (suc r.0, r.1)
 
-pub at-arc : (as' : List Arc) (o : Option MapSloop) (k : ℕ) (a : Arc) → At as' k a → At (items_then as' o) k (arc_item a)
+pub at-arc : (as' : List Arc) (o : Option MapSloop) (k : ℕ) (a : Arc) → IsAt as' k a → IsAt (items_then as' o) k (arc_item a)
 at-arc [] o k a h = absurd (is-at_none h)
 at-arc (b ∷ as') o zero a e = ap (λ (x : Arc). Some (arc_item x)) (is-at_first e)
 at-arc (b ∷ as') o (suc k) a h = at-arc as' o k a h
@@ -78,20 +78,20 @@ module _ (M N : Map) (V : Valid M) (W : Valid N) (L : Least M) (K : Least N) (s 
   back : SameLabels N M
   back = labels-turned M N V W s
 
-  matched : (k : ℕ) (v : MapVertex) → At M.svertices k v → Matched N v.dir
+  matched : (k : ℕ) (v : MapVertex) → IsAt M.svertices k v → Matched N v.dir
   matched k v a = svertex-matched M N V W L back k v a
 
-  matched_back : (k : ℕ) (v : MapVertex) → At N.svertices k v → Matched M v.dir
+  matched_back : (k : ℕ) (v : MapVertex) → IsAt N.svertices k v → Matched M v.dir
   matched_back k v a = svertex-matched N M W V K s k v a
 
   -- a svertex of M lies on no item of N
-  off_item : (k : ℕ) (v : MapVertex) → At M.svertices k v → (j : ℕ) (y : Item) → At (items N) j y → OnItem N y v.dir → ⊥
+  off_item : (k : ℕ) (v : MapVertex) → IsAt M.svertices k v → (j : ℕ) (y : Item) → IsAt (items N) j y → OnItem N y v.dir → ⊥
   off_item k v a j y b o = let q = matched k v a in on_item-off_svertices N W.shaped v.dir v.dir (λ g l f. refl) j y b o q.number q.svertex q.listed q.same
 
-  off_item_back : (k : ℕ) (v : MapVertex) → At N.svertices k v → (j : ℕ) (y : Item) → At (items M) j y → OnItem M y v.dir → ⊥
+  off_item_back : (k : ℕ) (v : MapVertex) → IsAt N.svertices k v → (j : ℕ) (y : Item) → IsAt (items M) j y → OnItem M y v.dir → ⊥
   off_item_back k v a j y b o = let q = matched_back k v a in on_item-off_svertices M V.shaped v.dir v.dir (λ g l f. refl) j y b o q.number q.svertex q.listed q.same
 
-  module _ (i : ℕ) (a : Arc) (h : At M.arcs i a) where
+  module _ (i : ℕ) (a : Arc) (h : IsAt M.arcs i a) where
     abbrev n : Vector
     n = a.normal
 
@@ -110,7 +110,7 @@ module _ (M N : Map) (V : Valid M) (W : Valid N) (L : Least M) (K : Least N) (s 
     ends : Ends M a
     ends = ends-of M V.shaped i a h
 
-    here : At (items M) i (arc_item a)
+    here : IsAt (items M) i (arc_item a)
     here = at-arc M.arcs M.sloop i a h
 
     hn : IsDirection n
@@ -122,7 +122,7 @@ module _ (M N : Map) (V : Valid M) (W : Valid N) (L : Least M) (K : Least N) (s 
     ahead : pos 0 <ℤ triple n u y
     ahead = there-ahead n u w hn ends.source_direction ends.target_direction ends.source_level ends.target_level far (omega arith)
 
-    module _ (j : ℕ) (b : Arc) (l : At (items N) j (arc_item b)) (same : SameDirection n b.normal) (on : IsStrictlyOn b.normal (dir_of N.svertices b.source) (dir_of N.svertices b.target) y) where
+    module _ (j : ℕ) (b : Arc) (l : IsAt (items N) j (arc_item b)) (same : SameDirection n b.normal) (on : IsStrictlyOn b.normal (dir_of N.svertices b.source) (dir_of N.svertices b.target) y) where
       abbrev bs : Vector
       bs = dir_of N.svertices b.source
 
@@ -159,7 +159,7 @@ module _ (M N : Map) (V : Valid M) (W : Valid N) (L : Least M) (K : Least N) (s 
     pub arc-matched : MatchedArc M N a
     arc-matched = by (item-matched M N V W L K s i (arc_item a) here y on-y)
       where
-        by_item : (j : ℕ) (x : Item) → At (items N) j x → OnItem N x y → SameDirection n (item_normal x) → a.pos ≡ item_pos x → a.mark ≡ item_mark x → a.neg ≡ item_neg x → MatchedArc M N a
+        by_item : (j : ℕ) (x : Item) → IsAt (items N) j x → OnItem N x y → SameDirection n (item_normal x) → a.pos ≡ item_pos x → a.mark ≡ item_mark x → a.neg ≡ item_neg x → MatchedArc M N a
         by_item j (arc_item b) l o e f g q = record {
           number = j;
           arc = b;
@@ -182,10 +182,10 @@ module _ (M N : Map) (V : Valid M) (W : Valid N) (L : Least M) (K : Least N) (s 
   pub sloop-matched : (c : MapSloop) → M.sloop ≡ Some c → MatchedSloop N c
   sloop-matched c e = by (at-sloop M.arcs M.sloop c e)
     where
-      by : (i : ℕ) × At (items M) i (sloop_item c) → MatchedSloop N c
+      by : (i : ℕ) × IsAt (items M) i (sloop_item c) → MatchedSloop N c
       by (i, h) = let p = circle-point c.normal (normal-is V.shaped i (sloop_item c) h) in at_item p.0 (item-matched M N V W L K s i (sloop_item c) h p.0 p.1)
         where
-          by_item : (j : ℕ) (x : Item) → At (items N) j x → SameDirection c.normal (item_normal x) → c.pos ≡ item_pos x → c.mark ≡ item_mark x → c.neg ≡ item_neg x → MatchedSloop N c
+          by_item : (j : ℕ) (x : Item) → IsAt (items N) j x → SameDirection c.normal (item_normal x) → c.pos ≡ item_pos x → c.mark ≡ item_mark x → c.neg ≡ item_neg x → MatchedSloop N c
           by_item j (sloop_item b) l e f g q = record { sloop = b; listed = sloop-at N.arcs N.sloop j b l; normal = e; pos = f; mark = g; neg = q }
           by_item j (arc_item b) l e f g q =
               let r = ends-of N W.shaped j b (arc-at N.arcs N.sloop j b l) in

@@ -1,5 +1,5 @@
 -- Where a direction close to d lies: close to a free one all are free; close to one on an item, on the item or free.
-use Rattle.law_sphere.proofs.Prelude.{◌≡◌, ℕ, ℤ, pos, ◌-ℤ◌, ◌*ℤ◌, ◌<ℤ◌, arith, refl, ap, sym, ◌⊎◌, inl, inr, ⊎_elim, ◌∷◌, subst, ◌∙◌, [], ints, ring, at, num, ◌⊖◌, ◌⊗◌, by_order, mul_pos, sign-scaled, Vector, IsDirection, triple, cross, dot, IsZero, SameDirection, IsOpposite, At, MapVertex, Map, Item, arc_item, sloop_item, items, item_normal, dir_of, OnItem, IsFree, Shaped, IsStrictlyOn, Keeps, arc_forms, forms, self-pos, triple-dot, triple-middle, nought-if, triple-turned, opposites, dir-signs, parallel-in_plane, dot-scaled}
+use Rattle.law_sphere.proofs.Prelude.{◌≡◌, ℕ, ℤ, pos, ◌-ℤ◌, ◌*ℤ◌, ◌<ℤ◌, arith, refl, ap, sym, ◌⊎◌, inl, inr, ⊎_elim, ◌∷◌, subst, ◌∙◌, [], ints, ring, at, num, ◌⊖◌, ◌⊗◌, by_order, mul_pos, sign-scaled, Vector, IsDirection, triple, cross, dot, IsZero, SameDirection, IsOpposite, IsAt, MapVertex, Map, Item, arc_item, sloop_item, items, item_normal, dir_of, OnItem, IsFree, Shaped, IsStrictlyOn, Keeps, arc_forms, forms, self-pos, triple-dot, triple-middle, nought-if, triple-turned, opposites, dir-signs, parallel-in_plane, dot-scaled}
 use Rattle.law_sphere.proofs.Vectors.{normal-is, same-plus, same-minus}
 use Rattle.law_sphere.proofs.Lists.{at-one}
 use Rattle.law_sphere.proofs.Places.{kept-nought, kept-minus, direction-stays, SameDirection-back}
@@ -122,11 +122,11 @@ module _ (M : Map) (V : Shaped M) (d e : Vector) (k : Keeps (forms M) d e) where
   pub direction-around : IsDirection d → IsDirection e
   direction-around f = direction-stays d e (λ g l. k g (axes-forms M g l)) f
 
-  pub svertex-around : (i : ℕ) (v : MapVertex) → At M.svertices i v → IsDirection d → SameDirection v.dir e → SameDirection v.dir d
+  pub svertex-around : (i : ℕ) (v : MapVertex) → IsAt M.svertices i v → IsDirection d → SameDirection v.dir e → SameDirection v.dir d
   svertex-around i v a f w = SameDirection-back v.dir d e (λ g l. k g (svertex-forms M i v g a l)) f w
 
   -- an item close to d is met at d or has an end there
-  pub item-around : (i : ℕ) (x : Item) → At (items M) i x → IsDirection d → ((j : ℕ) (v : MapVertex) → At M.svertices j v → SameDirection v.dir d → ⊥) → OnItem M x e → OnItem M x d
+  pub item-around : (i : ℕ) (x : Item) → IsAt (items M) i x → IsDirection d → ((j : ℕ) (v : MapVertex) → IsAt M.svertices j v → SameDirection v.dir d → ⊥) → OnItem M x e → OnItem M x d
   item-around i (sloop_item l) a f n o = record { direction = f; level = kept-nought l.normal d e (k l.normal (item-forms M i (sloop_item l) l.normal a (inl refl))) o.level }
   item-around i (arc_item r) a f n o =
       let b = V.arcs_between i r (arc-at M.arcs M.sloop i r a) in
@@ -146,21 +146,21 @@ module _ (M : Map) (V : Shaped M) (d e : Vector) (k : Keeps (forms M) d e) where
     off_items = λ i x a o. F.off_items i x a (item-around i x a F.direction F.off_svertices o);
   }
 
-  pub on_item-off_svertices : (i : ℕ) (x : Item) → At (items M) i x → OnItem M x d → (j : ℕ) (v : MapVertex) → At M.svertices j v → SameDirection v.dir d → ⊥
+  pub on_item-off_svertices : (i : ℕ) (x : Item) → IsAt (items M) i x → OnItem M x d → (j : ℕ) (v : MapVertex) → IsAt M.svertices j v → SameDirection v.dir d → ⊥
   on_item-off_svertices i x a o j v b w = V.no_svertex_on_item j i v x b a (OnItem-by_signs M x d v.dir (λ g l. sym (dir-signs v.dir d g (V.svertex_dirs j v b) w)) o)
 
   -- close to an item, on it where in its plane
-  pub item-stays : (i : ℕ) (x : Item) → At (items M) i x → dot (item_normal x) e ≡ pos 0 → OnItem M x d → OnItem M x e
+  pub item-stays : (i : ℕ) (x : Item) → IsAt (items M) i x → dot (item_normal x) e ≡ pos 0 → OnItem M x d → OnItem M x e
   item-stays i x a z o = OnItem-stays M x d e (λ g l. k g (item-forms M i x g a l)) z o
 
   -- close to an item, off its plane, all are free
-  pub free-beside : (i : ℕ) (x : Item) → At (items M) i x → OnItem M x d → (dot (item_normal x) e ≡ pos 0 → ⊥) → IsFree M e
+  pub free-beside : (i : ℕ) (x : Item) → IsAt (items M) i x → OnItem M x d → (dot (item_normal x) e ≡ pos 0 → ⊥) → IsFree M e
   free-beside i x a o f = let h = on-direction M x d o in record {
     direction = direction-around h;
     off_svertices = λ j v b w. on_item-off_svertices i x a o j v b (svertex-around j v b h w);
     off_items = λ j y b p.
         let q = item-around j y b h (on_item-off_svertices i x a o) p in
         let r = V.no_items_meet j i y x d b a q o in
-        let u = at-one (items M) i y x (subst (λ (l : ℕ). At (items M) l y) r b) a in
+        let u = at-one (items M) i y x (subst (λ (l : ℕ). IsAt (items M) l y) r b) a in
         f (on-level M x e (subst (λ (z : Item). OnItem M z e) u p));
   }

@@ -1,5 +1,5 @@
 -- A map that is built of a labelling is well shaped, and agrees with it; so it is valid and has its labels.
-use Rattle.law_sphere.proofs.Prelude.{◌≡◌, ℕ, zero, suc, ◌+◌, pos, arith, refl, ap, sym, ◌∙◌, ◌⊎◌, inl, inr, ⊎_elim, List, ◌∷◌, subst, Option, Some, None, [], ints, Sign, sign, by_order, nought-or, Vector, IsDirection, cross, dot, SameDirection, IsNormal, opposite, Label, At, MapVertex, Arc, MapSloop, Map, Item, arc_item, sloop_item, items, items_then, item_normal, item_pos, item_mark, item_neg, dir_of, OnItem, IsFree, Shaped, IsStrictlyOn, by_side, Labelling, Near, Plain, Agrees, StraightAt, IsSmooth, plain, straight, StraightAfter, Proper, IsBuilt, Decided, square-cross, SameDirection-turned, dir-self, dir-signs, direction-opposite, level-opposite, level-opposite-back, vector-same, is-at_none, is-at_first}
+use Rattle.law_sphere.proofs.Prelude.{◌≡◌, ℕ, zero, suc, ◌+◌, pos, arith, refl, ap, sym, ◌∙◌, ◌⊎◌, inl, inr, ⊎_elim, List, ◌∷◌, subst, Option, Some, None, [], ints, Sign, sign, by_order, nought-or, Vector, IsDirection, cross, dot, SameDirection, IsNormal, opposite, Label, IsAt, MapVertex, Arc, MapSloop, Map, Item, arc_item, sloop_item, items, items_then, item_normal, item_pos, item_mark, item_neg, dir_of, OnItem, IsFree, Shaped, IsStrictlyOn, by_side, Labelling, Near, Plain, Agrees, StraightAt, IsSmooth, plain, straight, StraightAfter, Proper, IsBuilt, Decided, square-cross, SameDirection-turned, dir-self, dir-signs, direction-opposite, level-opposite, level-opposite-back, vector-same, is-at_none, is-at_first}
 use Rattle.law_sphere.proofs.Vectors.{normal-direction, even-side}
 use Rattle.law_sphere.proofs.Generic.{amount}
 use Rattle.law_sphere.proofs.Lists.{Found, search_list, at-one}
@@ -23,17 +23,17 @@ abbrev pub dirs : List MapVertex → List Vector
 dirs [] = []
 dirs (v ∷ vs) = v.dir ∷ dirs vs
 
-pub at-dirs : (vs : List MapVertex) (k : ℕ) (v : MapVertex) → At vs k v → At (dirs vs) k v.dir
+pub at-dirs : (vs : List MapVertex) (k : ℕ) (v : MapVertex) → IsAt vs k v → IsAt (dirs vs) k v.dir
 at-dirs [] k v a = absurd (is-at_none a)
 at-dirs (u ∷ vs) zero v e = ap (λ (r : MapVertex). Some r.dir) (is-at_first e)
 at-dirs (u ∷ vs) (suc k) v a = at-dirs vs k v a
 
-pub dirs-at : (vs : List MapVertex) (k : ℕ) (x : Vector) → At (dirs vs) k x → (v : MapVertex) × At vs k v × (v.dir ≡ x)
+pub dirs-at : (vs : List MapVertex) (k : ℕ) (x : Vector) → IsAt (dirs vs) k x → (v : MapVertex) × IsAt vs k v × (v.dir ≡ x)
 dirs-at [] k x a = absurd (is-at_none a)
 dirs-at (u ∷ vs) zero x e = (u, refl, is-at_first e)
 dirs-at (u ∷ vs) (suc k) x a = dirs-at vs k x a
 
-sloops-one : (as' : List Arc) (o : Option MapSloop) (i k : ℕ) (l c : MapSloop) → At (items_then as' o) i (sloop_item l) → At (items_then as' o) k (sloop_item c) → i ≡ k
+sloops-one : (as' : List Arc) (o : Option MapSloop) (i k : ℕ) (l c : MapSloop) → IsAt (items_then as' o) i (sloop_item l) → IsAt (items_then as' o) k (sloop_item c) → i ≡ k
 sloops-one [] None i k l c a b = absurd (is-at_none a)
 sloops-one [] (Some m) zero zero l c a b = refl
 sloops-one [] (Some m) zero (suc k) l c a b = absurd (is-at_none b)
@@ -59,7 +59,7 @@ pub normal-or : (n : Vector) → IsDirection n → IsNormal n ⊎ IsNormal (away
 normal-or n h = ⊎_elim inl (λ m. inr (subst IsNormal (vector-same _ _ (omega (arith, ints)) (omega (arith, ints)) (omega (arith, ints))) m)) (normal-either n h)
 
 module _ (gs : List Vector) (F : Vector → Label → Type 0) (L : Labelling gs F) (axial : Axial gs) (M : Map) (B : IsBuilt M F) where
-  b-ends : (k : ℕ) (a : Arc) → At M.arcs k a → Ends M a
+  b-ends : (k : ℕ) (a : Arc) → IsAt M.arcs k a → Ends M a
   b-ends k a h =
       let b = B.arcs_between k a h in
       let e = dir-at M.svertices a.source b.source b.has_source in
@@ -77,19 +77,19 @@ module _ (gs : List Vector) (F : Vector → Label → Type 0) (L : Labelling gs 
         target_level = subst (λ (r : Vector). dot a.normal r ≡ pos 0) (sym f) b.level_target;
       }
 
-  b-normal : (k : ℕ) (x : Item) → At (items M) k x → IsDirection (item_normal x)
+  b-normal : (k : ℕ) (x : Item) → IsAt (items M) k x → IsDirection (item_normal x)
   b-normal k x a = normal-direction (item_normal x) (B.normals k x a)
 
   -- what lies on an item is plain or straight
-  on-smooth : (k : ℕ) (x : Item) → At (items M) k x → (d : Vector) → OnItem M x d → IsSmooth F d
+  on-smooth : (k : ℕ) (x : Item) → IsAt (items M) k x → (d : Vector) → OnItem M x d → IsSmooth F d
   on-smooth k x a d o = B.smooth d (on-direction M x d o) (λ j v b w. B.no_svertex_on_item j k v x b a (OnItem-by_signs M x d v.dir (λ g i. sym (dir-signs v.dir d g (B.svertex_dirs j v b) w)) o))
 
-  pub item-proper : (k : ℕ) (x : Item) → At (items M) k x → Proper (item_pos x) (item_mark x) (item_neg x)
+  pub item-proper : (k : ℕ) (x : Item) → IsAt (items M) k x → Proper (item_pos x) (item_mark x) (item_neg x)
   item-proper k (arc_item a) h = B.arc_proper k a (arc-at M.arcs M.sloop k a h)
   item-proper k (sloop_item l) h = B.sloop_proper l (sloop-at M.arcs M.sloop k l h)
 
   -- everywhere on an item the labels are the item's
-  everywhere : (k : ℕ) (x : Item) → At (items M) k x → (d : Vector) → OnItem M x d → StraightAt F (item_normal x) (item_pos x) (item_mark x) (item_neg x) d
+  everywhere : (k : ℕ) (x : Item) → IsAt (items M) k x → (d : Vector) → OnItem M x d → StraightAt F (item_normal x) (item_pos x) (item_mark x) (item_neg x) d
   everywhere k (arc_item a) h d o =
       let j = arc-at M.arcs M.sloop k a h in
       let e = b-ends k a j in
@@ -105,7 +105,7 @@ module _ (gs : List Vector) (F : Vector → Label → Type 0) (L : Labelling gs 
       sloop-along gs F L axial l.normal l.pos l.mark l.neg (B.sloop_proper l q) (b-normal k (sloop_item l) h) (λ w p. on-smooth k (sloop_item l) h w p) y.0 y.1 y.2 d o
 
   -- two items that share a direction lie in one plane
-  one-plane : (i k : ℕ) (x y : Item) (d : Vector) → At (items M) i x → At (items M) k y → OnItem M x d → OnItem M y d → SameDirection (item_normal x) (item_normal y)
+  one-plane : (i k : ℕ) (x y : Item) (d : Vector) → IsAt (items M) i x → IsAt (items M) k y → OnItem M x d → OnItem M y d → SameDirection (item_normal x) (item_normal y)
   one-plane i k x y d a b o p = by (beside (item_normal x) (item_normal y) (b-normal i x a) (b-normal k y b)
       (planes-parallel gs F L axial (item_normal x) (item_pos x) (item_mark x) (item_neg x) (item-proper i x a) (b-normal i x a) (item_normal y) (item_pos y) (item_mark y) (item_neg y) d (on-direction M x d o) (everywhere i x a d o) (everywhere k y b d p)))
     where
@@ -114,7 +114,7 @@ module _ (gs : List Vector) (F : Vector → Label → Type 0) (L : Labelling gs 
       by (other_way w) = absurd (normals-not_opposite (item_normal x) (item_normal y) (B.normals i x a) (B.normals k y b) w)
 
   -- an arc doesn't share its plane with the sloop
-  arc-off_sloop : (i k : ℕ) (a : Arc) (l : MapSloop) → At (items M) i (arc_item a) → At (items M) k (sloop_item l) → SameDirection a.normal l.normal → ⊥
+  arc-off_sloop : (i k : ℕ) (a : Arc) (l : MapSloop) → IsAt (items M) i (arc_item a) → IsAt (items M) k (sloop_item l) → SameDirection a.normal l.normal → ⊥
   arc-off_sloop i k a l h j w =
       let e = b-ends i a (arc-at M.arcs M.sloop i a h) in
       let z = B.svertex_dirs a.source e.source e.has_source in
@@ -123,7 +123,7 @@ module _ (gs : List Vector) (F : Vector → Label → Type 0) (L : Labelling gs 
         level = level-same a.normal l.normal e.source.dir e.source.dir w (dir-self e.source.dir z) (subst (λ (v : Vector). dot a.normal v ≡ pos 0) e.source_is e.source_level);
       })
 
-  none-meet : (i k : ℕ) (x y : Item) (d : Vector) → At (items M) i x → At (items M) k y → OnItem M x d → OnItem M y d → i ≡ k
+  none-meet : (i k : ℕ) (x y : Item) (d : Vector) → IsAt (items M) i x → IsAt (items M) k y → OnItem M x d → OnItem M y d → i ≡ k
   none-meet i k (sloop_item l) (sloop_item c) d a b o p = sloops-one M.arcs M.sloop i k l c a b
   none-meet i k (arc_item x) (sloop_item c) d a b o p = absurd (arc-off_sloop i k x c a b (one-plane i k (arc_item x) (sloop_item c) d a b o p))
   none-meet i k (sloop_item l) (arc_item y) d a b o p = absurd (arc-off_sloop k i y l b a (one-plane k i (arc_item y) (sloop_item l) d b a p o))
@@ -173,7 +173,7 @@ module _ (gs : List Vector) (F : Vector → Label → Type 0) (L : Labelling gs 
     ha = direction-opposite n hn
 
     -- s is the last svertex before d
-    module _ (k : ℕ) (v : MapVertex) (h : At M.svertices k v) (ls : dot n v.dir ≡ pos 0) (clear : (j : ℕ) (x : Vector) → At (dirs M.svertices) j x → IsStrictlyOn (opposite n) d v.dir x → ⊥) where
+    module _ (k : ℕ) (v : MapVertex) (h : IsAt M.svertices k v) (ls : dot n v.dir ≡ pos 0) (clear : (j : ℕ) (x : Vector) → IsAt (dirs M.svertices) j x → IsStrictlyOn (opposite n) d v.dir x → ⊥) where
       abbrev s : Vector
       s = v.dir
 
@@ -203,14 +203,14 @@ module _ (gs : List Vector) (F : Vector → Label → Type 0) (L : Labelling gs 
       caught : ⊥
       caught = by (B.arcs_all k v n a m b h normal ls proper after)
         where
-          by : (i : ℕ) × (c : Arc) × At M.arcs i c × (c.source ≡ k) × SameDirection n c.normal → ⊥
+          by : (i : ℕ) × (c : Arc) × IsAt M.arcs i c × (c.source ≡ k) × SameDirection n c.normal → ⊥
           by (i, c, ic, src, w) = cases (IsStrictlyOn-decided n s (dir_of M.svertices c.target) d) (IsStrictlyOn-decided n s d (dir_of M.svertices c.target))
             where
               e : Ends M c
               e = b-ends i c ic
 
               source-is : dir_of M.svertices c.source ≡ s
-              source-is = e.source_is ∙ ap (λ (r : MapVertex). r.dir) (at-one M.svertices k e.source v (subst (λ (j : ℕ). At M.svertices j e.source) src e.has_source) h)
+              source-is = e.source_is ∙ ap (λ (r : MapVertex). r.dir) (at-one M.svertices k e.source v (subst (λ (j : ℕ). IsAt M.svertices j e.source) src e.has_source) h)
 
               target-level : dot n (dir_of M.svertices c.target) ≡ pos 0
               target-level = level-same c.normal n (dir_of M.svertices c.target) (dir_of M.svertices c.target) (SameDirection-turned n c.normal w) (dir-self (dir_of M.svertices c.target) e.target_direction) e.target_level
@@ -219,7 +219,7 @@ module _ (gs : List Vector) (F : Vector → Label → Type 0) (L : Labelling gs 
               cases (inl o) y = G.off_items i (arc_item c) (at-arc M.arcs M.sloop i c ic)
                   (IsStrictlyOn-same n c.normal s (dir_of M.svertices c.source) (dir_of M.svertices c.target) (dir_of M.svertices c.target) d d w (subst (SameDirection s) (sym source-is) (dir-self s hs))
                   (dir-self (dir_of M.svertices c.target) e.target_direction) (dir-self d G.direction) o)
-              cases (inr f) (inl o) = clear c.target (dir_of M.svertices c.target) (subst (At (dirs M.svertices) c.target) (sym e.target_is) (at-dirs M.svertices c.target e.target e.has_target)) (reversed n s d (dir_of M.svertices c.target) hs o)
+              cases (inr f) (inl o) = clear c.target (dir_of M.svertices c.target) (subst (IsAt (dirs M.svertices) c.target) (sym e.target_is) (at-dirs M.svertices c.target e.target e.has_target)) (reversed n s d (dir_of M.svertices c.target) hs o)
               cases (inr f) (inr g) = G.off_svertices c.target e.target e.has_target (subst (λ (r : Vector). SameDirection r d) e.target_is
                   (ends-together n s (dir_of M.svertices c.target) d hn hs e.target_direction G.direction ls target-level p.level f g))
 
@@ -227,10 +227,10 @@ module _ (gs : List Vector) (F : Vector → Label → Type 0) (L : Labelling gs 
     straight-free : ⊥
     straight-free = by (search_list M.svertices (λ k v. dot n v.dir ≡ pos 0) (λ k v. nought-or (dot n v.dir)))
       where
-        at-listed : (s : Vector) → dot (opposite n) s ≡ pos 0 → ((j : ℕ) (x : Vector) → At (dirs M.svertices) j x → IsStrictlyOn (opposite n) d s x → ⊥) → (k : ℕ) → (v : MapVertex) × At M.svertices k v × (v.dir ≡ s) → ⊥
+        at-listed : (s : Vector) → dot (opposite n) s ≡ pos 0 → ((j : ℕ) (x : Vector) → IsAt (dirs M.svertices) j x → IsStrictlyOn (opposite n) d s x → ⊥) → (k : ℕ) → (v : MapVertex) × IsAt M.svertices k v × (v.dir ≡ s) → ⊥
         at-listed s l none k (v, h, e) = caught k v h (level-opposite-back n v.dir (subst (λ (r : Vector). dot (opposite n) r ≡ pos 0) (sym e) l)) (λ j x c o. none j x c (subst (λ (r : Vector). IsStrictlyOn (opposite n) d r x) e o))
 
-        by : Found M.svertices (λ k v. dot n v.dir ≡ pos 0) ⊎ ((k : ℕ) (v : MapVertex) → At M.svertices k v → dot n v.dir ≡ pos 0 → ⊥) → ⊥
+        by : Found M.svertices (λ k v. dot n v.dir ≡ pos 0) ⊎ ((k : ℕ) (v : MapVertex) → IsAt M.svertices k v → dot n v.dir ≡ pos 0 → ⊥) → ⊥
         by (inr none) = sloop (B.sloop_all n d a m b normal G.direction none proper p)
           where
             sloop : (l : MapSloop) × (M.sloop ≡ Some l) × SameDirection n l.normal → ⊥

@@ -1,5 +1,5 @@
 -- A built map is valid, has the labels that it was built of, and is least where its svertices are needed.
-use Rattle.law_sphere.proofs.Prelude.{arith, ℕ, ◌+◌, ◌≤◌, ap, sym, ◌∙◌, ⊎_elim, ◌↔◌, List, ◌++◌, subst, sign, nought-or, Lies, Place, Vector, IsDirection, cross, dot, IsZero, blend, Set, Label, HasLabel, Germ, carriers, At, MapVertex, Map, MapLabel, NearLabel, Valid, SameSigns, axes, forms, by_side, NearPlain, NearStraight, Least, Cone, Labelling, Near, IsSmooth, plain, straight, ByOp, IsBuilt, Kept, lies-left, lies-right, zero-decided, in-span}
+use Rattle.law_sphere.proofs.Prelude.{arith, ℕ, ◌+◌, ◌≤◌, ap, sym, ◌∙◌, ⊎_elim, ◌↔◌, List, ◌++◌, subst, sign, nought-or, Lies, SpacePoint, Vector, IsDirection, cross, dot, IsZero, blend, Set, Label, HasLabel, Germ, carriers, IsAt, MapVertex, Map, MapLabel, NearLabel, Valid, SameSigns, axes, forms, by_side, NearPlain, NearStraight, Least, Cone, Labelling, Near, IsSmooth, plain, straight, ByOp, IsBuilt, NoneSmooth, lies-left, lies-right, zero-decided, in-span}
 use Rattle.law_sphere.proofs.Generic.{amount, far-keeps, far-level}
 use Rattle.law_sphere.proofs.Forms.{axes-forms}
 use Rattle.law_sphere.proofs.Built.{agrees-valid, agrees-label, label-agrees}
@@ -55,7 +55,7 @@ module _ (gs : List Vector) (F : Vector → Label → Type 0) (L : Labelling gs 
             (λ f. near-labels d e (by_side P.pos P.label P.neg (sign (dot P.normal e))) h (P.near e f)) (zero-decided (cross d e));
       })
 
-  pub built-least : ((k : ℕ) (v : MapVertex) → At M.svertices k v → IsSmooth F v.dir → ⊥) → Least M
+  pub built-least : ((k : ℕ) (v : MapVertex) → IsAt M.svertices k v → IsSmooth F v.dir → ⊥) → Least M
   built-least kept = record {
     no_plain = λ k v a p. kept k v a (plain-labels v.dir (B.svertex_dirs k v a) p);
     no_straight = λ k v a p. kept k v a (straight-labels v.dir (B.svertex_dirs k v a) p);
@@ -63,7 +63,7 @@ module _ (gs : List Vector) (F : Vector → Label → Type 0) (L : Labelling gs 
   }
 
 -- ---- an operation on two maps
-pub op-build : (A B M : Map) (op : Label → Label → Label) → Valid A → Valid B → IsBuilt M (ByOp A B op) → Kept M (ByOp A B op)
+pub op-build : (A B M : Map) (op : Label → Label → Label) → Valid A → Valid B → IsBuilt M (ByOp A B op) → NoneSmooth M (ByOp A B op)
     → Valid M × Least M × ((d : Vector) (m : Label) → IsDirection d → MapLabel M d m ↔ ByOp A B op d m)
 op-build A B M op V W I K =
     let gs = forms A ++ forms B in
@@ -72,7 +72,7 @@ op-build A B M op V W I K =
     (built-valid gs (ByOp A B op) L axial M I, built-least gs (ByOp A B op) L axial M I K, built-labels gs (ByOp A B op) L axial M I)
 
 -- ---- a set
-pub set-build : (M : Map) (s : Set) (p : Place) → HasLabel s p M.mark → IsBuilt M (Germ s p) → Kept M (Germ s p) → Cone M s p × Least M
+pub set-build : (M : Map) (s : Set) (p : SpacePoint) → HasLabel s p M.mark → IsBuilt M (Germ s p) → NoneSmooth M (Germ s p) → Cone M s p × Least M
 set-build M s p h I K =
     let gs = axes ++ normals_of (carriers s) in
     let L = labelling-more (normals_of (carriers s)) gs (Germ s p) (λ g l. lies-right axes (normals_of (carriers s)) g l) (germ-labelling s p) in

@@ -1,5 +1,5 @@
 -- Two least maps with the same labels have the same svertices, and items in the same places.
-use Rattle.law_sphere.proofs.Prelude.{◌≡◌, ℕ, ℤ, pos, ◌+ℤ◌, ◌-ℤ◌, ◌*ℤ◌, ◌<ℤ◌, arith, refl, ap, sym, ◌∙◌, ⊎_elim, ◌∷◌, subst, [], ints, ring, at, num, ◌⊕◌, ◌⊖◌, ◌⊗◌, Sign, minus, nought, plus, sign, sign-plus, sign-minus, by_order, nought-or, Vector, IsDirection, cross, dot, IsZero, SameDirection, IsOpposite, IsNormal, blend, opposite, Label, comb, At, MapVertex, Map, Item, items, item_normal, item_pos, item_mark, item_neg, OnItem, IsFree, MapLabel, at_svertex, on_item, NearLabel, Valid, by_side, NearPlain, NearStraight, Least, SameLabels, dot-comm, zero-decided, self-pos, SameDirection-trans, scaled-coordinates, cross_of, dot-opposite, dot_of, dot_poly, numbers, vec}
+use Rattle.law_sphere.proofs.Prelude.{◌≡◌, ℕ, ℤ, pos, ◌+ℤ◌, ◌-ℤ◌, ◌*ℤ◌, ◌<ℤ◌, arith, refl, ap, sym, ◌∙◌, ⊎_elim, ◌∷◌, subst, [], ints, ring, at, num, ◌⊕◌, ◌⊖◌, ◌⊗◌, Sign, minus, nought, plus, sign, sign-plus, sign-minus, by_order, nought-or, Vector, IsDirection, cross, dot, IsZero, SameDirection, IsOpposite, IsNormal, blend, opposite, Label, comb, IsAt, MapVertex, Map, Item, items, item_normal, item_pos, item_mark, item_neg, OnItem, IsFree, MapLabel, at_svertex, on_item, NearLabel, Valid, by_side, NearPlain, NearStraight, Least, SameLabels, dot-comm, zero-decided, self-pos, SameDirection-trans, scaled-coordinates, cross_of, dot-opposite, dot_of, dot_poly, numbers, vec}
 use Rattle.law_sphere.proofs.Shot.{product-off}
 use Rattle.law_sphere.proofs.Vectors.{normal-is, normal-direction, dot-comb}
 use Rattle.law_sphere.proofs.Forms.{on-direction, PlaceOf, svertex_place, item_place, free_place, place_of}
@@ -48,11 +48,11 @@ straight-carried M N s d p = record { normal = p.normal; direction = p.direction
 pub record Matched (N : Map) (d : Vector) : Type 0 where
   pub number : ℕ
   pub svertex : MapVertex
-  pub listed : At N.svertices number svertex
+  pub listed : IsAt N.svertices number svertex
   pub same : SameDirection svertex.dir d
 
 -- a svertex of a least map is one of any map with the same labels
-pub svertex-matched : (M N : Map) → Valid M → Valid N → Least M → SameLabels N M → (k : ℕ) (v : MapVertex) → At M.svertices k v → Matched N v.dir
+pub svertex-matched : (M N : Map) → Valid M → Valid N → Least M → SameLabels N M → (k : ℕ) (v : MapVertex) → IsAt M.svertices k v → Matched N v.dir
 svertex-matched M N V W L s k v a = by (place_of N v.dir (V.shaped.svertex_dirs k v a))
   where
     by : PlaceOf N v.dir → Matched N v.dir
@@ -60,21 +60,21 @@ svertex-matched M N V W L s k v a = by (place_of N v.dir (V.shaped.svertex_dirs 
     by (item_place l x b o) = absurd (L.no_straight k v a (straight-carried N M s v.dir (item-straight N W v.dir l x b o)))
     by (free_place F) = absurd (L.no_plain k v a (plain-carried N M s v.dir (free-plain N W v.dir F)))
 
-pub svertex-mark : (M N : Map) → Valid N → SameLabels M N → (k l : ℕ) (v u : MapVertex) → At M.svertices k v → At N.svertices l u → SameDirection u.dir v.dir → SameDirection v.dir v.dir → v.mark ≡ u.mark
+pub svertex-mark : (M N : Map) → Valid N → SameLabels M N → (k l : ℕ) (v u : MapVertex) → IsAt M.svertices k v → IsAt N.svertices l u → SameDirection u.dir v.dir → SameDirection v.dir v.dir → v.mark ≡ u.mark
 svertex-mark M N W s k l v u a b w r = label-unique N W v.dir v.mark u.mark (s v.dir v.mark (at_svertex k v a r refl)) (at_svertex l u b w refl)
 
 -- ---- items
 pub record MatchedItem (N : Map) (x : Item) (d : Vector) : Type 0 where
   pub number : ℕ
   pub item : Item
-  pub listed : At (items N) number item
+  pub listed : IsAt (items N) number item
   pub on : OnItem N item d
   pub same : SameDirection (item_normal x) (item_normal item)
   pub same_pos : item_pos x ≡ item_pos item
   pub same_mark : item_mark x ≡ item_mark item
   pub same_neg : item_neg x ≡ item_neg item
 
-module _ (M N : Map) (V : Valid M) (W : Valid N) (L : Least M) (K : Least N) (s : SameLabels M N) (i : ℕ) (x : Item) (a : At (items M) i x) (d : Vector) (o : OnItem M x d) where
+module _ (M N : Map) (V : Valid M) (W : Valid N) (L : Least M) (K : Least N) (s : SameLabels M N) (i : ℕ) (x : Item) (a : IsAt (items M) i x) (d : Vector) (o : OnItem M x d) where
   abbrev n : Vector
   n = item_normal x
 
@@ -112,7 +112,7 @@ module _ (M N : Map) (V : Valid M) (W : Valid N) (L : Least M) (K : Least N) (s 
       let v = there-neg down b.0 (omega (arith, ints)) (near-free N W d F b.0 b.1 down) in
       L.items_differ i x a (u ∙ sym m) (v ∙ sym m)
 
-  module _ (j : ℕ) (y : Item) (b : At (items N) j y) (q : OnItem N y d) where
+  module _ (j : ℕ) (y : Item) (b : IsAt (items N) j y) (q : OnItem N y d) where
     abbrev m : Vector
     m = item_normal y
 

@@ -1,5 +1,5 @@
 -- The kind of the least map of a set at a point is the dimension of the set's flat directions there.
-use Rattle.law_sphere.proofs.Prelude.{◌≡◌, pos, arith, sym, ◌∙◌, inl, inr, ⊎_elim, subst, ints, Place, Vector, IsDirection, cross, vector, dot, IsZero, Set, Label, Germ, Flat, FlatDim, HasFlat, Germ-unique, label-one, germ_of, FlatCone-from_flat, Flat-from_cone, comb, Map, MapLabel, Least, Cone, Full, FlatMap, IsInVolume, IsInFacet, IsOnEdge, dot-comm, zero-decided, dot-zero, self-pos, cross-turned, apart, parallel-trans, level_cross_second}
+use Rattle.law_sphere.proofs.Prelude.{◌≡◌, pos, arith, sym, ◌∙◌, inl, inr, ⊎_elim, subst, ints, SpacePoint, Vector, IsDirection, cross, vector, dot, IsZero, Set, Label, Germ, Flat, FlatDim, HasFlat, Germ-unique, label-one, germ_of, FlatCone-from_flat, Flat-from_cone, comb, Map, MapLabel, Least, Cone, Full, FlatMap, IsInVolume, IsInFacet, IsOnEdge, dot-comm, zero-decided, dot-zero, self-pos, cross-turned, apart, parallel-trans, level_cross_second}
 use Rattle.nef_space.proofs.ArithmeticExamples.{in_plane}
 use Rattle.law_near.proofs.Rays.{Germ-zero}
 use Rattle.law_sphere.proofs.Vectors.{normal-is}
@@ -10,7 +10,7 @@ use Rattle.law_sphere.proofs.Arcs.{at-sloop}
 use Rattle.law_sphere.proofs.KindFlats.{volume-flat, facet-flat, facet-only}
 use Rattle.law_sphere.proofs.KindLaws.{KindOf, flat-kind, edge-flat, edge-only}
 
-module _ (M : Map) (s : Set) (p : Place) (C : Cone M s p) where
+module _ (M : Map) (s : Set) (p : SpacePoint) (C : Cone M s p) where
   -- the map's labels are the germs, toward nought too
   germ-full : (e : Vector) (m : Label) → Full M e m → Germ s p e m
   germ-full e m (inl z) = let g = germ_of s p e in subst (Germ s p e) (label-one s p g.0 M.mark ((Germ-zero s p e g.0 z.0).0 g.1) C.mark ∙ z.1) g.1

@@ -1,5 +1,5 @@
 -- A free direction that isn't in the plane of some item is seen directly by a side.
-use Rattle.law_sphere.proofs.Prelude.{◌≡◌, ℕ, ◌<◌, ℤ, pos, ◌+ℤ◌, ◌-ℤ◌, ◌*ℤ◌, ◌<ℤ◌, arith, refl, ap, sym, ◌∙◌, inl, inr, ⊎_elim, List, ◌∷◌, ◌++◌, [], ints, ring, at, num, ◌⊕◌, ◌⊖◌, ◌⊗◌, sign, by_order, sign-scaled, nought-or, square_pos, Lies, Vector, IsDirection, cross, dot, IsZero, SameDirection, blend, Label, comb, At, MapVertex, Map, Item, items, item_normal, item_pos, item_neg, OnItem, IsFree, Side, pos_item, neg_item, HasSide, IsClear, Reaches, Shaped, lies-left, lies-right, apart, blend_of, cross_of, dot-comm, numbers, square-cross, vec}
+use Rattle.law_sphere.proofs.Prelude.{◌≡◌, ℕ, ◌<◌, ℤ, pos, ◌+ℤ◌, ◌-ℤ◌, ◌*ℤ◌, ◌<ℤ◌, arith, refl, ap, sym, ◌∙◌, inl, inr, ⊎_elim, List, ◌∷◌, ◌++◌, [], ints, ring, at, num, ◌⊕◌, ◌⊖◌, ◌⊗◌, sign, by_order, sign-scaled, nought-or, square_pos, Lies, Vector, IsDirection, cross, dot, IsZero, SameDirection, blend, Label, comb, IsAt, MapVertex, Map, Item, items, item_normal, item_pos, item_neg, OnItem, IsFree, Side, pos_item, neg_item, HasSide, IsClear, Reaches, Shaped, lies-left, lies-right, apart, blend_of, cross_of, dot-comm, numbers, square-cross, vec}
 use Rattle.law_sphere.proofs.Vectors.{normal-is, dot-comb, comb-dot, direction-by}
 use Rattle.law_sphere.proofs.Generic.{Keeps, Generic, generic}
 use Rattle.law_sphere.proofs.Lists.{gather, gather-has}
@@ -66,7 +66,7 @@ pub slid_form-at : (n d g y : Vector) → dot n y ≡ pos 0 → dot (slid_form n
 slid_form-at n d g y z = comb-dot (dot n d *ℤ dot n d) g (pos 0 -ℤ dot n d *ℤ dot g d) n y ∙ ap (λ r. dot n d *ℤ dot n d *ℤ dot g y +ℤ (pos 0 -ℤ dot n d *ℤ dot g d) *ℤ r) z
     ∙ ring (dot n d ∷ dot g d ∷ dot g y ∷ []) (at 0 ⊗ at 0 ⊗ at 2 ⊕ (num (pos 0) ⊖ at 0 ⊗ at 1) ⊗ num (pos 0)) (at 0 ⊗ at 0 ⊗ at 2) tt
 
-module _ (M : Map) (V : Shaped M) (d : Vector) (k : ℕ) (x : Item) (here : At (items M) k x) (f : dot (item_normal x) d ≡ pos 0 → ⊥) where
+module _ (M : Map) (V : Shaped M) (d : Vector) (k : ℕ) (x : Item) (here : IsAt (items M) k x) (f : dot (item_normal x) d ≡ pos 0 → ⊥) where
   abbrev n : Vector
   n = item_normal x
 
@@ -82,10 +82,10 @@ module _ (M : Map) (V : Shaped M) (d : Vector) (k : ℕ) (x : Item) (here : At (
   abbrev avoided : List Vector
   avoided = spots ++ (planes ++ slides)
 
-  spot-in : (l : ℕ) (v : MapVertex) → At M.svertices l v → Lies avoided (cross d v.dir)
+  spot-in : (l : ℕ) (v : MapVertex) → IsAt M.svertices l v → Lies avoided (cross d v.dir)
   spot-in l v a = lies-left spots (planes ++ slides) (cross d v.dir) (gather-has (λ (v : MapVertex). cross d v.dir ∷ []) M.svertices l v (cross d v.dir) a (inl refl))
 
-  plane-in : (l : ℕ) (y : Item) → At (items M) l y → Lies avoided (item_normal y)
+  plane-in : (l : ℕ) (y : Item) → IsAt (items M) l y → Lies avoided (item_normal y)
   plane-in l y a = lies-right spots (planes ++ slides) (item_normal y) (lies-left planes slides (item_normal y) (gather-has (λ (y : Item). item_normal y ∷ []) (items M) l y (item_normal y) a (inl refl)))
 
   slide-in : (g : Vector) → Lies (item_forms M x) g → Lies avoided (slid_form n d g)
@@ -148,7 +148,7 @@ module _ (M : Map) (V : Shaped M) (d : Vector) (F : IsFree M d) where
         };
       }
 
-  pub direct : (k : ℕ) (x : Item) → At (items M) k x → (dot (item_normal x) d ≡ pos 0 → ⊥) → Direct M d
+  pub direct : (k : ℕ) (x : Item) → IsAt (items M) k x → (dot (item_normal x) d ≡ pos 0 → ⊥) → Direct M d
   direct k x h f =
       let s = shot M V d k x h f in
       let t = s.target in

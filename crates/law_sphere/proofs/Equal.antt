@@ -1,5 +1,5 @@
 -- Two least maps with one mark and one label in every direction are equal; so a set has at most one least map at a point.
-use Rattle.law_sphere.proofs.Prelude.{◌≡◌, ℕ, zero, suc, ℤ, pos, ◌+ℤ◌, ◌-ℤ◌, ◌*ℤ◌, ◌<ℤ◌, arith, refl, ap, sym, ◌∙◌, inl, inr, ⊎_elim, List, ◌∷◌, subst, Option, Some, None, [], ints, ring, at, num, ◌⊕◌, ◌⊖◌, ◌⊗◌, by_order, mul_pos, mul_le_right, cancel_eq, Place, Vector, IsDirection, cross, dot, IsZero, SameDirection, Set, Label, Germ-unique, label-one, IsPrimitive, VectorBelow, At, MapVertex, Arc, MapSloop, Map, arc_item, sloop_item, dir_of, MapLabel, Valid, Least, SameLabels, MatchedArc, Within, ArcBelow, InOrder, Ordered, Cone, self-pos, vector-same, SameDirection-turned, direction-right, direction-left, scaled-coordinates, is-at_none, is-at_first}
+use Rattle.law_sphere.proofs.Prelude.{◌≡◌, ℕ, zero, suc, ℤ, pos, ◌+ℤ◌, ◌-ℤ◌, ◌*ℤ◌, ◌<ℤ◌, arith, refl, ap, sym, ◌∙◌, inl, inr, ⊎_elim, List, ◌∷◌, subst, Option, Some, None, [], ints, ring, at, num, ◌⊕◌, ◌⊖◌, ◌⊗◌, by_order, mul_pos, mul_le_right, cancel_eq, SpacePoint, Vector, IsDirection, cross, dot, IsZero, SameDirection, Set, Label, Germ-unique, label-one, IsPrimitive, VectorBelow, IsAt, MapVertex, Arc, MapSloop, Map, arc_item, sloop_item, dir_of, MapLabel, Valid, Least, SameLabels, MatchedArc, MatchesInto, ArcBelow, InOrder, Ordered, Cone, self-pos, vector-same, SameDirection-turned, direction-right, direction-left, scaled-coordinates, is-at_none, is-at_first}
 use Rattle.law_sphere.proofs.Labels.{label-direction, label-unique}
 use Rattle.law_sphere.proofs.Compare.{labels-turned}
 use Rattle.law_sphere.proofs.Arcs.{Ends, ends-of, at-arc, at-sloop}
@@ -80,7 +80,7 @@ arc-below a b (inr x) (inl y) = below-itself b.normal a.normal (sym x.0) y
 arc-below a b (inr x) (inr y) = let p = x.1 in let q = y.1 in omega arith
 
 pub same-lists : {A : Type 0} (Below : A → A → Type 0) → ((x y : A) → Below x y → Below y x → ⊥) → (xs ys : List A)
-    → InOrder Below xs → InOrder Below ys → ((k : ℕ) (x : A) → At xs k x → (l : ℕ) × At ys l x) → ((k : ℕ) (y : A) → At ys k y → (l : ℕ) × At xs l y) → xs ≡ ys
+    → InOrder Below xs → InOrder Below ys → ((k : ℕ) (x : A) → IsAt xs k x → (l : ℕ) × IsAt ys l x) → ((k : ℕ) (y : A) → IsAt ys k y → (l : ℕ) × IsAt xs l y) → xs ≡ ys
 same-lists Below asym [] [] o p f g = refl
 same-lists Below asym [] (y ∷ ys) o p f g = let r = g zero y refl in absurd (is-at_none r.1)
 same-lists Below asym (x ∷ xs) [] o p f g = let r = f zero x refl in absurd (is-at_none r.1)
@@ -90,12 +90,12 @@ same-lists {A} Below asym (x ∷ xs) (y ∷ ys) o p f g =
     (λ k a m. later x y xs ys o e k a m (f (suc k) a m)) (λ k a m. later y x ys xs p (sym e) k a m (g (suc k) a m)) in
     ap (λ r. r ∷ xs) e ∙ ap (λ r. y ∷ r) t
   where
-    heads : (l : ℕ) × At (y ∷ ys) l x → (l : ℕ) × At (x ∷ xs) l y → x ≡ y
+    heads : (l : ℕ) × IsAt (y ∷ ys) l x → (l : ℕ) × IsAt (x ∷ xs) l y → x ≡ y
     heads (zero, a) b = sym (is-at_first a)
     heads (suc l, a) (zero, b) = is-at_first b
     heads (suc l, a) (suc k, b) = absurd (asym x y (o zero (suc k) x y (omega arith) refl b) (p zero (suc l) y x (omega arith) refl a))
 
-    later : (x y : A) (xs ys : List A) → InOrder Below (x ∷ xs) → x ≡ y → (k : ℕ) (a : A) → At xs k a → (l : ℕ) × At (y ∷ ys) l a → (l : ℕ) × At ys l a
+    later : (x y : A) (xs ys : List A) → InOrder Below (x ∷ xs) → x ≡ y → (k : ℕ) (a : A) → IsAt xs k a → (l : ℕ) × IsAt (y ∷ ys) l a → (l : ℕ) × IsAt ys l a
     later x y xs ys o e k a m (zero, h) = let b = o zero (suc k) x a (omega arith) refl m in let c = subst (λ (r : A). Below x r) (sym (e ∙ is-at_first h)) b in absurd (asym x x c c)
     later x y xs ys o e k a m (suc l, h) = (l, h)
 
@@ -129,29 +129,29 @@ map-equal M N a b c d e =
 
 -- ---- maps that hold the same things
 module _ (M N : Map) (V : Valid M) (W : Valid N) (O : Ordered M) (P : Ordered N) where
-  carry-svertex : Within M N → (k : ℕ) (v : MapVertex) → At M.svertices k v → (l : ℕ) × At N.svertices l v
+  carry-svertex : MatchesInto M N → (k : ℕ) (v : MapVertex) → IsAt M.svertices k v → (l : ℕ) × IsAt N.svertices l v
   carry-svertex w k v a =
       let m = w.svertices k v a in
       let e = svertex-equal v m.svertex (lowest-same v.dir m.svertex.dir m.dir (O.dirs_lowest k v a) (P.dirs_lowest m.number m.svertex m.listed)) m.mark m.around in
-      (m.number, subst (λ (r : MapVertex). At N.svertices m.number r) (sym e) m.listed)
+      (m.number, subst (λ (r : MapVertex). IsAt N.svertices m.number r) (sym e) m.listed)
 
-  carry-arc : Within M N → M.svertices ≡ N.svertices → (k : ℕ) (a : Arc) → At M.arcs k a → (l : ℕ) × At N.arcs l a
+  carry-arc : MatchesInto M N → M.svertices ≡ N.svertices → (k : ℕ) (a : Arc) → IsAt M.arcs k a → (l : ℕ) × IsAt N.arcs l a
   carry-arc w q k a h = by (w.arcs k a h)
     where
-      by : MatchedArc M N a → (l : ℕ) × At N.arcs l a
+      by : MatchedArc M N a → (l : ℕ) × IsAt N.arcs l a
       by m = with_ends (ends-of M V.shaped k a h) (ends-of N W.shaped m.number m.arc m.listed)
         where
-          number-same : (i j : ℕ) (u v : MapVertex) → At M.svertices i u → At N.svertices j v → dir_of M.svertices i ≡ u.dir → dir_of N.svertices j ≡ v.dir → SameDirection (dir_of M.svertices i) (dir_of N.svertices j) → i ≡ j
-          number-same i j u v a b e f s = V.shaped.svertices_apart i j u v a (subst (λ (r : List MapVertex). At r j v) (sym q) b) (subst (λ (r : Vector). SameDirection r v.dir) e (subst (λ (r : Vector). SameDirection (dir_of M.svertices i) r) f s))
+          number-same : (i j : ℕ) (u v : MapVertex) → IsAt M.svertices i u → IsAt N.svertices j v → dir_of M.svertices i ≡ u.dir → dir_of N.svertices j ≡ v.dir → SameDirection (dir_of M.svertices i) (dir_of N.svertices j) → i ≡ j
+          number-same i j u v a b e f s = V.shaped.svertices_apart i j u v a (subst (λ (r : List MapVertex). IsAt r j v) (sym q) b) (subst (λ (r : Vector). SameDirection r v.dir) e (subst (λ (r : Vector). SameDirection (dir_of M.svertices i) r) f s))
 
-          with_ends : Ends M a → Ends N m.arc → (l : ℕ) × At N.arcs l a
+          with_ends : Ends M a → Ends N m.arc → (l : ℕ) × IsAt N.arcs l a
           with_ends x y =
               let n = lowest-same a.normal m.arc.normal m.normal (O.normals_lowest k (arc_item a) (at-arc M.arcs M.sloop k a h)) (P.normals_lowest m.number (arc_item m.arc) (at-arc N.arcs N.sloop m.number m.arc m.listed)) in
               let s = number-same a.source m.arc.source x.source y.source x.has_source y.has_source x.source_is y.source_is m.source in
               let t = number-same a.target m.arc.target x.target y.target x.has_target y.has_target x.target_is y.target_is m.target in
-              (m.number, subst (λ (r : Arc). At N.arcs m.number r) (sym (arc-equal a m.arc n s t m.pos m.mark m.neg)) m.listed)
+              (m.number, subst (λ (r : Arc). IsAt N.arcs m.number r) (sym (arc-equal a m.arc n s t m.pos m.mark m.neg)) m.listed)
 
-module _ (M N : Map) (V : Valid M) (W : Valid N) (O : Ordered M) (P : Ordered N) (w : Within M N) (x : Within N M) where
+module _ (M N : Map) (V : Valid M) (W : Valid N) (O : Ordered M) (P : Ordered N) (w : MatchesInto M N) (x : MatchesInto N M) where
   svertices-same : M.svertices ≡ N.svertices
   svertices-same = same-lists (λ (u v : MapVertex). VectorBelow u.dir v.dir) (λ u v. vector-below u.dir v.dir) M.svertices N.svertices O.svertices P.svertices (carry-svertex M N V W O P w) (carry-svertex N M W V P O x)
 
@@ -181,7 +181,7 @@ least-unique M N V W O P L K e s =
     maps-same M N V W O P (within M N V W L K s) (within N M W V K L t) e
 
 -- ---- the least map of a set at a point
-pub cone-labels : (M N : Map) (s : Set) (p : Place) → Cone M s p → Cone N s p → SameLabels M N
+pub cone-labels : (M N : Map) (s : Set) (p : SpacePoint) → Cone M s p → Cone N s p → SameLabels M N
 cone-labels M N s p C D d m a =
     let h = label-direction M d m a in
     let x = C.labels d h in
@@ -189,5 +189,5 @@ cone-labels M N s p C D d m a =
     let e = label-unique M C.valid d m x.0 a x.1 ∙ Germ-unique s p d x.0 y.0 x.2 y.2 in
     subst (λ (r : Label). MapLabel N d r) (sym e) y.1
 
-pub cone-unique : (M N : Map) (s : Set) (p : Place) → Cone M s p → Cone N s p → Ordered M → Ordered N → Least M → Least N → M ≡ N
+pub cone-unique : (M N : Map) (s : Set) (p : SpacePoint) → Cone M s p → Cone N s p → Ordered M → Ordered N → Least M → Least N → M ≡ N
 cone-unique M N s p C D O P L K = least-unique M N C.valid D.valid O P L K (label-one s p M.mark N.mark C.mark D.mark) (cone-labels M N s p C D)

@@ -1,5 +1,5 @@
 -- The way from a direction that sees a svertex to one close to the svertex, where no ray of the svertex lies between.
-use Rattle.law_sphere.proofs.Prelude.{◌≡◌, ℕ, zero, suc, ◌+◌, ◌<◌, ◌≤◌, ℤ, pos, nat_abs, ◌+ℤ◌, ◌*ℤ◌, ◌-ℤ◌, ◌<ℤ◌, arith, refl, ap, sym, ◌∙◌, inl, ⊎_elim, List, ◌∷◌, subst, [], ints, ring, at, num, ◌⊕◌, ◌⊖◌, ◌⊗◌, sign, nought-is, by_order, mul_pos, mul_neg, sign-scaled, nought-or, square_pos, follows, given, none as none_given, Vector, IsDirection, triple, cross, dot, SameDirection, blend, same-off, At, MapVertex, Map, Item, items, item_normal, OnItem, IsClear, Shaped, ArcRay, ray_left, Keeps, forms, gather, dot-zero, vector-same, triple-in_plane, cross-none, blend_of, cross_of, numbers, triple_of, triple_poly, vec, is-at_none, is-at_first}
+use Rattle.law_sphere.proofs.Prelude.{◌≡◌, ℕ, zero, suc, ◌+◌, ◌<◌, ◌≤◌, ℤ, pos, nat_abs, ◌+ℤ◌, ◌*ℤ◌, ◌-ℤ◌, ◌<ℤ◌, arith, refl, ap, sym, ◌∙◌, inl, ⊎_elim, List, ◌∷◌, subst, [], ints, ring, at, num, ◌⊕◌, ◌⊖◌, ◌⊗◌, sign, nought-is, by_order, mul_pos, mul_neg, sign-scaled, nought-or, square_pos, follows, given, none as none_given, Vector, IsDirection, triple, cross, dot, SameDirection, blend, same-off, IsAt, MapVertex, Map, Item, items, item_normal, OnItem, IsClear, Shaped, ArcRay, ray_left, Keeps, forms, gather, dot-zero, vector-same, triple-in_plane, cross-none, blend_of, cross_of, numbers, poly_triple, triple_poly, vec, is-at_none, is-at_first}
 use Rattle.law_sphere.proofs.Vectors.{dot-comb, normal-is, direction-by, same-plus, same-minus}
 use Rattle.law_sphere.proofs.Generic.{amount, far-keeps, far-level}
 use Rattle.law_sphere.proofs.Lists.{gather-has}
@@ -11,15 +11,15 @@ use Rattle.law_sphere.proofs.Walk.{between-direction}
 use Rattle.law_sphere.proofs.NearSvertex.{near-ray}
 
 -- a bound of finitely many numbers
-pub bound-of : {A : Type 0} (xs : List A) (g : A → ℕ) → (n : ℕ) × ((k : ℕ) (x : A) → At xs k x → g x ≤ n)
+pub bound-of : {A : Type 0} (xs : List A) (g : A → ℕ) → (n : ℕ) × ((k : ℕ) (x : A) → IsAt xs k x → g x ≤ n)
 bound-of [] g = (0, λ k x a. absurd (is-at_none a))
 bound-of {A} (y ∷ ys) g = let r = bound-of ys g in (g y + r.0, by r.0 r.1)
   where
-    by : (n : ℕ) → ((k : ℕ) (x : A) → At ys k x → g x ≤ n) → (k : ℕ) (x : A) → At (y ∷ ys) k x → g x ≤ g y + n
+    by : (n : ℕ) → ((k : ℕ) (x : A) → IsAt ys k x → g x ≤ n) → (k : ℕ) (x : A) → IsAt (y ∷ ys) k x → g x ≤ g y + n
     by n h zero x e = subst (λ (r : A). g r ≤ g y + n) (is-at_first e) (omega arith)
     by n h (suc k) x a = let q = h k x a in omega arith
 
-module _ (M : Map) (V : Shaped M) (k : ℕ) (v : MapVertex) (a : At M.svertices k v) (d f : Vector) (way : IsClear M d v.dir) (wide : triple v.dir d f ≡ pos 0 → ⊥)
+module _ (M : Map) (V : Shaped M) (k : ℕ) (v : MapVertex) (a : IsAt M.svertices k v) (d f : Vector) (way : IsClear M d v.dir) (wide : triple v.dir d f ≡ pos 0 → ⊥)
     (none : (i j : ℕ) → 0 < i → 0 < j → (r : ArcRay M k) → SameDirection (ray_left r) (cross v.dir (blend i d j f)) → ⊥) where
   abbrev p : Vector
   p = v.dir
@@ -30,7 +30,7 @@ module _ (M : Map) (V : Shaped M) (k : ℕ) (v : MapVertex) (a : At M.svertices 
   abbrev bend : Item → Vector
   bend x = slid (item_normal x) d f
 
-  items_bound : (n : ℕ) × ((l : ℕ) (x : Item) → At (items M) l x → amount (forms M) (bend x) ≤ n)
+  items_bound : (n : ℕ) × ((l : ℕ) (x : Item) → IsAt (items M) l x → amount (forms M) (bend x) ≤ n)
   items_bound = bound-of (items M) (λ x. amount (forms M) (bend x))
 
   abbrev enough : ℕ
@@ -42,12 +42,12 @@ module _ (M : Map) (V : Shaped M) (k : ℕ) (v : MapVertex) (a : At M.svertices 
 
     -- p.(d x c) = p.(d x f)
     turn : triple p d c ≡ triple p d f
-    turn = ring (pos number ∷ numbers p d f f) (triple_of (vec 1) (vec 4) (blend_of (at 0) (vec 1) (num (pos 1)) (vec 7))) (triple_poly 1 4 7) tt
+    turn = ring (pos number ∷ numbers p d f f) (poly_triple (vec 1) (vec 4) (blend_of (at 0) (vec 1) (num (pos 1)) (vec 7))) (triple_poly 1 4 7) tt
 
     apart : IsDirection (cross d c)
     apart z = wide (sym turn ∙ dot-zero p (cross d c) z)
 
-    off_svertex : (l : ℕ) (u : MapVertex) → At M.svertices l u → IsDirection (cross d u.dir) → dot (cross d u.dir) c ≡ pos 0 → ⊥
+    off_svertex : (l : ℕ) (u : MapVertex) → IsAt M.svertices l u → IsDirection (cross d u.dir) → dot (cross d u.dir) c ≡ pos 0 → ⊥
     off_svertex l u b h z = ⊎_elim
         (λ y.
         let e = far-level crosses p f number (omega arith) g y in
@@ -65,7 +65,7 @@ module _ (M : Map) (V : Shaped M) (k : ℕ) (v : MapVertex) (a : At M.svertices 
 
       -- f.(p x w) = i p.(d x f), and p x w = p x (i d + j f)
       beside : dot f (cross p w) ≡ pos i *ℤ triple p d f
-      beside = ring (pos number ∷ pos i ∷ pos j ∷ numbers p d f f) (triple_of (vec 9) (vec 3) (blend_of (at 1) (vec 6) (at 2) (blend_of (at 0) (vec 3) (num (pos 1)) (vec 9)))) (at 1 ⊗ triple_poly 3 6 9) tt
+      beside = ring (pos number ∷ pos i ∷ pos j ∷ numbers p d f f) (poly_triple (vec 9) (vec 3) (blend_of (at 1) (vec 6) (at 2) (blend_of (at 0) (vec 3) (num (pos 1)) (vec 9)))) (at 1 ⊗ triple_poly 3 6 9) tt
 
       off_svertex_way : IsDirection (cross p w)
       off_svertex_way = direction-by f (cross p w) (λ z. product-off (pos i) (triple p d f) (omega (arith, ints)) wide (sym beside ∙ z))
@@ -76,7 +76,7 @@ module _ (M : Map) (V : Shaped M) (k : ℕ) (v : MapVertex) (a : At M.svertices 
           let k = cross_of (vec 3) (blend_of (at 1) (vec 6) (at 2) (blend_of (at 0) (vec 3) (num (pos 1)) (vec 9))) in let m = cross_of (vec 3) (blend_of (at 1) (vec 6) (at 2) (vec 9)) in
           vector-same _ _ (ring xs k.0 m.0 tt) (ring xs k.1 m.1 tt) (ring xs k.2 m.2 tt)
 
-      module _ (l : ℕ) (x : Item) (h : At (items M) l x) (o : OnItem M x w) where
+      module _ (l : ℕ) (x : Item) (h : IsAt (items M) l x) (o : OnItem M x w) where
         abbrev n : Vector
         n = item_normal x
 

@@ -1,5 +1,5 @@
 -- Arcs of one circle from one source lie in each other; the first of a list after a direction; arcs that meet begin together.
-use Rattle.law_sphere.proofs.Prelude.{◌≡◌, ℕ, zero, suc, ℤ, pos, ◌+ℤ◌, ◌-ℤ◌, ◌*ℤ◌, ◌≤ℤ◌, ◌<ℤ◌, arith, refl, ap, sym, ◌⊎◌, inl, inr, ⊎_elim, List, ◌∷◌, subst, [], ints, ring, at, num, ◌⊖◌, ◌⊗◌, by_order, mul_pos, mul_nonneg, Vector, IsDirection, cross, triple, dot, SameDirection, IsOpposite, At, IsStrictlyOn, Decided, dot-comm, dot-zero, self-pos, cross-turned, triple-turned, opposites, SameDirection-turned, SameDirection-trans, dir-self, parallel-in_plane, is-at_first, is-at_none}
+use Rattle.law_sphere.proofs.Prelude.{◌≡◌, ℕ, zero, suc, ℤ, pos, ◌+ℤ◌, ◌-ℤ◌, ◌*ℤ◌, ◌≤ℤ◌, ◌<ℤ◌, arith, refl, ap, sym, ◌⊎◌, inl, inr, ⊎_elim, List, ◌∷◌, subst, [], ints, ring, at, num, ◌⊖◌, ◌⊗◌, by_order, mul_pos, mul_nonneg, Vector, IsDirection, cross, triple, dot, SameDirection, IsOpposite, IsAt, IsStrictlyOn, Decided, dot-comm, dot-zero, self-pos, cross-turned, triple-turned, opposites, SameDirection-turned, SameDirection-trans, dir-self, parallel-in_plane, is-at_first, is-at_none}
 use Rattle.law_sphere.proofs.Turning.{turns}
 use Rattle.law_sphere.proofs.Vectors.{same-plus, same-minus}
 use Rattle.law_sphere.proofs.Places.{IsStrictlyOn-decided, SameDirection-decided}
@@ -89,10 +89,10 @@ module _ (n s t : Vector) (hn : IsDirection n) (hs : IsDirection s) (ht : IsDire
 -- ---- the first of a list
 pub record First (n s : Vector) (xs : List Vector) : Type 0 where
   pub target : Vector
-  pub listed : (s ≡ target) ⊎ ((k : ℕ) × At xs k target)
+  pub listed : (s ≡ target) ⊎ ((k : ℕ) × IsAt xs k target)
   pub direction : IsDirection target
   pub level : dot n target ≡ pos 0
-  pub none_before : (k : ℕ) (x : Vector) → At xs k x → IsStrictlyOn n s target x → ⊥
+  pub none_before : (k : ℕ) (x : Vector) → IsAt xs k x → IsStrictlyOn n s target x → ⊥
 
 module _ (n s : Vector) (hn : IsDirection n) (hs : IsDirection s) (ls : dot n s ≡ pos 0) where
   pub first-after : (xs : List Vector) → First n s xs
@@ -105,11 +105,11 @@ module _ (n s : Vector) (hn : IsDirection n) (hs : IsDirection s) (ls : dot n s 
           (λ f. record { target = r.target; listed = ⊎_elim (λ e. inl e) (λ k. inr (suc k.0, k.1)) r.listed; direction = r.direction; level = r.level; none_before = same f })
           (IsStrictlyOn-decided n s r.target x)
         where
-          shorter : IsStrictlyOn n s r.target x → (k : ℕ) (y : Vector) → At (x ∷ xs) k y → IsStrictlyOn n s x y → ⊥
+          shorter : IsStrictlyOn n s r.target x → (k : ℕ) (y : Vector) → IsAt (x ∷ xs) k y → IsStrictlyOn n s x y → ⊥
           shorter o zero y e p = p.not_target (subst (SameDirection x) (is-at_first e) (dir-self x o.on_circle.direction))
           shorter o (suc k) y a p = r.none_before k y a (nested n s r.target hn hs r.direction ls r.level x y o p)
 
-          same : (IsStrictlyOn n s r.target x → ⊥) → (k : ℕ) (y : Vector) → At (x ∷ xs) k y → IsStrictlyOn n s r.target y → ⊥
+          same : (IsStrictlyOn n s r.target x → ⊥) → (k : ℕ) (y : Vector) → IsAt (x ∷ xs) k y → IsStrictlyOn n s r.target y → ⊥
           same f zero y e p = f (subst (IsStrictlyOn n s r.target) (sym (is-at_first e)) p)
           same f (suc k) y a p = r.none_before k y a p
 

@@ -1,5 +1,5 @@
 -- Where a least map stays the same along d, each svertex is parallel to d and each sloop holds d.
-use Rattle.law_sphere.proofs.Prelude.{◌≡◌, ℕ, ◌+◌, ◌*◌, ◌<◌, ◌≤◌, ℤ, pos, ◌+ℤ◌, ◌-ℤ◌, ◌*ℤ◌, ◌≤ℤ◌, nat_abs, arith, ap, sym, ◌∙◌, inl, inr, ⊎_elim, List, ◌∷◌, subst, neg_ℤ, [], ints, unsigned_abs-mul, mul-le, ring, at, num, ◌⊕◌, ◌⊖◌, ◌⊗◌, neg, sign, sign-plus, sign-minus, by_order, mul_le_right, sign-scaled, nought-or, Vector, IsDirection, cross, dot, IsZero, blend, opposite, Label, comb, At, MapVertex, Map, MapLabel, NearLabel, Valid, SameSigns, forms, by_side, NearStraight, Least, Full, FlatMap, dot-comm, zero-decided, self-pos, vector-same, apart, direction-opposite, dot-opposite}
+use Rattle.law_sphere.proofs.Prelude.{◌≡◌, ℕ, ◌+◌, ◌*◌, ◌<◌, ◌≤◌, ℤ, pos, ◌+ℤ◌, ◌-ℤ◌, ◌*ℤ◌, ◌≤ℤ◌, nat_abs, arith, ap, sym, ◌∙◌, inl, inr, ⊎_elim, List, ◌∷◌, subst, neg_ℤ, [], ints, unsigned_abs-mul, mul-le, ring, at, num, ◌⊕◌, ◌⊖◌, ◌⊗◌, neg, sign, sign-plus, sign-minus, by_order, mul_le_right, sign-scaled, nought-or, Vector, IsDirection, cross, dot, IsZero, blend, opposite, Label, comb, IsAt, MapVertex, Map, MapLabel, NearLabel, Valid, SameSigns, forms, by_side, NearStraight, Least, Full, FlatMap, dot-comm, zero-decided, self-pos, vector-same, apart, direction-opposite, dot-opposite}
 use Rattle.law_sphere.proofs.Vectors.{dot-comb}
 use Rattle.law_sphere.proofs.Generic.{amount, amount-above, far-keeps, far-level}
 use Rattle.law_sphere.proofs.Forms.{direction-by_signs}
@@ -192,5 +192,5 @@ module _ (M : Map) (V : Valid M) (d : Vector) (F : FlatMap M d) (v : Vector) (of
 
 -- ---- least maps
 module _ (M : Map) (V : Valid M) (L : Least M) (d : Vector) (F : FlatMap M d) where
-  pub flat-svertex : (k : ℕ) (v : MapVertex) → At M.svertices k v → IsZero (cross v.dir d)
+  pub flat-svertex : (k : ℕ) (v : MapVertex) → IsAt M.svertices k v → IsZero (cross v.dir d)
   flat-svertex k v a = ⊎_elim (λ z. z) (λ f. absurd (L.no_straight k v a (flat-straight M V d F v.dir f))) (zero-decided (cross v.dir d))

@@ -1,5 +1,5 @@
 -- The forms of a map. Its places are decided, and determined by the signs of its forms.
-use Rattle.law_sphere.proofs.Prelude.{◌≡◌, ℕ, pos, refl, sym, ◌⊎◌, inl, inr, List, ◌++◌, Lies, Vector, IsDirection, dot, SameDirection, lies-left, lies-right, At, MapVertex, Map, Item, arc_item, sloop_item, items, item_normal, dir_of, OnItem, IsFree, Decided, same-nought}
+use Rattle.law_sphere.proofs.Prelude.{◌≡◌, ℕ, pos, refl, sym, ◌⊎◌, inl, inr, List, ◌++◌, Lies, Vector, IsDirection, dot, SameDirection, lies-left, lies-right, IsAt, MapVertex, Map, Item, arc_item, sloop_item, items, item_normal, dir_of, OnItem, IsFree, Decided, same-nought}
 use Rattle.law_sphere.proofs.Lists.{Found, search_list, gather, gather-has}
 pub use Rattle.law_sphere.specs.Forms.{item_forms, forms}
 use Rattle.law_sphere.proofs.Generic.{SameSigns, Keeps}
@@ -9,10 +9,10 @@ use Rattle.law_sphere.proofs.Places.{direction-decided, SameDirection-decided, I
 pub axes-forms : (M : Map) (g : Vector) → Lies axes g → Lies (forms M) g
 axes-forms M g l = lies-left axes (gather (λ v. point_forms v.dir) M.svertices ++ gather (item_forms M) (items M)) g l
 
-pub svertex-forms : (M : Map) (k : ℕ) (v : MapVertex) (g : Vector) → At M.svertices k v → Lies (point_forms v.dir) g → Lies (forms M) g
+pub svertex-forms : (M : Map) (k : ℕ) (v : MapVertex) (g : Vector) → IsAt M.svertices k v → Lies (point_forms v.dir) g → Lies (forms M) g
 svertex-forms M k v g a l = lies-right axes (gather (λ v. point_forms v.dir) M.svertices ++ gather (item_forms M) (items M)) g (lies-left (gather (λ v. point_forms v.dir) M.svertices) (gather (item_forms M) (items M)) g (gather-has (λ v. point_forms v.dir) M.svertices k v g a l))
 
-pub item-forms : (M : Map) (k : ℕ) (x : Item) (g : Vector) → At (items M) k x → Lies (item_forms M x) g → Lies (forms M) g
+pub item-forms : (M : Map) (k : ℕ) (x : Item) (g : Vector) → IsAt (items M) k x → Lies (item_forms M x) g → Lies (forms M) g
 item-forms M k x g a l = lies-right axes (gather (λ v. point_forms v.dir) M.svertices ++ gather (item_forms M) (items M)) g (lies-right (gather (λ v. point_forms v.dir) M.svertices) (gather (item_forms M) (items M)) g (gather-has (item_forms M) (items M) k x g a l))
 
 pub normal-form : (M : Map) (x : Item) → Lies (item_forms M x) (item_normal x)
@@ -51,10 +51,10 @@ module _ (M : Map) (d e : Vector) (s : SameSigns (forms M) d e) where
   pub direction-by_signs : IsDirection d → IsDirection e
   direction-by_signs f = direction-stays d e (λ g l y. s g (axes-forms M g l)) f
 
-  pub at_svertex-by_signs : (k : ℕ) (v : MapVertex) → At M.svertices k v → IsDirection e → SameDirection v.dir d → SameDirection v.dir e
+  pub at_svertex-by_signs : (k : ℕ) (v : MapVertex) → IsAt M.svertices k v → IsDirection e → SameDirection v.dir d → SameDirection v.dir e
   at_svertex-by_signs k v a f w = SameDirection-by_signs v.dir d e (λ g l. s g (svertex-forms M k v g a l)) f w
 
-  pub on_item-by_signs : (k : ℕ) (x : Item) → At (items M) k x → OnItem M x d → OnItem M x e
+  pub on_item-by_signs : (k : ℕ) (x : Item) → IsAt (items M) k x → OnItem M x d → OnItem M x e
   on_item-by_signs k x a o = OnItem-by_signs M x d e (λ g l. s g (item-forms M k x g a l)) o
 
 pub free-by_signs : (M : Map) (d e : Vector) → SameSigns (forms M) d e → IsFree M d → IsFree M e
@@ -66,15 +66,15 @@ free-by_signs M d e s f = record {
 
 -- where a direction lies
 pub data PlaceOf (M : Map) (d : Vector) : Type 0 where
-  svertex_place : (k : ℕ) (v : MapVertex) → At M.svertices k v → SameDirection v.dir d → PlaceOf M d
-  item_place : (k : ℕ) (x : Item) → At (items M) k x → OnItem M x d → PlaceOf M d
+  svertex_place : (k : ℕ) (v : MapVertex) → IsAt M.svertices k v → SameDirection v.dir d → PlaceOf M d
+  item_place : (k : ℕ) (x : Item) → IsAt (items M) k x → OnItem M x d → PlaceOf M d
   free_place : IsFree M d → PlaceOf M d
 
 pub place_of : (M : Map) (d : Vector) → IsDirection d → PlaceOf M d
 place_of M d f = by (search_list M.svertices (λ k v. SameDirection v.dir d) (λ k v. SameDirection-decided v.dir d)) (search_list (items M) (λ k x. OnItem M x d) (λ k x. OnItem-decided M x d))
   where
-    by : Found M.svertices (λ k v. SameDirection v.dir d) ⊎ ((k : ℕ) (v : MapVertex) → At M.svertices k v → SameDirection v.dir d → ⊥)
-        → Found (items M) (λ k x. OnItem M x d) ⊎ ((k : ℕ) (x : Item) → At (items M) k x → OnItem M x d → ⊥) → PlaceOf M d
+    by : Found M.svertices (λ k v. SameDirection v.dir d) ⊎ ((k : ℕ) (v : MapVertex) → IsAt M.svertices k v → SameDirection v.dir d → ⊥)
+        → Found (items M) (λ k x. OnItem M x d) ⊎ ((k : ℕ) (x : Item) → IsAt (items M) k x → OnItem M x d → ⊥) → PlaceOf M d
     by (inl r) i = svertex_place r.number r.element r.listed r.holds
     by (inr n) (inl r) = item_place r.number r.element r.listed r.holds
     by (inr n) (inr m) = free_place (record { direction = f; off_svertices = n; off_items = m })

@@ -1,5 +1,5 @@
 -- The kind of a least map says along which directions it stays the same.
-use Rattle.law_sphere.proofs.Prelude.{◌≡◌, ℕ, ◌*◌, ◌<◌, ℤ, pos, negsuc, ◌+ℤ◌, ◌*ℤ◌, nat_abs, arith, refl, ap, sym, ◌∙◌, inl, inr, ⊎_elim, ◌∷◌, subst, Some, neg_ℤ, [], ints, mul-pos, ring, at, num, ◌⊕◌, ◌⊗◌, sign, sign-plus, sign-minus, by_order, nought-or, Vector, IsDirection, cross, vector, dot, IsZero, blend, opposite, comb, At, MapSloop, Map, Item, sloop_item, items, item_normal, item_pos, item_mark, item_neg, OnItem, MapLabel, on_item, NearLabel, Valid, SameSigns, forms, by_side, Least, Full, FlatMap, dot-zero, self-pos, vector-same, apart, scaled-coordinates, dot-opposite}
+use Rattle.law_sphere.proofs.Prelude.{◌≡◌, ℕ, ◌*◌, ◌<◌, ℤ, pos, negsuc, ◌+ℤ◌, ◌*ℤ◌, nat_abs, arith, refl, ap, sym, ◌∙◌, inl, inr, ⊎_elim, ◌∷◌, subst, Some, neg_ℤ, [], ints, mul-pos, ring, at, num, ◌⊕◌, ◌⊗◌, sign, sign-plus, sign-minus, by_order, nought-or, Vector, IsDirection, cross, vector, dot, IsZero, blend, opposite, comb, IsAt, MapSloop, Map, Item, sloop_item, items, item_normal, item_pos, item_mark, item_neg, OnItem, MapLabel, on_item, NearLabel, Valid, SameSigns, forms, by_side, Least, Full, FlatMap, dot-zero, self-pos, vector-same, apart, scaled-coordinates, dot-opposite}
 use Rattle.law_sphere.proofs.Vectors.{normal-is, dot-comb}
 use Rattle.law_sphere.proofs.Forms.{direction-by_signs, on-direction, on-level}
 use Rattle.law_sphere.proofs.Parallel.{circle-point}
@@ -21,7 +21,7 @@ away-blend k y d = vector-same _ _ (one y.x d.x) (one y.y d.y) (one y.z d.z)
     one a b = omega (arith, ints)
 
 module _ (M : Map) (V : Valid M) (L : Least M) (d : Vector) (F : FlatMap M d) where
-  pub flat-item : (i : ℕ) (x : Item) → At (items M) i x → (y : Vector) → OnItem M x y → dot (item_normal x) d ≡ pos 0
+  pub flat-item : (i : ℕ) (x : Item) → IsAt (items M) i x → (y : Vector) → OnItem M x y → dot (item_normal x) d ≡ pos 0
   flat-item i x a y o = ⊎_elim (λ z. z) (λ f. absurd (by f)) (nought-or (dot (item_normal x) d))
     where
       by : (dot (item_normal x) d ≡ pos 0 → ⊥) → ⊥

@@ -1,5 +1,5 @@
 -- Maps of volume, facet and edge points stay the same along the directions that their kind names.
-use Rattle.law_sphere.proofs.Prelude.{◌≡◌, ℕ, zero, suc, ◌<◌, ℤ, pos, ◌+ℤ◌, ◌-ℤ◌, ◌*ℤ◌, ◌<ℤ◌, arith, refl, ap, sym, ◌∙◌, ◌⊎◌, inl, inr, ⊎_elim, List, ◌∷◌, subst, Some, [], ints, ring, at, num, ◌⊕◌, ◌⊖◌, ◌⊗◌, Sign, sign, sign-plus, sign-minus, by_order, mul_pos, sign-scaled, Vector, IsDirection, cross, triple, dot, IsZero, SameDirection, IsOpposite, blend, Label, comb, At, MapVertex, Arc, MapSloop, Map, Item, arc_item, sloop_item, items, item_normal, dir_of, OnItem, IsFree, pos_item, neg_item, IsClear, directly, MapLabel, at_svertex, on_item, seen, Valid, IsOnCircle, by_side, Least, Full, FlatMap, IsInVolume, IsInFacet, IsOnEdge, zero-decided, dot-zero, triple-dot, cross-turned, opposites, SameDirection-turned, dir-self, in-span, apart, parallel-trans, is-at_first, is-at_none}
+use Rattle.law_sphere.proofs.Prelude.{◌≡◌, ℕ, zero, suc, ◌<◌, ℤ, pos, ◌+ℤ◌, ◌-ℤ◌, ◌*ℤ◌, ◌<ℤ◌, arith, refl, ap, sym, ◌∙◌, ◌⊎◌, inl, inr, ⊎_elim, List, ◌∷◌, subst, Some, [], ints, ring, at, num, ◌⊕◌, ◌⊖◌, ◌⊗◌, Sign, sign, sign-plus, sign-minus, by_order, mul_pos, sign-scaled, Vector, IsDirection, cross, triple, dot, IsZero, SameDirection, IsOpposite, blend, Label, comb, IsAt, MapVertex, Arc, MapSloop, Map, Item, arc_item, sloop_item, items, item_normal, dir_of, OnItem, IsFree, pos_item, neg_item, IsClear, directly, MapLabel, at_svertex, on_item, seen, Valid, IsOnCircle, by_side, Least, Full, FlatMap, IsInVolume, IsInFacet, IsOnEdge, zero-decided, dot-zero, triple-dot, cross-turned, opposites, SameDirection-turned, dir-self, in-span, apart, parallel-trans, is-at_first, is-at_none}
 use Rattle.law_sphere.proofs.Vectors.{normal-is, dot-comb, direction-by}
 use Rattle.law_sphere.proofs.Forms.{on-level}
 use Rattle.law_sphere.proofs.Parallel.{circle-point}
@@ -27,10 +27,10 @@ volume-flat M V K d e b a sb m = (λ f. all (comb (pos b) e a d) (is_mark e f), 
 
 -- ---- facets
 module _ (M : Map) (V : Valid M) (l : MapSloop) (bare : M.svertices ≡ []) (has : M.sloop ≡ Some l) where
-  sloop-number : (i : ℕ) × At (items M) i (sloop_item l)
+  sloop-number : (i : ℕ) × IsAt (items M) i (sloop_item l)
   sloop-number = at-sloop M.arcs M.sloop l has
 
-  only-sloop : (k : ℕ) (x : Item) → At (items M) k x → x ≡ sloop_item l
+  only-sloop : (k : ℕ) (x : Item) → IsAt (items M) k x → x ≡ sloop_item l
   only-sloop k (arc_item a) h = let r = ends-of M V.shaped k a (arc-at M.arcs M.sloop k a h) in absurd (none-at M.svertices a.source r.source bare r.has_source)
   only-sloop k (sloop_item c) h = ap sloop_item (some-some c l (sym (sloop-at M.arcs M.sloop k c h) ∙ has))
 
@@ -47,7 +47,7 @@ module _ (M : Map) (V : Valid M) (l : MapSloop) (bare : M.svertices ≡ []) (has
       side : Sign → Label
       side s = by_side l.pos l.mark l.neg s
 
-      by : (y : Vector) × IsOnCircle l.normal y → (i : ℕ) × At (items M) i (sloop_item l) → MapLabel M e (by_side l.pos l.mark l.neg (sign (dot l.normal e)))
+      by : (y : Vector) × IsOnCircle l.normal y → (i : ℕ) × IsAt (items M) i (sloop_item l) → MapLabel M e (by_side l.pos l.mark l.neg (sign (dot l.normal e)))
       by (y, o) (i, a) = by_order (dot l.normal e) (pos 0)
           (λ g. subst (λ (s : Sign). MapLabel M e (by_side l.pos l.mark l.neg s)) (sym (sign-minus (dot l.normal e) g))
           (seen (record { side = neg_item i; has = (sloop_item l, a, refl); sees = directly y (clear (λ z. omega (arith, ints))) (sloop_item l, a, o, g) })))
@@ -90,13 +90,13 @@ pub facet-only : (M : Map) → Valid M → Least M → (n : Vector) → IsInFace
 facet-only M V L n K d F = ap (λ r. dot r d) (sym K.normal) ∙ flat-sloop M V L d F K.sloop K.has_sloop
 
 -- ---- edges
-pub at-first : {A : Type 0} (xs : List A) (x y : A) → xs ≡ x ∷ y ∷ [] → At xs zero x
-at-first {A} xs x y e = subst (λ (r : List A). At r zero x) (sym e) refl
+pub at-first : {A : Type 0} (xs : List A) (x y : A) → xs ≡ x ∷ y ∷ [] → IsAt xs zero x
+at-first {A} xs x y e = subst (λ (r : List A). IsAt r zero x) (sym e) refl
 
-pub at-second : {A : Type 0} (xs : List A) (x y : A) → xs ≡ x ∷ y ∷ [] → At xs (suc zero) y
-at-second {A} xs x y e = subst (λ (r : List A). At r (suc zero) y) (sym e) refl
+pub at-second : {A : Type 0} (xs : List A) (x y : A) → xs ≡ x ∷ y ∷ [] → IsAt xs (suc zero) y
+at-second {A} xs x y e = subst (λ (r : List A). IsAt r (suc zero) y) (sym e) refl
 
-one-of-two : {A : Type 0} (x y : A) (k : ℕ) (z : A) → At (x ∷ y ∷ []) k z → (x ≡ z) ⊎ (y ≡ z)
+one-of-two : {A : Type 0} (x y : A) (k : ℕ) (z : A) → IsAt (x ∷ y ∷ []) k z → (x ≡ z) ⊎ (y ≡ z)
 one-of-two x y zero z e = inl (is-at_first e)
 one-of-two x y (suc zero) z e = inr (is-at_first e)
 one-of-two x y (suc (suc k)) z e = absurd (is-at_none e)
@@ -105,13 +105,13 @@ module _ (M : Map) (V : Valid M) (d : Vector) (K : IsOnEdge M d) where
   abbrev u : Vector
   u = K.first.dir
 
-  at-two : (k : ℕ) (v : MapVertex) → At M.svertices k v → (K.first ≡ v) ⊎ (K.second ≡ v)
-  at-two k v a = one-of-two K.first K.second k v (subst (λ (r : List MapVertex). At r k v) K.two_svertices a)
+  at-two : (k : ℕ) (v : MapVertex) → IsAt M.svertices k v → (K.first ≡ v) ⊎ (K.second ≡ v)
+  at-two k v a = one-of-two K.first K.second k v (subst (λ (r : List MapVertex). IsAt r k v) K.two_svertices a)
 
-  has_first : At M.svertices zero K.first
+  has_first : IsAt M.svertices zero K.first
   has_first = at-first M.svertices K.first K.second K.two_svertices
 
-  has_second : At M.svertices (suc zero) K.second
+  has_second : IsAt M.svertices (suc zero) K.second
   has_second = at-second M.svertices K.first K.second K.two_svertices
 
   pub hu : IsDirection u
@@ -121,7 +121,7 @@ module _ (M : Map) (V : Valid M) (d : Vector) (K : IsOnEdge M d) where
   hw = V.shaped.svertex_dirs (suc zero) K.second has_second
 
   -- every svertex is parallel to the first
-  pub svertex-parallel : (k : ℕ) (v : MapVertex) → At M.svertices k v → IsZero (cross u v.dir)
+  pub svertex-parallel : (k : ℕ) (v : MapVertex) → IsAt M.svertices k v → IsZero (cross u v.dir)
   svertex-parallel k v a = ⊎_elim (λ e. subst (λ (r : MapVertex). IsZero (cross u r.dir)) e (let w = dir-self u hu in w.parallel))
       (λ e. subst (λ (r : MapVertex). IsZero (cross u r.dir)) e (let o = K.opposite in o.parallel)) (at-two k v a)
 
@@ -134,7 +134,7 @@ module _ (M : Map) (V : Valid M) (d : Vector) (K : IsOnEdge M d) where
       by (other_way o) = at_svertex (suc zero) K.second has_second (opposites u K.second.dir e hu K.opposite o) K.second_mark
 
   -- the arcs are half circles from one to the other
-  pub arc-ends_opposite : (k : ℕ) (a : Arc) → At (items M) k (arc_item a) → IsOpposite (dir_of M.svertices a.source) (dir_of M.svertices a.target)
+  pub arc-ends_opposite : (k : ℕ) (a : Arc) → IsAt (items M) k (arc_item a) → IsOpposite (dir_of M.svertices a.source) (dir_of M.svertices a.target)
   arc-ends_opposite k a h = by (ends-of M V.shaped k a (arc-at M.arcs M.sloop k a h))
     where
       by : Ends M a → IsOpposite (dir_of M.svertices a.source) (dir_of M.svertices a.target)
@@ -143,7 +143,7 @@ module _ (M : Map) (V : Valid M) (d : Vector) (K : IsOnEdge M d) where
           (subst (λ (q : Vector). IsZero (cross u q)) (sym r.target_is) (svertex-parallel a.target r.target r.has_target))))
         where
           -- a whole circle would pass the other svertex
-          whole : SameDirection (dir_of M.svertices a.source) (dir_of M.svertices a.target) → (j : ℕ) (v : MapVertex) → At M.svertices j v → (SameDirection (dir_of M.svertices a.target) v.dir → ⊥) → ⊥
+          whole : SameDirection (dir_of M.svertices a.source) (dir_of M.svertices a.target) → (j : ℕ) (v : MapVertex) → IsAt M.svertices j v → (SameDirection (dir_of M.svertices a.target) v.dir → ⊥) → ⊥
           whole w j v b off = V.shaped.no_svertex_on_item j k v (arc_item a) b h
               (whole-passes a.normal (dir_of M.svertices a.source) (dir_of M.svertices a.target) v.dir (normal-is V.shaped k (arc_item a) h) r.source_direction r.target_direction (V.shaped.svertex_dirs j v b)
               r.source_level r.target_level (level-parallel v.dir (parallel-trans (dir_of M.svertices a.source) u v.dir hu (cross-turned u (dir_of M.svertices a.source) (subst (λ (q : Vector). IsZero (cross u q)) (sym r.source_is) (svertex-parallel a.source r.source r.has_source))) (svertex-parallel j v b))) w off)
@@ -169,7 +169,7 @@ module _ (M : Map) (V : Valid M) (d : Vector) (K : IsOnEdge M d) where
         one p q x y f = ring (p ∷ q ∷ x ∷ y ∷ pos b ∷ a ∷ []) (at 4 ⊗ (at 0 ⊗ at 3 ⊖ at 1 ⊗ at 2)) (at 0 ⊗ (at 4 ⊗ at 3 ⊕ at 5 ⊗ at 1) ⊖ at 1 ⊗ (at 4 ⊗ at 2 ⊕ at 5 ⊗ at 0)) tt ∙ f
 
     -- an arc goes on
-    pub arc-moved : (k : ℕ) (x : Item) → At (items M) k x → OnItem M x e → OnItem M x moved
+    pub arc-moved : (k : ℕ) (x : Item) → IsAt (items M) k x → OnItem M x e → OnItem M x moved
     arc-moved k (sloop_item l) h o = let i = sloop-at M.arcs M.sloop k l h in let j = K.no_sloop in cc
     arc-moved k (arc_item c) h o = by (ends-of M V.shaped k c (arc-at M.arcs M.sloop k c h)) (arc-ends_opposite k c h)
       where
@@ -203,5 +203,5 @@ module _ (M : Map) (V : Valid M) (d : Vector) (K : IsOnEdge M d) where
                 let k = triple-dot c.normal (dir_of M.svertices c.source) moved ∙ dot-comb t (pos b) e a u ∙ ap (λ r. pos b *ℤ dot t e +ℤ a *ℤ r) z ∙ ring (pos b ∷ a ∷ dot t e ∷ []) (at 0 ⊗ at 2 ⊕ at 1 ⊗ num (pos 0)) (at 0 ⊗ at 2) tt ∙ ap (λ r. pos b *ℤ r) (sym (triple-dot c.normal (dir_of M.svertices c.source) e)) in
                 subst (λ (r : ℤ). pos 0 <ℤ r) (sym k) (mul_pos (pos b) (triple c.normal (dir_of M.svertices c.source) e) (omega (arith, ints)) g)
 
-    pub off-svertices : (k : ℕ) (v : MapVertex) → At M.svertices k v → SameDirection v.dir moved → ⊥
+    pub off-svertices : (k : ℕ) (v : MapVertex) → IsAt M.svertices k v → SameDirection v.dir moved → ⊥
     off-svertices k v h w = off-moved (parallel-trans u v.dir moved (V.shaped.svertex_dirs k v h) (svertex-parallel k v h) w.parallel)

@@ -1,5 +1,5 @@
 -- The map of an edge point stays the same along the edge; a least map that stays the same along a direction is of one of three kinds.
-use Rattle.law_sphere.proofs.Prelude.{◌≡◌, ℕ, zero, suc, ◌+◌, ◌*◌, ◌<◌, ℤ, pos, ◌+ℤ◌, ◌-ℤ◌, ◌*ℤ◌, arith, refl, ap, sym, ◌∙◌, ◌⊎◌, inl, inr, ⊎_elim, List, ◌∷◌, subst, Option, Some, None, neg_ℤ, [], ints, ring, at, num, ◌⊕◌, ◌⊖◌, ◌⊗◌, neg, follows, given, none, sign, mul_neg, sign-scaled, Vector, IsDirection, cross, triple, dot, IsZero, SameDirection, IsOpposite, blend, opposite, Label, comb, At, MapVertex, MapSloop, Map, sloop_item, item_mark, IsFree, IsClear, MapLabel, at_svertex, on_item, NearLabel, Valid, by_side, NearPlain, NearStraight, Least, Full, FlatMap, IsInVolume, IsInFacet, IsOnEdge, dot-comm, zero-decided, self-pos, vector-same, cross-turned, triple-middle, opposites, SameDirection-turned, dir-self, dir-signs, parallel-trans, direction-opposite, dot-opposite, opposite-itself, is-at_none, is-at_first}
+use Rattle.law_sphere.proofs.Prelude.{◌≡◌, ℕ, zero, suc, ◌+◌, ◌*◌, ◌<◌, ℤ, pos, ◌+ℤ◌, ◌-ℤ◌, ◌*ℤ◌, arith, refl, ap, sym, ◌∙◌, ◌⊎◌, inl, inr, ⊎_elim, List, ◌∷◌, subst, Option, Some, None, neg_ℤ, [], ints, ring, at, num, ◌⊕◌, ◌⊖◌, ◌⊗◌, neg, follows, given, none, sign, mul_neg, sign-scaled, Vector, IsDirection, cross, triple, dot, IsZero, SameDirection, IsOpposite, blend, opposite, Label, comb, IsAt, MapVertex, MapSloop, Map, sloop_item, item_mark, IsFree, IsClear, MapLabel, at_svertex, on_item, NearLabel, Valid, by_side, NearPlain, NearStraight, Least, Full, FlatMap, IsInVolume, IsInFacet, IsOnEdge, dot-comm, zero-decided, self-pos, vector-same, cross-turned, triple-middle, opposites, SameDirection-turned, dir-self, dir-signs, parallel-trans, direction-opposite, dot-opposite, opposite-itself, is-at_none, is-at_first}
 use Rattle.law_sphere.proofs.Vectors.{dot-comb, same-minus}
 use Rattle.law_sphere.proofs.Lists.{search_list, at-one}
 use Rattle.law_sphere.proofs.Forms.{PlaceOf, svertex_place, item_place, free_place, place_of, OnItem-by_signs}
@@ -117,7 +117,7 @@ pub edge-direction : (M : Map) → Valid M → (d : Vector) → IsOnEdge M d →
 edge-direction M V d K = subst IsDirection K.named (V.shaped.svertex_dirs (suc zero) K.second (at-second M.svertices K.first K.second K.two_svertices))
 
 -- ---- which kind
-two-listed : {A : Type 0} (xs : List A) (k l : ℕ) (x y : A) → At xs k x → At xs l y → (k ≡ l → ⊥) → ((i : ℕ) (z : A) → At xs i z → (i ≡ k) ⊎ (i ≡ l))
+two-listed : {A : Type 0} (xs : List A) (k l : ℕ) (x y : A) → IsAt xs k x → IsAt xs l y → (k ≡ l → ⊥) → ((i : ℕ) (z : A) → IsAt xs i z → (i ≡ k) ⊎ (i ≡ l))
     → (xs ≡ x ∷ y ∷ []) ⊎ (xs ≡ y ∷ x ∷ [])
 two-listed [] k l x y a b n all = absurd (is-at_none a)
 two-listed (p ∷ []) zero zero x y a b n all = absurd (n refl)
@@ -156,7 +156,7 @@ module _ (M : Map) (V : Valid M) (L : Least M) (d : Vector) (h : IsDirection d) 
             normal = refl;
           })
 
-  module _ (k : ℕ) (v : MapVertex) (a : At M.svertices k v) where
+  module _ (k : ℕ) (v : MapVertex) (a : IsAt M.svertices k v) where
     hv : IsDirection v.dir
     hv = V.shaped.svertex_dirs k v a
 
@@ -192,7 +192,7 @@ module _ (M : Map) (V : Valid M) (L : Least M) (d : Vector) (h : IsDirection d) 
     record Partner : Type 0 where
       number : ℕ
       svertex : MapVertex
-      listed : At M.svertices number svertex
+      listed : IsAt M.svertices number svertex
       same : SameDirection svertex.dir (opposite v.dir)
 
     partner : Partner
@@ -239,11 +239,11 @@ module _ (M : Map) (V : Valid M) (L : Least M) (d : Vector) (h : IsDirection d) 
 
             apart-numbers : k ≡ p.number → ⊥
             apart-numbers e =
-                let q = at-one M.svertices k v p.svertex a (subst (λ (r : ℕ). At M.svertices r p.svertex) (sym e) p.listed) in
+                let q = at-one M.svertices k v p.svertex a (subst (λ (r : ℕ). IsAt M.svertices r p.svertex) (sym e) p.listed) in
                 let o = subst (λ (r : MapVertex). IsOpposite v.dir r.dir) (sym q) opp in
                 let b = o.backward in let s = self-pos v.dir hv in omega (arith, ints)
 
-            all : (i : ℕ) (z : MapVertex) → At M.svertices i z → (i ≡ k) ⊎ (i ≡ p.number)
+            all : (i : ℕ) (z : MapVertex) → IsAt M.svertices i z → (i ≡ k) ⊎ (i ≡ p.number)
             all i z b = at_beside (beside v.dir z.dir hv (V.shaped.svertex_dirs i z b) (cross-turned z.dir v.dir (flat-svertex M V L v.dir Fv i z b)))
               where
                 at_beside : Beside v.dir z.dir → (i ≡ k) ⊎ (i ≡ p.number)
@@ -267,6 +267,6 @@ module _ (M : Map) (V : Valid M) (L : Least M) (d : Vector) (h : IsDirection d) 
   pub flat-kind : KindOf M
   flat-kind = ⊎_elim (λ f. edge-kind f.number f.element f.listed) (λ n. bare-kind (empty M.svertices n)) (search_list M.svertices (λ k v. Unit {0}) (λ k v. inl tt))
     where
-      empty : (vs : List MapVertex) → ((k : ℕ) (v : MapVertex) → At vs k v → Unit {0} → ⊥) → vs ≡ []
+      empty : (vs : List MapVertex) → ((k : ℕ) (v : MapVertex) → IsAt vs k v → Unit {0} → ⊥) → vs ≡ []
       empty [] n = refl
       empty (v ∷ vs) n = absurd (n zero v refl tt)

@@ -1,5 +1,5 @@
 -- The germs of a set at a point, and an operation on the labels of two maps, are labellings.
-use Rattle.law_sphere.proofs.Prelude.{refl, ap, sym, ◌∙◌, inl, inr, ◌↔◌, List, ◌∷◌, ◌++◌, [], Lies, Place, Form, normal_of, Vector, IsDirection, Set, Label, HasLabel, Germ, Germ-unique, carriers, germ_of, Germ-by_signs, Map, MapLabel, Shaped, Valid, forms, Cone, Labelling, Agrees, ByOp, lies-left, lies-right}
+use Rattle.law_sphere.proofs.Prelude.{refl, ap, sym, ◌∙◌, inl, inr, ◌↔◌, List, ◌∷◌, ◌++◌, [], Lies, SpacePoint, Form, normal_of, Vector, IsDirection, Set, Label, HasLabel, Germ, Germ-unique, carriers, germ_of, Germ-by_signs, Map, MapLabel, Shaped, Valid, forms, Cone, Labelling, Agrees, ByOp, lies-left, lies-right}
 use Rattle.law_sphere.proofs.Labels.{label-exists, label-unique, label-by_signs}
 use Rattle.law_sphere.proofs.Built.{agrees-valid, agrees-label, label-agrees}
 
@@ -13,7 +13,7 @@ normals-has [] h l = absurd l
 normals-has (k ∷ hs) h (inl e) = inl (ap normal_of e)
 normals-has (k ∷ hs) h (inr l) = inr (normals-has hs h l)
 
-pub germ-labelling : (s : Set) (p : Place) → Labelling (normals_of (carriers s)) (Germ s p)
+pub germ-labelling : (s : Set) (p : SpacePoint) → Labelling (normals_of (carriers s)) (Germ s p)
 germ-labelling s p = record {
   exists = λ d f. germ_of s p d;
   one = λ d m n f a b. Germ-unique s p d m n a b;
@@ -21,7 +21,7 @@ germ-labelling s p = record {
 }
 
 -- a map that agrees with a set piece by piece is a map of the set
-pub cone-from_agrees : (M : Map) (s : Set) (p : Place) → Shaped M → HasLabel s p M.mark → Agrees M (Germ s p) → Cone M s p
+pub cone-from_agrees : (M : Map) (s : Set) (p : SpacePoint) → Shaped M → HasLabel s p M.mark → Agrees M (Germ s p) → Cone M s p
 cone-from_agrees M s p S h A =
     let L = germ-labelling s p in
     let gs = normals_of (carriers s) in

@@ -1,5 +1,5 @@
 -- Each direction has one label, which the signs of the map's forms determine; so has each direction near a direction.
-use Rattle.law_sphere.proofs.Prelude.{◌≡◌, ℕ, ◌+◌, ◌<◌, ◌≤◌, ℤ, pos, ◌+ℤ◌, ◌-ℤ◌, ◌*ℤ◌, ◌≤ℤ◌, arith, refl, ap, sym, ◌∙◌, inl, inr, List, ◌∷◌, subst, [], ints, ring, at, num, ◌⊕◌, ◌⊖◌, ◌⊗◌, sign, sign-plus, sign-minus, by_order, mul_pos, mul_neg, Lies, Vector, IsDirection, dot, SameDirection, IsOpposite, blend, Label, At, MapVertex, Map, Item, items, item_mark, OnItem, IsFree, IsClear, Sees, directly, by_way_of, SeenAs, MapLabel, at_svertex, on_item, seen, NearLabel, Valid, same-nought, dir-signs, direction-right, SameDirection-trans, SameDirection-turned}
+use Rattle.law_sphere.proofs.Prelude.{◌≡◌, ℕ, ◌+◌, ◌<◌, ◌≤◌, ℤ, pos, ◌+ℤ◌, ◌-ℤ◌, ◌*ℤ◌, ◌≤ℤ◌, arith, refl, ap, sym, ◌∙◌, inl, inr, List, ◌∷◌, subst, [], ints, ring, at, num, ◌⊕◌, ◌⊖◌, ◌⊗◌, sign, sign-plus, sign-minus, by_order, mul_pos, mul_neg, Lies, Vector, IsDirection, dot, SameDirection, IsOpposite, blend, Label, IsAt, MapVertex, Map, Item, items, item_mark, OnItem, IsFree, IsClear, Sees, directly, by_way_of, SeenAs, MapLabel, at_svertex, on_item, seen, NearLabel, Valid, same-nought, dir-signs, direction-right, SameDirection-trans, SameDirection-turned}
 use Rattle.law_sphere.proofs.Vectors.{dot-comb, same-plus, same-minus}
 use Rattle.law_sphere.proofs.Generic.{SameSigns, amount, far-keeps, far-same}
 use Rattle.law_sphere.proofs.Lists.{at-one}
@@ -66,19 +66,19 @@ module _ (M : Map) (V : Valid M) where
       by (item_place k x a o) = (item_mark x, on_item k x a o refl)
       by (free_place F) = let s = free-seen M V.shaped d F in (s.0, seen s.1)
 
-  on-svertex : (k l : ℕ) (v : MapVertex) (x : Item) (d : Vector) → At M.svertices k v → At (items M) l x → SameDirection v.dir d → OnItem M x d → ⊥
+  on-svertex : (k l : ℕ) (v : MapVertex) (x : Item) (d : Vector) → IsAt M.svertices k v → IsAt (items M) l x → SameDirection v.dir d → OnItem M x d → ⊥
   on-svertex k l v x d a b w o = V.shaped.no_svertex_on_item k l v x a b (OnItem-by_signs M x d v.dir (λ g i. sym (dir-signs v.dir d g (V.shaped.svertex_dirs k v a) w)) o)
 
   pub label-unique : (d : Vector) (m n : Label) → MapLabel M d m → MapLabel M d n → m ≡ n
   label-unique d m n (at_svertex k v a w e) (at_svertex l u b x f) =
       let i = V.shaped.svertices_apart k l v u a b (dir-joined v.dir u.dir d w x) in
-      sym e ∙ ap (λ (r : MapVertex). r.mark) (at-one M.svertices l v u (subst (λ (r : ℕ). At M.svertices r v) i a) b) ∙ f
+      sym e ∙ ap (λ (r : MapVertex). r.mark) (at-one M.svertices l v u (subst (λ (r : ℕ). IsAt M.svertices r v) i a) b) ∙ f
   label-unique d m n (at_svertex k v a w e) (on_item l x b o f) = absurd (on-svertex k l v x d a b w o)
   label-unique d m n (at_svertex k v a w e) (seen s) = absurd ((sees-free M d n s).off_svertices k v a w)
   label-unique d m n (on_item k x a o e) (at_svertex l u b w f) = absurd (on-svertex l k u x d b a w o)
   label-unique d m n (on_item k x a o e) (on_item l y b p f) =
       let i = V.shaped.no_items_meet k l x y d a b o p in
-      sym e ∙ ap item_mark (at-one (items M) l x y (subst (λ (r : ℕ). At (items M) r x) i a) b) ∙ f
+      sym e ∙ ap item_mark (at-one (items M) l x y (subst (λ (r : ℕ). IsAt (items M) r x) i a) b) ∙ f
   label-unique d m n (on_item k x a o e) (seen s) = absurd ((sees-free M d n s).off_items k x a o)
   label-unique d m n (seen s) (at_svertex k v a w e) = absurd ((sees-free M d m s).off_svertices k v a w)
   label-unique d m n (seen s) (on_item k x a o e) = absurd ((sees-free M d m s).off_items k x a o)

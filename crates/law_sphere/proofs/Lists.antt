@@ -1,22 +1,22 @@
 -- Elements of lists: searching, joining, gathering.
-use Rattle.law_sphere.proofs.Prelude.{◌≡◌, ℕ, zero, suc, refl, sym, ap, ◌⊎◌, inl, inr, List, ◌∷◌, subst, Option, Some, [], Lies, lies-left, lies-right, At, Decided, is-at_none, is-at_first, is-at_one}
+use Rattle.law_sphere.proofs.Prelude.{◌≡◌, ℕ, zero, suc, refl, sym, ap, ◌⊎◌, inl, inr, List, ◌∷◌, subst, Option, Some, [], Lies, lies-left, lies-right, IsAt, Decided, is-at_none, is-at_first, is-at_one}
 pub use Rattle.law_sphere.specs.Forms.{gather}
 
 pub record Found {A : Type 0} (xs : List A) (P : ℕ → A → Type 0) : Type 0 where
   pub number : ℕ
   pub element : A
-  pub listed : At xs number element
+  pub listed : IsAt xs number element
   pub holds : P number element
 
-pub search_list : {A : Type 0} (xs : List A) (P : ℕ → A → Type 0) → ((k : ℕ) (x : A) → Decided (P k x)) → Found xs P ⊎ ((k : ℕ) (x : A) → At xs k x → P k x → ⊥)
+pub search_list : {A : Type 0} (xs : List A) (P : ℕ → A → Type 0) → ((k : ℕ) (x : A) → Decided (P k x)) → Found xs P ⊎ ((k : ℕ) (x : A) → IsAt xs k x → P k x → ⊥)
 search_list [] P D = inr (λ k x a p. is-at_none a)
 search_list {A} (y ∷ ys) P D = by (D zero y) (search_list ys (λ k x. P (suc k) x) (λ k x. D (suc k) x))
   where
-    none_here : (P zero y → ⊥) → ((k : ℕ) (x : A) → At ys k x → P (suc k) x → ⊥) → (k : ℕ) (x : A) → At (y ∷ ys) k x → P k x → ⊥
+    none_here : (P zero y → ⊥) → ((k : ℕ) (x : A) → IsAt ys k x → P (suc k) x → ⊥) → (k : ℕ) (x : A) → IsAt (y ∷ ys) k x → P k x → ⊥
     none_here n f zero x e p = n (subst (λ (r : A). P zero r) (sym (is-at_first e)) p)
     none_here n f (suc k) x a p = f k x a p
 
-    by : Decided (P zero y) → Found ys (λ k x. P (suc k) x) ⊎ ((k : ℕ) (x : A) → At ys k x → P (suc k) x → ⊥) → Found (y ∷ ys) P ⊎ ((k : ℕ) (x : A) → At (y ∷ ys) k x → P k x → ⊥)
+    by : Decided (P zero y) → Found ys (λ k x. P (suc k) x) ⊎ ((k : ℕ) (x : A) → IsAt ys k x → P (suc k) x → ⊥) → Found (y ∷ ys) P ⊎ ((k : ℕ) (x : A) → IsAt (y ∷ ys) k x → P k x → ⊥)
     by (inl p) r = inl (record { number = zero; element = y; listed = refl; holds = p })
     by (inr n) (inl f) = inl (record { number = suc f.number; element = f.element; listed = f.listed; holds = f.holds })
     by (inr n) (inr f) = inr (none_here n f)
@@ -24,27 +24,27 @@ search_list {A} (y ∷ ys) P D = by (D zero y) (search_list ys (λ k x. P (suc k
 pub some-some : {A : Type 0} (x y : A) → ◌≡◌ {A = Option A} (Some x) (Some y) → x ≡ y
 some-some x y e = cc
 
-pub none-at : {A : Type 0} (xs : List A) (k : ℕ) (x : A) → xs ≡ [] → At xs k x → ⊥
-none-at {A} xs k x e a = is-at_none (subst (λ (r : List A). At r k x) e a)
+pub none-at : {A : Type 0} (xs : List A) (k : ℕ) (x : A) → xs ≡ [] → IsAt xs k x → ⊥
+none-at {A} xs k x e a = is-at_none (subst (λ (r : List A). IsAt r k x) e a)
 
-pub at-one : {A : Type 0} (xs : List A) (k : ℕ) (x y : A) → At xs k x → At xs k y → x ≡ y
+pub at-one : {A : Type 0} (xs : List A) (k : ℕ) (x y : A) → IsAt xs k x → IsAt xs k y → x ≡ y
 at-one = is-at_one
 
-pub gather-has : {A B : Type 0} (f : A → List B) (xs : List A) (k : ℕ) (x : A) (g : B) → At xs k x → Lies (f x) g → Lies (gather f xs) g
+pub gather-has : {A B : Type 0} (f : A → List B) (xs : List A) (k : ℕ) (x : A) (g : B) → IsAt xs k x → Lies (f x) g → Lies (gather f xs) g
 gather-has f [] k x g a l = absurd (is-at_none a)
 gather-has {A} f (y ∷ ys) zero x g e l = lies-left (f y) (gather f ys) g (subst (λ (r : A). Lies (f r) g) (sym (is-at_first e)) l)
 gather-has f (y ∷ ys) (suc k) x g a l = lies-right (f y) (gather f ys) g (gather-has f ys k x g a l)
 
-pub lies-at : {A : Type 0} (xs : List A) (x : A) → Lies xs x → (k : ℕ) × At xs k x
+pub lies-at : {A : Type 0} (xs : List A) (x : A) → Lies xs x → (k : ℕ) × IsAt xs k x
 lies-at [] x l = absurd l
 lies-at (y ∷ ys) x (inl e) = (zero, ap Some e)
 lies-at (y ∷ ys) x (inr l) = let r = lies-at ys x l in (suc r.0, r.1)
 
-pub at-lies : {A : Type 0} (xs : List A) (k : ℕ) (x : A) → At xs k x → Lies xs x
+pub at-lies : {A : Type 0} (xs : List A) (k : ℕ) (x : A) → IsAt xs k x → Lies xs x
 at-lies [] k x a = absurd (is-at_none a)
 at-lies (y ∷ ys) zero x e = inl (is-at_first e)
 at-lies (y ∷ ys) (suc k) x a = inr (at-lies ys k x a)
 
-pub none-empty : {A : Type 0} (xs : List A) → ((k : ℕ) (x : A) → At xs k x → ⊥) → xs ≡ []
+pub none-empty : {A : Type 0} (xs : List A) → ((k : ℕ) (x : A) → IsAt xs k x → ⊥) → xs ≡ []
 none-empty [] f = refl
 none-empty (y ∷ ys) f = absurd (f zero y refl)

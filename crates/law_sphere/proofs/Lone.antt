@@ -1,5 +1,5 @@
 -- Near a svertex without arcs there is the label round it; near labels go over to the same ways.
-use Rattle.law_sphere.proofs.Prelude.{◌≡◌, ℕ, ◌≤◌, arith, sym, ◌∙◌, ⊎_elim, List, Some, Vector, IsDirection, cross, dot, SameDirection, blend, Label, At, MapVertex, Map, IsFree, around_svertex, IsClear, Sees, directly, seen, NearLabel, HasArc, Shaped, Valid, SameSigns, forms, same-nought, same-off, nought-or, dir-self, dir-signs, direction-left}
+use Rattle.law_sphere.proofs.Prelude.{◌≡◌, ℕ, ◌≤◌, arith, sym, ◌∙◌, ⊎_elim, List, Some, Vector, IsDirection, cross, dot, SameDirection, blend, Label, IsAt, MapVertex, Map, IsFree, around_svertex, IsClear, Sees, directly, seen, NearLabel, HasArc, Shaped, Valid, SameSigns, forms, same-nought, same-off, nought-or, dir-self, dir-signs, direction-left}
 use Rattle.law_sphere.proofs.Generic.{amount, far-keeps, far-level}
 use Rattle.law_sphere.proofs.Direct.{cross-between}
 use Rattle.law_sphere.proofs.Labels.{label-by_signs, near-from_far, far-from_near}
@@ -18,7 +18,7 @@ near-same_way M V d c e w m a =
     near-from_far M V c e k (omega arith) m (label-by_signs M V (blend k d 1 e) (blend k c 1 e) (near-same_signs (forms M) d c e k (omega arith) w) m (far-from_near M V d e k (omega arith) m a))
 
 -- ---- a svertex without arcs
-module _ (M : Map) (V : Shaped M) (k : ℕ) (v : MapVertex) (a : At M.svertices k v) (lone : HasArc M k → ⊥) where
+module _ (M : Map) (V : Shaped M) (k : ℕ) (v : MapVertex) (a : IsAt M.svertices k v) (lone : HasArc M k → ⊥) where
   -- all that is close to it but not along it is free, and seen by the side round it
   module _ (e : Vector) (n : ℕ) (large : amount (forms M) e ≤ n) (off : IsDirection (cross v.dir e)) where
     home : IsClear M (blend n v.dir 1 e) v.dir
@@ -30,7 +30,7 @@ module _ (M : Map) (V : Shaped M) (k : ℕ) (v : MapVertex) (a : At M.svertices 
     pub sees-around : Sees M (around_svertex k) (blend n v.dir 1 e)
     sees-around = directly v.dir home (v, a, dir-self v.dir (V.svertex_dirs k v a))
 
-pub near-lone : (M : Map) (V : Valid M) (k : ℕ) (v : MapVertex) (a : At M.svertices k v) → (HasArc M k → ⊥) → (m : Label) → v.around ≡ Some m → (e : Vector) → IsDirection (cross v.dir e) → NearLabel M v.dir e m
+pub near-lone : (M : Map) (V : Valid M) (k : ℕ) (v : MapVertex) (a : IsAt M.svertices k v) → (HasArc M k → ⊥) → (m : Label) → v.around ≡ Some m → (e : Vector) → IsDirection (cross v.dir e) → NearLabel M v.dir e m
 near-lone M V k v a lone m r e f =
     let n = amount (forms M) e in
     near-from_far M V v.dir e n (omega arith) m (seen (record { side = around_svertex k; has = (v, a, r); sees = sees-around M V.shaped k v a lone e n (omega arith) f }))

@@ -1,5 +1,5 @@
 -- The labels near a free direction and near a direction on an item.
-use Rattle.law_sphere.proofs.Prelude.{◌≡◌, ℕ, ◌<◌, pos, ◌*ℤ◌, ◌≤ℤ◌, arith, refl, ap, sym, ◌∙◌, inl, inr, ⊎_elim, List, ◌∷◌, subst, [], ints, ring, at, num, ◌⊗◌, Sign, sign, sign-plus, sign-minus, by_order, nought-or, Vector, dot, IsOpposite, blend, Label, At, Map, Item, items, item_normal, item_pos, item_mark, item_neg, OnItem, IsFree, pos_item, neg_item, IsClear, directly, MapLabel, on_item, seen, NearLabel, Shaped, Valid, Keeps, axes, forms, by_side, NearPlain, NearStraight, opposite-turned, blend-turned}
+use Rattle.law_sphere.proofs.Prelude.{◌≡◌, ℕ, ◌<◌, pos, ◌*ℤ◌, ◌≤ℤ◌, arith, refl, ap, sym, ◌∙◌, inl, inr, ⊎_elim, List, ◌∷◌, subst, [], ints, ring, at, num, ◌⊗◌, Sign, sign, sign-plus, sign-minus, by_order, nought-or, Vector, dot, IsOpposite, blend, Label, IsAt, Map, Item, items, item_normal, item_pos, item_mark, item_neg, OnItem, IsFree, pos_item, neg_item, IsClear, directly, MapLabel, on_item, seen, NearLabel, Shaped, Valid, Keeps, axes, forms, by_side, NearPlain, NearStraight, opposite-turned, blend-turned}
 use Rattle.law_sphere.proofs.Vectors.{normal-is, dot-comb}
 use Rattle.law_sphere.proofs.Generic.{amount, far-keeps, far-level}
 use Rattle.law_sphere.proofs.Places.{axis_x, axis_y, axis_z, axis_x-is, axis_y-is, axis_z-is}
@@ -38,7 +38,7 @@ module _ (M : Map) (V : Shaped M) (d w : Vector) (k : Keeps (forms M) d w) where
   }
 
   -- close to an item
-  module _ (i : ℕ) (x : Item) (a : At (items M) i x) (o : OnItem M x d) where
+  module _ (i : ℕ) (x : Item) (a : IsAt (items M) i x) (o : OnItem M x d) where
     clear-beside : (dot (item_normal x) w ≡ pos 0 → ⊥) → IsClear M w d
     clear-beside f = record {
       start = free-beside M V d w k i x a o f;
@@ -73,7 +73,7 @@ module _ (M : Map) (V : Valid M) (d : Vector) where
       near-from_far M V d e k (omega arith) m (label-around M V d (blend k d 1 e) (far-keeps (forms M) d e k (omega arith)) F m a)
 
   -- near a direction on an item there are the item's labels
-  pub near-item : (i : ℕ) (x : Item) → At (items M) i x → OnItem M x d → (e : Vector) → NearLabel M d e (by_side (item_pos x) (item_mark x) (item_neg x) (sign (dot (item_normal x) e)))
+  pub near-item : (i : ℕ) (x : Item) → IsAt (items M) i x → OnItem M x d → (e : Vector) → NearLabel M d e (by_side (item_pos x) (item_mark x) (item_neg x) (sign (dot (item_normal x) e)))
   near-item i x a o e =
       let k = amount (forms M) e in
       let w = blend k d 1 e in
@@ -83,7 +83,7 @@ module _ (M : Map) (V : Valid M) (d : Vector) where
   pub free-plain : IsFree M d → NearPlain M d
   free-plain F = let a = label-exists M V d F.direction in record { label = a.0; at_d = a.1; near = λ e f. near-free F a.0 a.1 e }
 
-  pub item-straight : (i : ℕ) (x : Item) → At (items M) i x → OnItem M x d → NearStraight M d
+  pub item-straight : (i : ℕ) (x : Item) → IsAt (items M) i x → OnItem M x d → NearStraight M d
   item-straight i x a o = record {
     normal = item_normal x;
     direction = normal-is V.shaped i x a;

@@ -1,5 +1,5 @@
 -- Close to a svertex: on a ray of an arc that begins or ends there, or free.
-use Rattle.law_sphere.proofs.Prelude.{◌≡◌, ℕ, ◌<◌, ℤ, pos, ◌*ℤ◌, ◌<ℤ◌, arith, refl, sym, inl, inr, ⊎_elim, ◌∷◌, subst, ints, ring, at, num, ◌⊗◌, by_order, mul_pos, mul_neg, Vector, IsDirection, triple, cross, dot, opposite, IsZero, SameDirection, blend, IsStrictlyOn, Decided, At, MapVertex, Arc, Map, Item, arc_item, sloop_item, items, dir_of, OnItem, IsFree, IsClear, Shaped, ArcRay, ray_left, Unrayed, Keeps, arc_forms, forms, dot-comm, self-pos, triple-dot, cross-turned, direction-left, level-way, opposite-dot, triple-middle, triple-turned, SameDirection-turned, SameDirection-trans, level-opposite, opposite-turned, parallel-in_plane, blend-turned, blend_of, cross_of, dot_of, level-both, numbers, vec}
+use Rattle.law_sphere.proofs.Prelude.{◌≡◌, ℕ, ◌<◌, ℤ, pos, ◌*ℤ◌, ◌<ℤ◌, arith, refl, sym, inl, inr, ⊎_elim, ◌∷◌, subst, ints, ring, at, num, ◌⊗◌, by_order, mul_pos, mul_neg, Vector, IsDirection, triple, cross, dot, opposite, IsZero, SameDirection, blend, IsStrictlyOn, Decided, IsAt, MapVertex, Arc, Map, Item, arc_item, sloop_item, items, dir_of, OnItem, IsFree, IsClear, Shaped, ArcRay, ray_left, Unrayed, Keeps, arc_forms, forms, dot-comm, self-pos, triple-dot, cross-turned, direction-left, level-way, opposite-dot, triple-middle, triple-turned, SameDirection-turned, SameDirection-trans, level-opposite, opposite-turned, parallel-in_plane, blend-turned, blend_of, cross_of, dot_of, level-both, numbers, vec}
 use Rattle.law_sphere.proofs.Vectors.{normal-is, same-plus, same-minus}
 use Rattle.law_sphere.proofs.Places.{kept-nought, kept-minus, SameDirection-decided}
 use Rattle.law_sphere.proofs.Forms.{axes-forms, item-forms}
@@ -74,7 +74,7 @@ module _ (n s t d w : Vector) (hn : IsDirection n) (hs : IsDirection s) (ht : Is
           omega (arith, ints)
 
 -- ---- close to svertex k
-module _ (M : Map) (V : Shaped M) (k : ℕ) (v : MapVertex) (a : At M.svertices k v) (w : Vector) (kept : Keeps (forms M) v.dir w) (off : IsDirection (cross v.dir w)) where
+module _ (M : Map) (V : Shaped M) (k : ℕ) (v : MapVertex) (a : IsAt M.svertices k v) (w : Vector) (kept : Keeps (forms M) v.dir w) (off : IsDirection (cross v.dir w)) where
   abbrev d : Vector
   d = v.dir
 
@@ -83,7 +83,7 @@ module _ (M : Map) (V : Shaped M) (k : ℕ) (v : MapVertex) (a : At M.svertices 
     pub ray : ArcRay M k
     pub along : SameDirection (ray_left ray) (cross d w)
 
-  module _ (i : ℕ) (r : Arc) (h : At (items M) i (arc_item r)) (o : OnItem M (arc_item r) w) where
+  module _ (i : ℕ) (r : Arc) (h : IsAt (items M) i (arc_item r)) (o : OnItem M (arc_item r) w) where
     abbrev n : Vector
     n = r.normal
 
@@ -93,7 +93,7 @@ module _ (M : Map) (V : Shaped M) (k : ℕ) (v : MapVertex) (a : At M.svertices 
     abbrev t : Vector
     t = dir_of M.svertices r.target
 
-    j : At M.arcs i r
+    j : IsAt M.arcs i r
     j = arc-at M.arcs M.sloop i r h
 
     b : Ends M r
@@ -136,7 +136,7 @@ module _ (M : Map) (V : Shaped M) (k : ℕ) (v : MapVertex) (a : At M.svertices 
     on_arc = by (SameDirection-decided s d) (SameDirection-decided t d)
 
   -- an item close to a svertex lies along one of its rays
-  pub near-ray : (i : ℕ) (x : Item) → At (items M) i x → OnItem M x w → AlongRay
+  pub near-ray : (i : ℕ) (x : Item) → IsAt (items M) i x → OnItem M x w → AlongRay
   near-ray i (arc_item r) h o = on_arc i r h o
   near-ray i (sloop_item l) h o = absurd (V.no_svertex_on_item k i v (sloop_item l) a h
       (record { direction = V.svertex_dirs k v a; level = kept-nought l.normal d w (kept l.normal (item-forms M i (sloop_item l) l.normal h (inl refl))) o.level }))
@@ -148,7 +148,7 @@ module _ (M : Map) (V : Shaped M) (k : ℕ) (v : MapVertex) (a : At M.svertices 
     off_svertices = λ i u b z.
         let q = svertex-around M V d w kept i u b (V.svertex_dirs k v a) z in
         let e = V.svertices_apart i k u v b a q in
-        let f = at-one M.svertices k u v (subst (λ (r : ℕ). At M.svertices r u) e b) a in
+        let f = at-one M.svertices k u v (subst (λ (r : ℕ). IsAt M.svertices r u) e b) a in
         let y = subst (λ (r : MapVertex). SameDirection r.dir w) f z in
         off y.parallel;
     off_items = λ i x h o. n (near-ray i x h o);
@@ -163,7 +163,7 @@ same-cross v w i j si h =
     record { parallel = (ring xs p.0 o tt, ring xs p.1 o tt, ring xs p.2 o tt); forward = omega (arith, ints) }
 
 -- from close to the svertex the way to it is clear, off the rays
-pub near-clear : (M : Map) (V : Shaped M) (k : ℕ) (v : MapVertex) (a : At M.svertices k v) (w : Vector) → Keeps (forms M) v.dir w → IsDirection (cross v.dir w) → Unrayed M k v.dir w → IsClear M w v.dir
+pub near-clear : (M : Map) (V : Shaped M) (k : ℕ) (v : MapVertex) (a : IsAt M.svertices k v) (w : Vector) → Keeps (forms M) v.dir w → IsDirection (cross v.dir w) → Unrayed M k v.dir w → IsClear M w v.dir
 near-clear M V k v a w kept off free = record {
   start = near-free M V k v a w kept off (λ r. free r.ray r.along);
   direction = V.svertex_dirs k v a;

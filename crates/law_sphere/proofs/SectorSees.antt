@@ -1,5 +1,5 @@
 -- The side of a ray of a svertex sees each free direction that has a clear way to the svertex in the sector after the ray.
-use Rattle.law_sphere.proofs.Prelude.{◌≡◌, ℕ, ◌+◌, ◌<◌, ◌≤◌, pos, negsuc, ◌*ℤ◌, ◌-ℤ◌, ◌<ℤ◌, arith, ap, sym, ◌∙◌, ◌⊎◌, inl, inr, ◌∷◌, subst, [], ints, ring, at, num, ◌⊕◌, ◌⊖◌, ◌⊗◌, neg, follows, given, none, sign, by_order, mul_pos, mul_neg, sign-scaled, Vector, IsDirection, triple, cross, dot, opposite, SameDirection, blend, IsOnCircle, IsStrictlyOn, At, MapVertex, Map, arc_item, items, dir_of, OnItem, IsClear, Reaches, Sees, directly, by_way_of, Shaped, ArcRay, end_left, end_side, ray_left, ray_side, Unrayed, forms, comb, dot-comm, dot-zero, zero-dot, self-pos, triple-dot, cross-turned, cross-none, opposite-dot, direction-opposite, level-opposite, square-cross, triple-turned, SameDirection-turned, dir-self, parallel-in_plane, blend_of, cross_of, dot_poly, numbers, triple_of, triple_poly, vec}
+use Rattle.law_sphere.proofs.Prelude.{◌≡◌, ℕ, ◌+◌, ◌<◌, ◌≤◌, pos, negsuc, ◌*ℤ◌, ◌-ℤ◌, ◌<ℤ◌, arith, ap, sym, ◌∙◌, ◌⊎◌, inl, inr, ◌∷◌, subst, [], ints, ring, at, num, ◌⊕◌, ◌⊖◌, ◌⊗◌, neg, follows, given, none, sign, by_order, mul_pos, mul_neg, sign-scaled, Vector, IsDirection, triple, cross, dot, opposite, SameDirection, blend, IsOnCircle, IsStrictlyOn, IsAt, MapVertex, Map, arc_item, items, dir_of, OnItem, IsClear, Reaches, Sees, directly, by_way_of, Shaped, ArcRay, end_left, end_side, ray_left, ray_side, Unrayed, forms, comb, dot-comm, dot-zero, zero-dot, self-pos, triple-dot, cross-turned, cross-none, opposite-dot, direction-opposite, level-opposite, square-cross, triple-turned, SameDirection-turned, dir-self, parallel-in_plane, blend_of, cross_of, dot_poly, numbers, poly_triple, triple_poly, vec}
 use Rattle.law_cyclic.proofs.Directions.{way_back_passes_the_same, arcs_are_of_directions}
 use Rattle.law_sphere.proofs.Vectors.{dot-comb, normal-is, same-plus}
 use Rattle.law_sphere.proofs.Generic.{amount, far-keeps}
@@ -14,15 +14,15 @@ use Rattle.law_sphere.proofs.FarWay.{far-way}
 -- ---- products
 -- v.(m x (v x w)) = (v.v) (m.w)
 pub turn-from_left : (v m w : Vector) → dot m v ≡ pos 0 → triple v m (cross v w) ≡ dot v v *ℤ dot m w
-turn-from_left v m w z = follows (numbers v m w w) (triple_of (vec 0) (vec 3) (cross_of (vec 0) (vec 6))) (dot_poly 0 0 ⊗ dot_poly 3 6) (given (neg (dot_poly 0 6)) (dot_poly 3 0) (num (pos 0)) z none) tt
+turn-from_left v m w z = follows (numbers v m w w) (poly_triple (vec 0) (vec 3) (cross_of (vec 0) (vec 6))) (dot_poly 0 0 ⊗ dot_poly 3 6) (given (neg (dot_poly 0 6)) (dot_poly 3 0) (num (pos 0)) z none) tt
 
 -- v.((v x w) x (v x e)) = (v.v) v.(w x e)
 pub turn-of_crosses : (v w e : Vector) → triple v (cross v w) (cross v e) ≡ dot v v *ℤ triple v w e
-turn-of_crosses v w e = ring (numbers v w e e) (triple_of (vec 0) (cross_of (vec 0) (vec 3)) (cross_of (vec 0) (vec 6))) (dot_poly 0 0 ⊗ triple_poly 0 3 6) tt
+turn-of_crosses v w e = ring (numbers v w e e) (poly_triple (vec 0) (cross_of (vec 0) (vec 3)) (cross_of (vec 0) (vec 6))) (dot_poly 0 0 ⊗ triple_poly 0 3 6) tt
 
 -- v.(w x (m x v)) = - (v.v) (m.w)
 pub turn-to_ray : (v m w : Vector) → dot m v ≡ pos 0 → triple v w (cross m v) ≡ pos 0 -ℤ dot v v *ℤ dot m w
-turn-to_ray v m w z = follows (numbers v m w w) (triple_of (vec 0) (vec 6) (cross_of (vec 3) (vec 0))) (num (pos 0) ⊖ dot_poly 0 0 ⊗ dot_poly 3 6) (given (dot_poly 0 6) (dot_poly 3 0) (num (pos 0)) z none) tt
+turn-to_ray v m w z = follows (numbers v m w w) (poly_triple (vec 0) (vec 6) (cross_of (vec 3) (vec 0))) (num (pos 0) ⊖ dot_poly 0 0 ⊗ dot_poly 3 6) (given (dot_poly 0 6) (dot_poly 3 0) (num (pos 0)) z none) tt
 
 -- ---- a sector, by left directions
 module _ (v m e : Vector) (hv : IsDirection v) (level : dot m v ≡ pos 0) where
@@ -74,16 +74,16 @@ module _ (v m e : Vector) (hv : IsDirection v) (level : dot m v ≡ pos 0) where
 
 -- v.((i e + j f) x e) = j v.(f x e), and v.(e x (k v + f)) = v.(e x f)
 turn-between : (v e f : Vector) (i j : ℕ) → triple v (blend i e j f) e ≡ pos j *ℤ triple v f e
-turn-between v e f i j = ring (pos i ∷ pos j ∷ numbers v e f f) (triple_of (vec 2) (blend_of (at 0) (vec 5) (at 1) (vec 8)) (vec 5)) (at 1 ⊗ triple_poly 2 8 5) tt
+turn-between v e f i j = ring (pos i ∷ pos j ∷ numbers v e f f) (poly_triple (vec 2) (blend_of (at 0) (vec 5) (at 1) (vec 8)) (vec 5)) (at 1 ⊗ triple_poly 2 8 5) tt
 
 turn-near : (v e f : Vector) (k : ℕ) → triple v (blend k v 1 f) e ≡ triple v f e
-turn-near v e f k = ring (pos k ∷ numbers v e f f) (triple_of (vec 1) (blend_of (at 0) (vec 1) (num (pos 1)) (vec 7)) (vec 4)) (triple_poly 1 7 4) tt
+turn-near v e f k = ring (pos k ∷ numbers v e f f) (poly_triple (vec 1) (blend_of (at 0) (vec 1) (num (pos 1)) (vec 7)) (vec 4)) (triple_poly 1 7 4) tt
 
 turned-off : (v w e : Vector) → (triple v w e ≡ pos 0 → ⊥) → IsDirection (cross v w)
 turned-off v w e n z = n (triple-dot v w e ∙ zero-dot (cross v w) e z)
 
 -- ---- the rays of a svertex
-module _ (M : Map) (V : Shaped M) (k : ℕ) (v : MapVertex) (a : At M.svertices k v) where
+module _ (M : Map) (V : Shaped M) (k : ℕ) (v : MapVertex) (a : IsAt M.svertices k v) where
   abbrev p : Vector
   p = v.dir
 
@@ -153,7 +153,7 @@ module _ (M : Map) (V : Shaped M) (k : ℕ) (v : MapVertex) (a : At M.svertices 
   at_end : (r : ArcRay M k) (d : Vector) → pos 0 <ℤ dot (ray_left r) d → (n : ℕ) × ((number : ℕ) → n ≤ number → Reaches M (ray_side r) d (blend number p 1 (cross (ray_left r) p)))
   at_end r d h = let f = on-end r in (f.0, λ number large. by r.end h (blend number p 1 (cross (ray_left r) p)) (f.1 number large))
     where
-      listed : At (items M) r.number (arc_item r.arc)
+      listed : IsAt (items M) r.number (arc_item r.arc)
       listed = at-arc M.arcs M.sloop r.number r.arc r.listed
 
       by : (q : (r.arc.source ≡ k) ⊎ (r.arc.target ≡ k)) → pos 0 <ℤ dot (end_left r.arc q) d → (y : Vector) → OnItem M (arc_item r.arc) y → Reaches M (end_side r.number q) d y

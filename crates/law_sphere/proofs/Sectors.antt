@@ -1,5 +1,5 @@
 -- What bounds the sector of a svertex in which a direction lies sees all that is close to the svertex toward it; and something bounds it.
-use Rattle.law_sphere.proofs.Prelude.{◌≡◌, ℕ, zero, suc, ◌≤◌, pos, ◌<ℤ◌, arith, refl, sym, ◌∙◌, ◌⊎◌, inl, inr, ⊎_elim, List, ◌∷◌, subst, [], ints, Vector, IsDirection, dot, cross, opposite, SameDirection, blend, Label, Passes, IsOnCircle, Decided, At, MapVertex, Arc, Map, arc_item, IsClear, Side, around_svertex, HasSide, dir_of, Sees, HasArc, Shaped, ArcRay, end_left, end_side, ray_left, ray_side, Unrayed, IsLastRay, IsLastSide, BoundsSector, forms, dot-comm, level-way, opposite-dot, square-cross, level_cross_second, SameDirection-turned, SameDirection-trans, dir-self, direction-left, blend-turned, is-at_none, is-at_first}
+use Rattle.law_sphere.proofs.Prelude.{◌≡◌, ℕ, zero, suc, ◌≤◌, pos, ◌<ℤ◌, arith, refl, sym, ◌∙◌, ◌⊎◌, inl, inr, ⊎_elim, List, ◌∷◌, subst, [], ints, Vector, IsDirection, dot, cross, opposite, SameDirection, blend, Label, Passes, IsOnCircle, Decided, IsAt, MapVertex, Arc, Map, arc_item, IsClear, Side, around_svertex, HasSide, dir_of, Sees, HasArc, Shaped, ArcRay, end_left, end_side, ray_left, ray_side, Unrayed, IsLastRay, IsLastSide, BoundsSector, forms, dot-comm, level-way, opposite-dot, square-cross, level_cross_second, SameDirection-turned, SameDirection-trans, dir-self, direction-left, blend-turned, is-at_none, is-at_first}
 use Rattle.law_cyclic.proofs.Cyclic.{ways_glue}
 use Rattle.law_sphere.proofs.Generic.{amount, far-keeps}
 use Rattle.law_sphere.proofs.Places.{IsStrictlyOn-decided}
@@ -15,7 +15,7 @@ use Rattle.law_sphere.proofs.SectorSees.{left-on, sector-sees}
 abbrev pub SeesNear : Map → Side → Vector → Vector → Type 0
 SeesNear M o d e = (n : ℕ) × ((k : ℕ) → n ≤ k → Sees M o (blend k d 1 e))
 
-module _ (M : Map) (V : Shaped M) (k : ℕ) (v : MapVertex) (a : At M.svertices k v) (e : Vector) (off : IsDirection (cross v.dir e)) where
+module _ (M : Map) (V : Shaped M) (k : ℕ) (v : MapVertex) (a : IsAt M.svertices k v) (e : Vector) (off : IsDirection (cross v.dir e)) where
   abbrev p : Vector
   p = v.dir
 
@@ -68,14 +68,14 @@ module _ (M : Map) (V : Shaped M) (k : ℕ) (v : MapVertex) (a : At M.svertices 
       (s.0, s.1, λ y o. s.2 (subst (λ (x : Vector). Passes p (ray_left s.0) x (cross p e)) (sym r.1) o))
   later-end q E left ray (inr n) = (q, (λ x m. m), (λ z. absurd (n z)))
 
-  abbrev ray : (j : ℕ) (b : Arc) → At M.arcs j b → (b.source ≡ k) ⊎ (b.target ≡ k) → ArcRay M k
+  abbrev ray : (j : ℕ) (b : Arc) → IsAt M.arcs j b → (b.source ≡ k) ⊎ (b.target ≡ k) → ArcRay M k
   ray j b l t = record { number = j; arc = b; listed = l; end = t }
 
   -- from the ray to the direction no ray of an arc of the list is passed
   abbrev LastAmong : List Arc → ArcRay M k → Type 0
-  LastAmong xs q = (i : ℕ) (b : Arc) → At xs i b → (t : (b.source ≡ k) ⊎ (b.target ≡ k)) → Passes p (ray_left q) (end_left b t) (cross p e) → ⊥
+  LastAmong xs q = (i : ℕ) (b : Arc) → IsAt xs i b → (t : (b.source ≡ k) ⊎ (b.target ≡ k)) → Passes p (ray_left q) (end_left b t) (cross p e) → ⊥
 
-  last-among : (xs : List Arc) → ((i : ℕ) (b : Arc) → At xs i b → (j : ℕ) × At M.arcs j b) → ArcRay M k → (q : ArcRay M k) × LastAmong xs q
+  last-among : (xs : List Arc) → ((i : ℕ) (b : Arc) → IsAt xs i b → (j : ℕ) × IsAt M.arcs j b) → ArcRay M k → (q : ArcRay M k) × LastAmong xs q
   last-among [] listed q = (q, λ i b h. absurd (is-at_none h))
   last-among (c ∷ cs) listed q =
       let l = listed zero c refl in
@@ -100,7 +100,7 @@ module _ (M : Map) (V : Shaped M) (k : ℕ) (v : MapVertex) (a : At M.svertices 
       let r = last-among M.arcs (λ i c h. (i, h)) (ray j b l t) in
       (r.0, λ x. r.1 x.number x.arc x.listed x.end)
 
-  ray-has : (j : ℕ) (b : Arc) → At M.arcs j b → (t : (b.source ≡ k) ⊎ (b.target ≡ k)) → (l : Label) × HasSide M (end_side j t) l
+  ray-has : (j : ℕ) (b : Arc) → IsAt M.arcs j b → (t : (b.source ≡ k) ⊎ (b.target ≡ k)) → (l : Label) × HasSide M (end_side j t) l
   ray-has j b h (inl z) = (b.pos, (arc_item b, at-arc M.arcs M.sloop j b h, refl))
   ray-has j b h (inr z) = (b.neg, (arc_item b, at-arc M.arcs M.sloop j b h, refl))
 
@@ -115,14 +115,14 @@ module _ (M : Map) (V : Shaped M) (k : ℕ) (v : MapVertex) (a : At M.svertices 
       by o b = record { svertex = v; listed = a; aside = off; unrayed = free; bounds = b }
 
   -- ---- where the direction lies ahead of each arc no ray runs along it
-  module _ (ahead : (j : ℕ) (b : Arc) → At M.arcs j b → pos 0 <ℤ dot b.normal e) where
+  module _ (ahead : (j : ℕ) (b : Arc) → IsAt M.arcs j b → pos 0 <ℤ dot b.normal e) where
     pub unrayed-ahead : Unrayed M k p e
     unrayed-ahead r w = by r.arc r.number r.listed r.end w
       where
         level : (n : Vector) → SameDirection n (cross p e) → dot n e ≡ pos 0
         level n w = dot-comm n e ∙ level-way e (cross p e) n (SameDirection-turned n (cross p e) w) (level_cross_second p e)
 
-        by : (b : Arc) (j : ℕ) → At M.arcs j b → (q : (b.source ≡ k) ⊎ (b.target ≡ k)) → SameDirection (end_left b q) (cross p e) → ⊥
+        by : (b : Arc) (j : ℕ) → IsAt M.arcs j b → (q : (b.source ≡ k) ⊎ (b.target ≡ k)) → SameDirection (end_left b q) (cross p e) → ⊥
         by b j l (inl x) w = let z = level b.normal w in let h = ahead j b l in omega (arith, ints)
         by b j l (inr x) w = let z = level (opposite b.normal) w in let h = ahead j b l in let r = opposite-dot b.normal e in omega (arith, ints)
 

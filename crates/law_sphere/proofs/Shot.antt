@@ -1,5 +1,5 @@
 -- The first thing that is met on the way from a free direction to a well chosen point of an item, from a definite side.
-use Rattle.law_sphere.proofs.Prelude.{◌≡◌, ℕ, zero, suc, ◌+◌, ◌*◌, ◌<◌, ℤ, pos, ◌+ℤ◌, ◌*ℤ◌, ◌<ℤ◌, nat_abs, arith, refl, ap, sym, ◌∙◌, ⊎_elim, List, ◌∷◌, subst, Option, Some, None, [], ints, unsigned_abs-mul, mul-pos, ring, at, num, ◌⊕◌, ◌⊗◌, sign, nought-is, by_order, nought-or, Vector, IsDirection, cross, dot, blend, sign-scaled, At, MapVertex, Arc, MapSloop, Map, Item, arc_item, sloop_item, items, items_then, item_normal, dir_of, OnItem, Shaped, dot-comm, left-of, square-cross, is-at_none, is-at_first}
+use Rattle.law_sphere.proofs.Prelude.{◌≡◌, ℕ, zero, suc, ◌+◌, ◌*◌, ◌<◌, ℤ, pos, ◌+ℤ◌, ◌*ℤ◌, ◌<ℤ◌, nat_abs, arith, refl, ap, sym, ◌∙◌, ⊎_elim, List, ◌∷◌, subst, Option, Some, None, [], ints, unsigned_abs-mul, mul-pos, ring, at, num, ◌⊕◌, ◌⊗◌, sign, nought-is, by_order, nought-or, Vector, IsDirection, cross, dot, blend, sign-scaled, IsAt, MapVertex, Arc, MapSloop, Map, Item, arc_item, sloop_item, items, items_then, item_normal, dir_of, OnItem, Shaped, dot-comm, left-of, square-cross, is-at_none, is-at_first}
 use Rattle.law_sphere.proofs.Vectors.{normal-is, dot-comb}
 use Rattle.law_sphere.proofs.Generic.{SameSigns, amount}
 use Rattle.law_sphere.proofs.Forms.{item_forms, on-level, OnItem-decided, OnItem-by_signs}
@@ -9,12 +9,12 @@ pub product-off : (k x : ℤ) → pos 0 <ℤ k → (x ≡ pos 0 → ⊥) → k *
 product-off k x h f z = f (nought-is x (sym (sign-scaled k x h) ∙ ap sign z))
 
 -- ---- lists of a map
-pub dir-at : (vs : List MapVertex) (k : ℕ) (v : MapVertex) → At vs k v → dir_of vs k ≡ v.dir
+pub dir-at : (vs : List MapVertex) (k : ℕ) (v : MapVertex) → IsAt vs k v → dir_of vs k ≡ v.dir
 dir-at [] k v a = absurd (is-at_none a)
 dir-at (u ∷ vs) zero v e = ap (λ (r : MapVertex). r.dir) (is-at_first e)
 dir-at (u ∷ vs) (suc k) v a = dir-at vs k v a
 
-pub arc-at : (as' : List Arc) (o : Option MapSloop) (k : ℕ) (a : Arc) → At (items_then as' o) k (arc_item a) → At as' k a
+pub arc-at : (as' : List Arc) (o : Option MapSloop) (k : ℕ) (a : Arc) → IsAt (items_then as' o) k (arc_item a) → IsAt as' k a
 arc-at [] None k a h = absurd (is-at_none h)
 arc-at [] (Some l) zero a e = cc
 arc-at [] (Some l) (suc k) a h = absurd (is-at_none h)
@@ -26,7 +26,7 @@ arc-at (b ∷ as') o zero a e = ap (λ (x : Item). Some (arc_of x)) (is-at_first
 arc-at (b ∷ as') o (suc k) a h = arc-at as' o k a h
 
 -- each item of a valid map has a point
-pub item-point : (M : Map) → Shaped M → (k : ℕ) (x : Item) → At (items M) k x → (y : Vector) × OnItem M x y
+pub item-point : (M : Map) → Shaped M → (k : ℕ) (x : Item) → IsAt (items M) k x → (y : Vector) × OnItem M x y
 item-point M V k (sloop_item l) h = circle-point l.normal (normal-is V k (sloop_item l) h)
 item-point M V k' (arc_item a) h =
     let b = V.arcs_between k' a (arc-at M.arcs M.sloop k' a h) in
@@ -48,16 +48,16 @@ module _ (M : Map) (d : Vector) where
   pub record Target (c : Vector) : Type 0 where
     pub number : ℕ
     pub item : Item
-    pub listed : At (items M) number item
+    pub listed : IsAt (items M) number item
     pub on : OnItem M item c
     pub across : dot (item_normal item) d ≡ pos 0 → ⊥
-    pub flat : (k : ℕ) (x : Item) → At (items M) k x → dot (item_normal x) d ≡ pos 0 → dot (item_normal x) c ≡ pos 0 → ⊥
-    pub off : (k : ℕ) (v : MapVertex) → At M.svertices k v → IsDirection (cross d v.dir) → dot (cross d v.dir) c ≡ pos 0 → ⊥
+    pub flat : (k : ℕ) (x : Item) → IsAt (items M) k x → dot (item_normal x) d ≡ pos 0 → dot (item_normal x) c ≡ pos 0 → ⊥
+    pub off : (k : ℕ) (v : MapVertex) → IsAt M.svertices k v → IsDirection (cross d v.dir) → dot (cross d v.dir) c ≡ pos 0 → ⊥
 
   abbrev pub Unmet : Vector → Item → Type 0
   Unmet c x = (i j : ℕ) → 0 < i → 0 < j → OnItem M x (blend i d j c) → ⊥
 
-  module _ (k : ℕ) (x : Item) (here : At (items M) k x) (c : Vector) (t : Target c) where
+  module _ (k : ℕ) (x : Item) (here : IsAt (items M) k x) (c : Vector) (t : Target c) where
     abbrev n : Vector
     n = item_normal x
 
@@ -131,17 +131,17 @@ module _ (M : Map) (d : Vector) where
   pub record Shot (xs : List Item) : Type 0 where
     pub at_vector : Vector
     pub target : Target at_vector
-    pub unmet : (k : ℕ) (x : Item) → At xs k x → Unmet at_vector x
+    pub unmet : (k : ℕ) (x : Item) → IsAt xs k x → Unmet at_vector x
 
-  pub shoot : (c : Vector) → Target c → (xs : List Item) → ((k : ℕ) (x : Item) → At xs k x → (l : ℕ) × At (items M) l x) → Shot xs
+  pub shoot : (c : Vector) → Target c → (xs : List Item) → ((k : ℕ) (x : Item) → IsAt xs k x → (l : ℕ) × IsAt (items M) l x) → Shot xs
   shoot c t [] sub = record { at_vector = c; target = t; unmet = λ k x a. absurd (is-at_none a) }
   shoot c t (x ∷ xs) sub = by (shoot c t xs (λ k y a. sub (suc k) y a)) (sub zero x refl)
     where
-      cons : (c : Vector) → Unmet c x → ((k : ℕ) (y : Item) → At xs k y → Unmet c y) → (k : ℕ) (y : Item) → At (x ∷ xs) k y → Unmet c y
+      cons : (c : Vector) → Unmet c x → ((k : ℕ) (y : Item) → IsAt xs k y → Unmet c y) → (k : ℕ) (y : Item) → IsAt (x ∷ xs) k y → Unmet c y
       cons c u f zero y e = subst (λ (r : Item). Unmet c r) (is-at_first e) u
       cons c u f (suc k) y a = f k y a
 
-      by : Shot xs → (l : ℕ) × At (items M) l x → Shot (x ∷ xs)
+      by : Shot xs → (l : ℕ) × IsAt (items M) l x → Shot (x ∷ xs)
       by s (l, h) = ⊎_elim
           (λ z. record { at_vector = s.at_vector; target = s.target; unmet = cons s.at_vector (unmet-level l x h s.at_vector s.target z) s.unmet })
           (λ f. ⊎_elim

@@ -1,5 +1,5 @@
 -- Every free direction is seen, and one side sees both ends of a clear way.
-use Rattle.law_sphere.proofs.Prelude.{◌≡◌, ℕ, zero, suc, ◌+◌, ◌<◌, pos, ◌<ℤ◌, arith, refl, ap, ◌∙◌, ◌⊎◌, inl, inr, ⊎_elim, List, ◌∷◌, subst, Option, Some, None, [], ints, ring, at, ◌⊕◌, ◌⊗◌, sign, sign-scaled, nought-or, Vector, dot, SameDirection, blend, Label, At, MapVertex, Arc, MapSloop, Map, Item, arc_item, sloop_item, items, items_then, item_normal, IsFree, Side, around_svertex, whole, HasSide, IsClear, Sees, directly, by_way_of, SeenAs, Shaped, Valid, here, link, decided-not, self-pos, cross-turned, cross-self, blend-turned, is-at_none}
+use Rattle.law_sphere.proofs.Prelude.{◌≡◌, ℕ, zero, suc, ◌+◌, ◌<◌, pos, ◌<ℤ◌, arith, refl, ap, ◌∙◌, ◌⊎◌, inl, inr, ⊎_elim, List, ◌∷◌, subst, Option, Some, None, [], ints, ring, at, ◌⊕◌, ◌⊗◌, sign, sign-scaled, nought-or, Vector, dot, SameDirection, blend, Label, IsAt, MapVertex, Arc, MapSloop, Map, Item, arc_item, sloop_item, items, items_then, item_normal, IsFree, Side, around_svertex, whole, HasSide, IsClear, Sees, directly, by_way_of, SeenAs, Shaped, Valid, here, link, decided-not, self-pos, cross-turned, cross-self, blend-turned, is-at_none}
 use Rattle.law_sphere.proofs.Vectors.{normal-is, dot-comb}
 use Rattle.law_sphere.proofs.Generic.{SameSigns}
 use Rattle.law_sphere.proofs.Lists.{Found, search_list}
@@ -42,7 +42,7 @@ pub both-turned : (M : Map) (d e : Vector) → SeesBoth M d e → SeesBoth M e d
 both-turned M d e b = record { side = b.side; label = b.label; has = b.has; left = b.right; right = b.left }
 
 abbrev AllLevel : Map → Vector → Type 0
-AllLevel M d = (k : ℕ) (x : Item) → At (items M) k x → dot (item_normal x) d ≡ pos 0
+AllLevel M d = (k : ℕ) (x : Item) → IsAt (items M) k x → dot (item_normal x) d ≡ pos 0
 
 abbrev Crosses : Vector → ℕ → Item → Type 0
 Crosses d k x = dot (item_normal x) d ≡ pos 0 → ⊥
@@ -52,24 +52,24 @@ level-or : (M : Map) (d : Vector) → Found (items M) (Crosses d) ⊎ AllLevel M
 level-or M d = ⊎_elim (λ f. inl f) (λ n. inr (λ k x a. ⊎_elim (λ z. z) (λ g. absurd (n k x a g)) (nought-or (dot (item_normal x) d))))
     (search_list (items M) (Crosses d) (λ k x. decided-not (nought-or (dot (item_normal x) d))))
 
-empty-arcs : (as' : List Arc) (o : Option MapSloop) → ((k : ℕ) (x : Item) → At (items_then as' o) k x → ⊥) → (k : ℕ) (a : Arc) → At as' k a → ⊥
+empty-arcs : (as' : List Arc) (o : Option MapSloop) → ((k : ℕ) (x : Item) → IsAt (items_then as' o) k x → ⊥) → (k : ℕ) (a : Arc) → IsAt as' k a → ⊥
 empty-arcs [] o n k a h = is-at_none h
 empty-arcs (b ∷ as') o n k a h = n zero (arc_item b) refl
 
-empty-sloop : (as' : List Arc) (o : Option MapSloop) → ((k : ℕ) (x : Item) → At (items_then as' o) k x → ⊥) → o ≡ None
+empty-sloop : (as' : List Arc) (o : Option MapSloop) → ((k : ℕ) (x : Item) → IsAt (items_then as' o) k x → ⊥) → o ≡ None
 empty-sloop [] None n = refl
 empty-sloop [] (Some l) n = absurd (n zero (sloop_item l) refl)
 empty-sloop (b ∷ as') o n = absurd (n zero (arc_item b) refl)
 
 module _ (M : Map) (V : Shaped M) where
   -- d sees by a direct path, e by way of d
-  by_direct : (d e : Vector) → IsClear M e d → (k : ℕ) (x : Item) → At (items M) k x → IsFree M d → (dot (item_normal x) d ≡ pos 0 → ⊥) → SeesBoth M d e
+  by_direct : (d e : Vector) → IsClear M e d → (k : ℕ) (x : Item) → IsAt (items M) k x → IsFree M d → (dot (item_normal x) d ≡ pos 0 → ⊥) → SeesBoth M d e
   by_direct d e c k x a F f =
       let r = direct M V d F k x a f in
       record { side = r.side; label = r.label; has = r.has; left = directly r.point r.clear r.reached; right = by_way_of d r.point c r.clear r.reached }
 
   -- all planes hold both: both see by way of one direction off the planes
-  by_outlook : (d e : Vector) → IsFree M d → IsFree M e → AllLevel M d → AllLevel M e → (k : ℕ) (x : Item) → At (items M) k x → SeesBoth M d e
+  by_outlook : (d e : Vector) → IsFree M d → IsFree M e → AllLevel M d → AllLevel M e → (k : ℕ) (x : Item) → IsAt (items M) k x → SeesBoth M d e
   by_outlook d e F G l m k x a =
       let ds = d ∷ e ∷ [] in
       let o = outlook M ds d in
@@ -84,7 +84,7 @@ module _ (M : Map) (V : Shaped M) where
       }
 
   -- a map without items, but with a svertex
-  by_svertex : (d e : Vector) → IsFree M d → IsFree M e → ((k : ℕ) (x : Item) → At (items M) k x → ⊥) → (k : ℕ) (v : MapVertex) → At M.svertices k v → SeesBoth M d e
+  by_svertex : (d e : Vector) → IsFree M d → IsFree M e → ((k : ℕ) (x : Item) → IsAt (items M) k x → ⊥) → (k : ℕ) (v : MapVertex) → IsAt M.svertices k v → SeesBoth M d e
   by_svertex d e F G n k v a =
       let ds = d ∷ e ∷ v.dir ∷ [] in
       let o = outlook M ds d in
@@ -101,12 +101,12 @@ module _ (M : Map) (V : Shaped M) where
         right = by_way_of o.vector v.dir (outlook-clear M ds V o (suc zero) e refl G.direction G (λ l y b. absurd (n l y b))) c (v, a, w);
       }
 
-  by_ground : (d e : Vector) → IsFree M d → IsFree M e → ((k : ℕ) (x : Item) → At (items M) k x → ⊥) → ((k : ℕ) (v : MapVertex) → At M.svertices k v → ⊥) → SeesBoth M d e
+  by_ground : (d e : Vector) → IsFree M d → IsFree M e → ((k : ℕ) (x : Item) → IsAt (items M) k x → ⊥) → ((k : ℕ) (v : MapVertex) → IsAt M.svertices k v → ⊥) → SeesBoth M d e
   by_ground d e F G n s =
       let r = V.ground_alone (empty M.svertices s) (empty-sloop M.arcs M.sloop n) in
       record { side = whole; label = r.0; has = r.1; left = directly d (clear-self M d F) tt; right = directly e (clear-self M e G) tt }
     where
-      empty : (vs : List MapVertex) → ((k : ℕ) (v : MapVertex) → At vs k v → ⊥) → vs ≡ []
+      empty : (vs : List MapVertex) → ((k : ℕ) (v : MapVertex) → IsAt vs k v → ⊥) → vs ≡ []
       empty [] s = refl
       empty (v ∷ vs) s = absurd (s zero v refl)
 
@@ -117,7 +117,7 @@ module _ (M : Map) (V : Shaped M) where
       F : IsFree M d
       F = c.start
 
-      bare : ((k : ℕ) (x : Item) → At (items M) k x → Unit {0} → ⊥) → SeesBoth M d e
+      bare : ((k : ℕ) (x : Item) → IsAt (items M) k x → Unit {0} → ⊥) → SeesBoth M d e
       bare n = ⊎_elim
           (λ f. by_svertex d e F G (λ k x a. n k x a tt) f.number f.element f.listed)
           (λ s. by_ground d e F G (λ k x a. n k x a tt) (λ k v a. s k v a tt))

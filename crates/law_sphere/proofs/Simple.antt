@@ -1,5 +1,5 @@
 -- The maps of one label and of one plane: they are well shaped, and agree with what has their labels.
-use Rattle.law_sphere.proofs.Prelude.{◌≡◌, ℕ, zero, suc, arith, refl, ap, sym, ◌∙◌, inl, ◌∷◌, subst, Some, None, [], sign, Vector, IsDirection, cross, dot, IsNormal, blend, Label, At, MapSloop, Map, Item, sloop_item, items, item_normal, item_pos, item_mark, item_neg, OnItem, IsFree, Shaped, Valid, by_side, Least, Labelling, Near, Plain, Agrees, is-at_none, is-at_first}
+use Rattle.law_sphere.proofs.Prelude.{◌≡◌, ℕ, zero, suc, arith, refl, ap, sym, ◌∙◌, inl, ◌∷◌, subst, Some, None, [], sign, Vector, IsDirection, cross, dot, IsNormal, blend, Label, IsAt, MapSloop, Map, Item, sloop_item, items, item_normal, item_pos, item_mark, item_neg, OnItem, IsFree, Shaped, Valid, by_side, Least, Labelling, Near, Plain, Agrees, is-at_none, is-at_first}
 use Rattle.law_sphere.proofs.Generic.{amount, far-keeps, far-level}
 use Rattle.law_sphere.proofs.Walk.{between-direction}
 use Rattle.law_sphere.proofs.Built.{agrees-valid}
@@ -38,7 +38,7 @@ abbrev pub sloop_map : Label → MapSloop → Map
 sloop_map k l = record { mark = k; svertices = []; arcs = []; sloop = Some l; ground = None }
 
 module _ (k : Label) (l : MapSloop) where
-  only : (i : ℕ) (x : Item) → At (items (sloop_map k l)) i x → (i ≡ zero) × (sloop_item l ≡ x)
+  only : (i : ℕ) (x : Item) → IsAt (items (sloop_map k l)) i x → (i ≡ zero) × (sloop_item l ≡ x)
   only zero x e = (refl, is-at_first e)
   only (suc i) x e = absurd (is-at_none e)
 

@@ -1,5 +1,5 @@
 -- A simplified star at a plain direction has no ray; at a straight direction all its rays lie in the plane.
-use Rattle.law_sphere.proofs.Prelude.{◌≡◌, ℕ, zero, suc, ◌+◌, ℤ, pos, ◌*ℤ◌, ◌<ℤ◌, arith, refl, ap, sym, ◌∙◌, ◌⊎◌, inl, inr, ⊎_elim, List, ◌∷◌, subst, length, Bool, true, false, cond, [], ints, ring, at, num, ◌⊕◌, ◌⊖◌, ◌⊗◌, follows, given, none, sign, mul_pos, nought-or, Vector, IsDirection, cross, dot, IsZero, SameDirection, opposite, Label, At, Map, NearLabel, Valid, IsStrictlyOn, by_side, NearPlain, NearStraight, Ray, Star, ray_dir, across, NextRay, on_ray, in_sector, IsRay, StarShows, Follows, IsSimplified, dot-comm, self-pos, nought-if, dir-self, apart, direction-opposite, opposite-dot, opposite-twice, is-at_none}
+use Rattle.law_sphere.proofs.Prelude.{◌≡◌, ℕ, zero, suc, ◌+◌, ℤ, pos, ◌*ℤ◌, ◌<ℤ◌, arith, refl, ap, sym, ◌∙◌, ◌⊎◌, inl, inr, ⊎_elim, List, ◌∷◌, subst, length, Bool, true, false, cond, [], ints, ring, at, num, ◌⊕◌, ◌⊖◌, ◌⊗◌, follows, given, none, sign, mul_pos, nought-or, Vector, IsDirection, cross, dot, IsZero, SameDirection, opposite, Label, IsAt, Map, NearLabel, Valid, IsStrictlyOn, by_side, NearPlain, NearStraight, Ray, Star, ray_dir, across, NextRay, on_ray, in_sector, LeavesAxis, StarShows, Follows, IsSimplified, dot-comm, self-pos, nought-if, dir-self, apart, direction-opposite, opposite-dot, opposite-twice, is-at_none}
 use Rattle.law_sphere.proofs.Vectors.{normal-direction}
 use Rattle.law_sphere.proofs.Generic.{amount, far-keeps}
 use Rattle.law_sphere.proofs.Parallel.{past_source, arc-point}
@@ -32,38 +32,38 @@ across-same d e hd he z = record { parallel = par; forward = subst (λ (r : ℤ)
         ((dx ⊗ dx ⊕ dy ⊗ dy ⊕ dz ⊗ dz) ⊗ (ex ⊗ ex ⊕ ey ⊗ ey ⊕ ez ⊗ ez)) (given (num (pos 0) ⊖ de) de (num (pos 0)) z none) tt
 
 -- ---- the neighbours of a ray
-pub last-of : (rs : List Ray) (r : Ray) → At rs zero r → (j : ℕ) × (q : Ray) × At rs j q × (suc j ≡ length rs)
+pub last-of : (rs : List Ray) (r : Ray) → IsAt rs zero r → (j : ℕ) × (q : Ray) × IsAt rs j q × (suc j ≡ length rs)
 last-of [] r a = absurd (is-at_none a)
 last-of (p ∷ []) r a = (zero, p, refl, refl)
 last-of (p ∷ q ∷ rs) r a = let x = last-of (q ∷ rs) q refl in (suc x.0, x.1, x.2, ap suc x.3)
 
-first-of_ray : (rs : List Ray) (k : ℕ) (r : Ray) → At rs k r → (p : Ray) × At rs zero p
+first-of_ray : (rs : List Ray) (k : ℕ) (r : Ray) → IsAt rs k r → (p : Ray) × IsAt rs zero p
 first-of_ray [] k r a = absurd (is-at_none a)
 first-of_ray (p ∷ rs) k r a = (p, refl)
 
-pub before : (rs : List Ray) (k : ℕ) (r : Ray) → At rs (suc k) r → (q : Ray) × At rs k q
+pub before : (rs : List Ray) (k : ℕ) (r : Ray) → IsAt rs (suc k) r → (q : Ray) × IsAt rs k q
 before [] k r a = absurd (is-at_none a)
 before (p ∷ rs) zero r a = (p, refl)
 before (p ∷ rs) (suc k) r a = before rs k r a
 
-after-or : (rs : List Ray) (k : ℕ) (r : Ray) → At rs k r → ((q : Ray) × At rs (suc k) q) ⊎ (suc k ≡ length rs)
+after-or : (rs : List Ray) (k : ℕ) (r : Ray) → IsAt rs k r → ((q : Ray) × IsAt rs (suc k) q) ⊎ (suc k ≡ length rs)
 after-or [] k r a = absurd (is-at_none a)
 after-or (p ∷ []) zero r a = inr refl
 after-or (p ∷ q ∷ rs) zero r a = inl (q, refl)
 after-or (p ∷ rs) (suc k) r a = ⊎_elim (λ x. inl x) (λ e. inr (ap suc e)) (after-or rs k r a)
 
-pub next-ray : (rs : List Ray) (k : ℕ) (r : Ray) → At rs k r → (q : Ray) × (j : ℕ) × At rs j q × NextRay rs k q
+pub next-ray : (rs : List Ray) (k : ℕ) (r : Ray) → IsAt rs k r → (q : Ray) × (j : ℕ) × IsAt rs j q × NextRay rs k q
 next-ray rs k r a = ⊎_elim (λ x. (x.0, suc k, x.1, inl x.1)) (λ e. let f = first-of_ray rs k r a in (f.0, zero, f.1, inr (e, f.1))) (after-or rs k r a)
 
-pub previous : (rs : List Ray) (k : ℕ) (r : Ray) → At rs k r → (j : ℕ) × (q : Ray) × At rs j q × Follows rs j k × NextRay rs j r
+pub previous : (rs : List Ray) (k : ℕ) (r : Ray) → IsAt rs k r → (j : ℕ) × (q : Ray) × IsAt rs j q × Follows rs j k × NextRay rs j r
 previous rs zero r a = let x = last-of rs r a in (x.0, x.1, x.2, inr (x.3, refl), inr (x.3, a))
 previous rs (suc k) r a = let x = before rs k r a in (k, x.0, x.1, inl refl, inl a)
 
 -- a ray leaves at right angles to the axis
-pub ray-level : (t : Star) → IsDirection t.axis → (r : Ray) → IsRay t r → (dot t.axis (ray_dir t r) ≡ pos 0) × IsDirection (ray_dir t r)
+pub ray-level : (t : Star) → IsDirection t.axis → (r : Ray) → LeavesAxis t r → (dot t.axis (ray_dir t r) ≡ pos 0) × IsDirection (ray_dir t r)
 ray-level t axis r = by r.ahead
   where
-    by : (b : Bool) → IsRay t r → (dot t.axis (cond b (cross r.normal t.axis) (cross t.axis r.normal)) ≡ pos 0) × IsDirection (cond b (cross r.normal t.axis) (cross t.axis r.normal))
+    by : (b : Bool) → LeavesAxis t r → (dot t.axis (cond b (cross r.normal t.axis) (cross t.axis r.normal)) ≡ pos 0) × IsDirection (cond b (cross r.normal t.axis) (cross t.axis r.normal))
     by true q = (
       ring (t.axis.x ∷ t.axis.y ∷ t.axis.z ∷ r.normal.x ∷ r.normal.y ∷ r.normal.z ∷ []) (at 0 ⊗ (at 4 ⊗ at 2 ⊖ at 5 ⊗ at 1) ⊕ at 1 ⊗ (at 5 ⊗ at 0 ⊖ at 3 ⊗ at 2) ⊕ at 2 ⊗ (at 3 ⊗ at 1 ⊖ at 4 ⊗ at 0)) (num (pos 0)) tt,
       λ z. axis (nought-if r.normal t.axis (normal-direction r.normal q.normal) z q.level),
@@ -77,18 +77,18 @@ module _ (t : Star) (M : Map) (V : Valid M) (S : StarShows t M) (simple : IsSimp
   abbrev d : Vector
   d = t.axis
 
-  pub way-level : (k : ℕ) (r : Ray) → At t.rays k r → (dot d (ray_dir t r) ≡ pos 0) × IsDirection (ray_dir t r)
+  pub way-level : (k : ℕ) (r : Ray) → IsAt t.rays k r → (dot d (ray_dir t r) ≡ pos 0) × IsDirection (ray_dir t r)
   way-level k r a = ray-level t S.axis r (S.rays k r a)
 
   pub off-axis : (e : Vector) → IsDirection e → dot d e ≡ pos 0 → IsDirection (cross d e)
   off-axis e h z = apart d d e (λ y. let p = self-pos d S.axis in omega (arith, ints)) z h
 
   -- the label on a ray, and in a sector
-  pub ray-label : (k : ℕ) (r : Ray) → At t.rays k r → NearLabel M d (ray_dir t r) r.mark
+  pub ray-label : (k : ℕ) (r : Ray) → IsAt t.rays k r → NearLabel M d (ray_dir t r) r.mark
   ray-label k r a = let w = way-level k r a in
       S.labels (ray_dir t r) r.mark (off-axis (ray_dir t r) w.1 w.0) (on_ray k r a (across-same d (ray_dir t r) S.axis w.1 w.0) refl)
 
-  pub sector-label : (k : ℕ) (q r : Ray) (l : Label) → At t.rays k q → NextRay t.rays k r → At t.sectors k l → (e : Vector) → IsStrictlyOn d (ray_dir t q) (ray_dir t r) e → NearLabel M d e l
+  pub sector-label : (k : ℕ) (q r : Ray) (l : Label) → IsAt t.rays k q → NextRay t.rays k r → IsAt t.sectors k l → (e : Vector) → IsStrictlyOn d (ray_dir t q) (ray_dir t r) e → NearLabel M d e l
   sector-label k q r l a n s e o =
       let h = o.on_circle.direction in
       let z = o.on_circle.level in
@@ -100,12 +100,12 @@ module _ (t : Star) (M : Map) (V : Valid M) (S : StarShows t M) (simple : IsSimp
       next-direction (inr b) = let w = way-level zero r b.1 in w.1
 
   -- close to a ray on both sides, the signs of u that aren't nought on the ray
-  module _ (u : Vector) (k : ℕ) (r : Ray) (a : At t.rays k r) (f : dot u (ray_dir t r) ≡ pos 0 → ⊥) where
+  module _ (u : Vector) (k : ℕ) (r : Ray) (a : IsAt t.rays k r) (f : dot u (ray_dir t r) ≡ pos 0 → ⊥) where
     abbrev w : Vector
     w = ray_dir t r
 
     -- counterclockwise after the ray
-    after-ray : (q : Ray) (j : ℕ) → At t.rays j q → (e : Vector) × IsStrictlyOn d w (ray_dir t q) e × (sign (dot u e) ≡ sign (dot u w))
+    after-ray : (q : Ray) (j : ℕ) → IsAt t.rays j q → (e : Vector) × IsStrictlyOn d w (ray_dir t q) e × (sign (dot u e) ≡ sign (dot u w))
     after-ray q j b =
         let x = way-level k r a in
         let y = way-level j q b in
@@ -114,7 +114,7 @@ module _ (t : Star) (M : Map) (V : Valid M) (S : StarShows t M) (simple : IsSimp
         (past_source d w K, arc-point d w (ray_dir t q) S.axis x.1 y.1 x.0 y.0 K (omega arith), far-keeps (u ∷ []) w c K (omega arith) u (inl refl) f)
 
     -- and before it
-    before-ray : (q : Ray) (j : ℕ) → At t.rays j q → (e : Vector) × IsStrictlyOn d (ray_dir t q) w e × (sign (dot u e) ≡ sign (dot u w))
+    before-ray : (q : Ray) (j : ℕ) → IsAt t.rays j q → (e : Vector) × IsStrictlyOn d (ray_dir t q) w e × (sign (dot u e) ≡ sign (dot u w))
     before-ray q j b =
         let x = way-level k r a in
         let y = way-level j q b in
@@ -133,7 +133,7 @@ module _ (t : Star) (M : Map) (V : Valid M) (S : StarShows t M) (simple : IsSimp
         twice d h = subst (λ (v : Vector). SameDirection v d) (sym (opposite-twice d)) (dir-self d h)
 
   -- one label on a ray and close to it on both sides: not in a simplified star
-  pub not-even : (k : ℕ) (r : Ray) (a : At t.rays k r) (u : Vector) → (dot u (ray_dir t r) ≡ pos 0 → ⊥) → (m : Label) → NearLabel M d (ray_dir t r) m
+  pub not-even : (k : ℕ) (r : Ray) (a : IsAt t.rays k r) (u : Vector) → (dot u (ray_dir t r) ≡ pos 0 → ⊥) → (m : Label) → NearLabel M d (ray_dir t r) m
       → ((e : Vector) → IsDirection (cross d e) → sign (dot u e) ≡ sign (dot u (ray_dir t r)) → NearLabel M d e m) → ⊥
   not-even k r a u f m n all =
       let x = next-ray t.rays k r a in
@@ -150,13 +150,13 @@ module _ (t : Star) (M : Map) (V : Valid M) (S : StarShows t M) (simple : IsSimp
       simple y.0 k y.1 r p.0 s.0 y.2 a y.3 p.1 s.1 (mark ∙ sym two) (mark ∙ sym one)
 
   -- at a plain direction there is no ray
-  pub plain-no_ray : NearPlain M d → (k : ℕ) (r : Ray) → At t.rays k r → ⊥
+  pub plain-no_ray : NearPlain M d → (k : ℕ) (r : Ray) → IsAt t.rays k r → ⊥
   plain-no_ray P k r a =
       let w = way-level k r a in
       not-even k r a (ray_dir t r) (λ z. let p = self-pos (ray_dir t r) w.1 in omega (arith, ints)) P.label (P.near (ray_dir t r) (off-axis (ray_dir t r) w.1 w.0)) (λ e f g. P.near e f)
 
   -- at a straight direction each ray lies in the plane
-  pub straight-level : (P : NearStraight M d) → (k : ℕ) (r : Ray) → At t.rays k r → dot P.normal (ray_dir t r) ≡ pos 0
+  pub straight-level : (P : NearStraight M d) → (k : ℕ) (r : Ray) → IsAt t.rays k r → dot P.normal (ray_dir t r) ≡ pos 0
   straight-level P k r a = ⊎_elim (λ z. z) (λ f. absurd (
       let w = way-level k r a in
       let side = by_side P.pos P.label P.neg in

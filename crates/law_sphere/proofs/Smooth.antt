@@ -1,5 +1,5 @@
 -- Where neither of two maps has a svertex and no items cross, an operation on them is plain or straight.
-use Rattle.law_sphere.proofs.Prelude.{ℕ, ◌+◌, arith, refl, ap, sym, ◌∙◌, subst, sign, Vector, IsDirection, cross, dot, IsZero, SameDirection, Label, At, MapVertex, Map, Item, items, item_normal, item_pos, item_mark, item_neg, OnItem, IsFree, on_item, NearLabel, Valid, by_side, Near, ByOp, IsSmooth, plain, straight, dot-comm, dir-signs, direction-left}
+use Rattle.law_sphere.proofs.Prelude.{ℕ, ◌+◌, arith, refl, ap, sym, ◌∙◌, subst, sign, Vector, IsDirection, cross, dot, IsZero, SameDirection, Label, IsAt, MapVertex, Map, Item, items, item_normal, item_pos, item_mark, item_neg, OnItem, IsFree, on_item, NearLabel, Valid, by_side, Near, ByOp, IsSmooth, plain, straight, dot-comm, dir-signs, direction-left}
 use Rattle.law_sphere.proofs.Vectors.{normal-is, even-side, op-side}
 use Rattle.law_sphere.proofs.Forms.{on-level, PlaceOf, svertex_place, item_place, free_place, place_of}
 use Rattle.law_sphere.proofs.Labels.{label-exists}
@@ -19,7 +19,7 @@ module _ (A B : Map) (op : Label → Label → Label) (V : Valid A) (W : Valid B
       let a = label-exists A V d h in let b = label-exists B W d h in
       plain (op a.0 b.0) (record { at_d = (a.0, b.0, a.1, b.1, refl); near = λ e. near-op e a.0 b.0 (near-free A V d f a.0 a.1 e) (near-free B W d g b.0 b.1 e) })
 
-  item-free : (i : ℕ) (x : Item) → At (items A) i x → OnItem A x d → IsFree B d → IsSmooth F d
+  item-free : (i : ℕ) (x : Item) → IsAt (items A) i x → OnItem A x d → IsFree B d → IsSmooth F d
   item-free i x q o g =
       let b = label-exists B W d h in
       straight (item_normal x) (op (item_pos x) b.0) (op (item_mark x) b.0) (op (item_neg x) b.0) (normal-is V.shaped i x q) (record {
@@ -30,7 +30,7 @@ module _ (A B : Map) (op : Label → Label → Label) (V : Valid A) (W : Valid B
             (near-op e _ b.0 (near-item A V d i x q o e) (near-free B W d g b.0 b.1 e));
       })
 
-  free-item : IsFree A d → (j : ℕ) (y : Item) → At (items B) j y → OnItem B y d → IsSmooth F d
+  free-item : IsFree A d → (j : ℕ) (y : Item) → IsAt (items B) j y → OnItem B y d → IsSmooth F d
   free-item f j y r o =
       let a = label-exists A V d h in
       straight (item_normal y) (op a.0 (item_pos y)) (op a.0 (item_mark y)) (op a.0 (item_neg y)) (normal-is W.shaped j y r) (record {
@@ -41,7 +41,7 @@ module _ (A B : Map) (op : Label → Label → Label) (V : Valid A) (W : Valid B
             (near-op e a.0 _ (near-free A V d f a.0 a.1 e) (near-item B W d j y r o e));
       })
 
-  item-item : (i : ℕ) (x : Item) → At (items A) i x → OnItem A x d → (j : ℕ) (y : Item) → At (items B) j y → OnItem B y d → IsZero (cross (item_normal x) (item_normal y)) → IsSmooth F d
+  item-item : (i : ℕ) (x : Item) → IsAt (items A) i x → OnItem A x d → (j : ℕ) (y : Item) → IsAt (items B) j y → OnItem B y d → IsZero (cross (item_normal x) (item_normal y)) → IsSmooth F d
   item-item i x q o j y r p z = by (beside (item_normal x) (item_normal y) (normal-is V.shaped i x q) (normal-is W.shaped j y r) z)
     where
       by : Beside (item_normal x) (item_normal y) → IsSmooth F d
@@ -56,8 +56,8 @@ module _ (A B : Map) (op : Label → Label → Label) (V : Valid A) (W : Valid B
       })
 
   -- off the axes of the overlay, op of the two maps is plain or straight
-  pub op-smooth : ((k : ℕ) (v : MapVertex) → At A.svertices k v → SameDirection v.dir d → ⊥) → ((k : ℕ) (v : MapVertex) → At B.svertices k v → SameDirection v.dir d → ⊥)
-      → ((i j : ℕ) (x y : Item) → At (items A) i x → At (items B) j y → OnItem A x d → OnItem B y d → IsZero (cross (item_normal x) (item_normal y))) → IsSmooth F d
+  pub op-smooth : ((k : ℕ) (v : MapVertex) → IsAt A.svertices k v → SameDirection v.dir d → ⊥) → ((k : ℕ) (v : MapVertex) → IsAt B.svertices k v → SameDirection v.dir d → ⊥)
+      → ((i j : ℕ) (x y : Item) → IsAt (items A) i x → IsAt (items B) j y → OnItem A x d → OnItem B y d → IsZero (cross (item_normal x) (item_normal y))) → IsSmooth F d
   op-smooth a b c = by (place_of A d h) (place_of B d h)
     where
       by : PlaceOf A d → PlaceOf B d → IsSmooth F d

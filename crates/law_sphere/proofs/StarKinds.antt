@@ -1,5 +1,5 @@
 -- A plain star says that the direction is plain, a straight star that it is straight.
-use Rattle.law_sphere.proofs.Prelude.{◌≡◌, ℕ, zero, suc, pos, ◌-ℤ◌, ◌*ℤ◌, ◌<ℤ◌, arith, refl, ap, sym, ◌∙◌, ◌⊎◌, inl, inr, ⊎_elim, List, ◌∷◌, subst, length, cond, [], ints, num, ◌⊖◌, ◌⊗◌, neg, follows, given, none, minus, nought, plus, sign, sign-plus, sign-minus, sign-scaled, Vector, IsDirection, cross, triple, dot, SameDirection, IsOpposite, IsNormal, Label, At, Map, NearLabel, IsStrictlyOn, by_side, NearPlain, NearStraight, Ray, Star, ray_dir, across, OnRay, NextRay, StarLabel, on_ray, in_sector, in_only_sector, IsRay, StarOf, IsPlain, IsStraight, dot-comm, self-pos, cross-turned, dir-signs, direction-left, cross_of, dir-self, dot_poly, from-opposite, level_cross_second, nought-if, numbers, opposite-cross, square-cross, triple_of, vec, is-at_none, is-at_first}
+use Rattle.law_sphere.proofs.Prelude.{◌≡◌, ℕ, zero, suc, pos, ◌-ℤ◌, ◌*ℤ◌, ◌<ℤ◌, arith, refl, ap, sym, ◌∙◌, ◌⊎◌, inl, inr, ⊎_elim, List, ◌∷◌, subst, length, cond, [], ints, num, ◌⊖◌, ◌⊗◌, neg, follows, given, none, minus, nought, plus, sign, sign-plus, sign-minus, sign-scaled, Vector, IsDirection, cross, triple, dot, SameDirection, IsOpposite, IsNormal, Label, IsAt, Map, NearLabel, IsStrictlyOn, by_side, NearPlain, NearStraight, Ray, Star, ray_dir, across, OnRay, NextRay, StarLabel, on_ray, in_sector, in_only_sector, LeavesAxis, StarOf, IsPlain, IsStraight, dot-comm, self-pos, cross-turned, dir-signs, direction-left, cross_of, dir-self, dot_poly, from-opposite, level_cross_second, nought-if, numbers, opposite-cross, square-cross, poly_triple, vec, is-at_none, is-at_first}
 use Rattle.law_sphere.proofs.Vectors.{normal-direction}
 use Rattle.law_sphere.proofs.Lists.{none-at}
 
@@ -9,7 +9,7 @@ plain-star t M d S P = record { label = t.mark; at_d = S.mark; near = λ e f. by
     only : (e : Vector) (l : Label) → StarLabel t e l → t.mark ≡ l
     only e l (on_ray k r a o q) = absurd (none-at t.rays k r P.no_ray a)
     only e l (in_sector k q r a n o s) = absurd (none-at t.rays k q P.no_ray a)
-    only e l (in_only_sector n s) = is-at_first (subst (λ (r : List Label). At r zero l) P.one_sector s)
+    only e l (in_only_sector n s) = is-at_first (subst (λ (r : List Label). IsAt r zero l) P.one_sector s)
 
     by : (e : Vector) → (l : Label) × StarLabel t e l × NearLabel M d e l → NearLabel M d e t.mark
     by e (l, s, n) = subst (NearLabel M d e) (sym (only e l s)) n
@@ -27,24 +27,24 @@ star-plain M d P = (
 -- ---- the sides of a straight star
 -- where n is at right angles to d: n.across(d, e) = (d.d)(n.e)
 pub across-side : (n d e : Vector) → dot n d ≡ pos 0 → dot n (across d e) ≡ dot d d *ℤ dot n e
-across-side n d e z = follows (numbers n d e e) (triple_of (vec 0) (cross_of (vec 3) (vec 6)) (vec 3)) (dot_poly 3 3 ⊗ dot_poly 0 6) (given (neg (dot_poly 3 6)) (dot_poly 0 3) (num (pos 0)) z none) tt
+across-side n d e z = follows (numbers n d e e) (poly_triple (vec 0) (cross_of (vec 3) (vec 6)) (vec 3)) (dot_poly 3 3 ⊗ dot_poly 0 6) (given (neg (dot_poly 3 6)) (dot_poly 0 3) (num (pos 0)) z none) tt
 
 -- the turn from n x d to E about d: d.((n x d) x E) = (d.d)(n.E) - (d.n)(d.E)
 pub turn-ahead : (n d e : Vector) → dot n d ≡ pos 0 → triple d (cross n d) e ≡ dot d d *ℤ dot n e
-turn-ahead n d e z = follows (numbers n d e e) (triple_of (vec 3) (cross_of (vec 0) (vec 3)) (vec 6)) (dot_poly 3 3 ⊗ dot_poly 0 6) (given (neg (dot_poly 3 6)) (dot_poly 0 3) (num (pos 0)) z none) tt
+turn-ahead n d e z = follows (numbers n d e e) (poly_triple (vec 3) (cross_of (vec 0) (vec 3)) (vec 6)) (dot_poly 3 3 ⊗ dot_poly 0 6) (given (neg (dot_poly 3 6)) (dot_poly 0 3) (num (pos 0)) z none) tt
 
 turn-behind : (n d e : Vector) → dot n d ≡ pos 0 → triple d (cross d n) e ≡ pos 0 -ℤ dot d d *ℤ dot n e
-turn-behind n d e z = follows (numbers n d e e) (triple_of (vec 3) (cross_of (vec 3) (vec 0)) (vec 6)) (num (pos 0) ⊖ dot_poly 3 3 ⊗ dot_poly 0 6) (given (dot_poly 3 6) (dot_poly 0 3) (num (pos 0)) z none) tt
+turn-behind n d e z = follows (numbers n d e e) (poly_triple (vec 3) (cross_of (vec 3) (vec 0)) (vec 6)) (num (pos 0) ⊖ dot_poly 3 3 ⊗ dot_poly 0 6) (given (dot_poly 3 6) (dot_poly 0 3) (num (pos 0)) z none) tt
 
-module _ (t : Star) (rays : (k : ℕ) (r : Ray) → At t.rays k r → IsRay t r) (K : IsStraight t) (axis : IsDirection t.axis) where
+module _ (t : Star) (rays : (k : ℕ) (r : Ray) → IsAt t.rays k r → LeavesAxis t r) (K : IsStraight t) (axis : IsDirection t.axis) where
   abbrev d : Vector
   d = t.axis
 
   abbrev n : Vector
   n = K.first.normal
 
-  first-at : At t.rays zero K.first
-  first-at = subst (λ (r : List Ray). At r zero K.first) (sym K.two_rays) refl
+  first-at : IsAt t.rays zero K.first
+  first-at = subst (λ (r : List Ray). IsAt r zero K.first) (sym K.two_rays) refl
 
   pub straight_star-level : dot n d ≡ pos 0
   straight_star-level = let r = rays zero K.first first-at in r.level
@@ -94,13 +94,13 @@ module _ (t : Star) (rays : (k : ℕ) (r : Ray) → At t.rays k r → IsRay t r)
       let k = turn-behind n d (across d e) straight_star-level in
       sym (side-of e) ∙ sym (sign-scaled (dot d d) (dot n (across d e)) dd) ∙ sign-minus (dot d d *ℤ dot n (across d e)) (omega (arith, ints))
 
-  ray-one : (k : ℕ) (r : Ray) → At (K.first ∷ K.second ∷ []) k r → ((k ≡ zero) × (K.first ≡ r)) ⊎ ((k ≡ suc zero) × (K.second ≡ r))
+  ray-one : (k : ℕ) (r : Ray) → IsAt (K.first ∷ K.second ∷ []) k r → ((k ≡ zero) × (K.first ≡ r)) ⊎ ((k ≡ suc zero) × (K.second ≡ r))
   ray-one zero r e = inl (refl, is-at_first e)
   ray-one (suc zero) r e = inr (refl, is-at_first e)
   ray-one (suc (suc k)) r e = absurd (is-at_none e)
 
-  listed-one : (k : ℕ) (r : Ray) → At t.rays k r → ((k ≡ zero) × (K.first ≡ r)) ⊎ ((k ≡ suc zero) × (K.second ≡ r))
-  listed-one k r a = ray-one k r (subst (λ (q : List Ray). At q k r) K.two_rays a)
+  listed-one : (k : ℕ) (r : Ray) → IsAt t.rays k r → ((k ≡ zero) × (K.first ≡ r)) ⊎ ((k ≡ suc zero) × (K.second ≡ r))
+  listed-one k r a = ray-one k r (subst (λ (q : List Ray). IsAt q k r) K.two_rays a)
 
   -- the star's label is that of the side
   pub straight_star-label : (e : Vector) (l : Label) → StarLabel t e l → l ≡ by_side K.pos t.mark K.neg (sign (dot n e))
@@ -110,8 +110,8 @@ module _ (t : Star) (rays : (k : ℕ) (r : Ray) → At t.rays k r → IsRay t r)
   straight_star-label e l (in_only_sector z s) = absurd (none-at t.rays zero K.first z first-at)
   straight_star-label e l (in_sector k q r a x o s) = by (listed-one k q a) x
     where
-      sector : At (K.pos ∷ K.neg ∷ []) k l
-      sector = subst (λ (w : List Label). At w k l) K.two_sectors s
+      sector : IsAt (K.pos ∷ K.neg ∷ []) k l
+      sector = subst (λ (w : List Label). IsAt w k l) K.two_sectors s
 
       rays-length : length t.rays ≡ 2
       rays-length = ap (length {A = Ray}) K.two_rays
@@ -123,10 +123,10 @@ module _ (t : Star) (rays : (k : ℕ) (r : Ray) → At t.rays k r → IsRay t r)
       second-next f g h = h ∙ ap (by_side K.pos t.mark K.neg) (sym (past-second e (subst (λ (w : Vector). IsStrictlyOn d w (cross n d) (across d e)) (ap (ray_dir t) (sym f) ∙ behind) (subst (λ (w : Vector). IsStrictlyOn d (ray_dir t q) w (across d e)) (ap (ray_dir t) (sym g) ∙ ahead) o))))
 
       by : ((k ≡ zero) × (K.first ≡ q)) ⊎ ((k ≡ suc zero) × (K.second ≡ q)) → NextRay t.rays k r → l ≡ by_side K.pos t.mark K.neg (sign (dot n e))
-      by (inl c) (inl y) = ⊎_elim (λ z. let p = z.0 in let u = c.0 in absurd (omega arith)) (λ z. first-next c.1 z.1 (is-at_first (sym (subst (λ (i : ℕ). At (K.pos ∷ K.neg ∷ []) i l) c.0 sector)))) (listed-one (suc k) r y)
+      by (inl c) (inl y) = ⊎_elim (λ z. let p = z.0 in let u = c.0 in absurd (omega arith)) (λ z. first-next c.1 z.1 (is-at_first (sym (subst (λ (i : ℕ). IsAt (K.pos ∷ K.neg ∷ []) i l) c.0 sector)))) (listed-one (suc k) r y)
       by (inl c) (inr y) = let p = y.0 in let u = c.0 in let w = rays-length in absurd (omega arith)
       by (inr c) (inl y) = ⊎_elim (λ z. let p = z.0 in let u = c.0 in absurd (omega arith)) (λ z. let p = z.0 in let u = c.0 in absurd (omega arith)) (listed-one (suc k) r y)
-      by (inr c) (inr y) = ⊎_elim (λ z. second-next c.1 z.1 (is-at_first (sym (subst (λ (i : ℕ). At (K.pos ∷ K.neg ∷ []) i l) c.0 sector)))) (λ z. let p = z.0 in absurd (omega arith)) (listed-one zero r y.1)
+      by (inr c) (inr y) = ⊎_elim (λ z. second-next c.1 z.1 (is-at_first (sym (subst (λ (i : ℕ). IsAt (K.pos ∷ K.neg ∷ []) i l) c.0 sector)))) (λ z. let p = z.0 in absurd (omega arith)) (listed-one zero r y.1)
 
 pub straight-star : (t : Star) (M : Map) (d : Vector) → IsDirection d → StarOf t M d → IsStraight t → NearStraight M d
 straight-star t M d h S K = record {

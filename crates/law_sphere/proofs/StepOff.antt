@@ -1,5 +1,5 @@
 -- A direction in general position to which given directions have a clear way.
-use Rattle.law_sphere.proofs.Prelude.{◌≡◌, ℕ, ◌<◌, pos, arith, refl, sym, ◌∙◌, inl, inr, List, ◌∷◌, ◌++◌, subst, [], ints, Lies, Vector, IsDirection, cross, dot, IsZero, SameDirection, blend, At, MapVertex, Map, Item, items, item_normal, IsFree, IsClear, Shaped, Decided, lies-left, lies-right, zero-decided, dot-zero, cross-turned, cross-none, blend-turned}
+use Rattle.law_sphere.proofs.Prelude.{◌≡◌, ℕ, ◌<◌, pos, arith, refl, sym, ◌∙◌, inl, inr, List, ◌∷◌, ◌++◌, subst, [], ints, Lies, Vector, IsDirection, cross, dot, IsZero, SameDirection, blend, IsAt, MapVertex, Map, Item, items, item_normal, IsFree, IsClear, Shaped, Decided, lies-left, lies-right, zero-decided, dot-zero, cross-turned, cross-none, blend-turned}
 use Rattle.law_sphere.proofs.Vectors.{normal-is}
 use Rattle.law_sphere.proofs.Generic.{Generic, generic}
 use Rattle.law_sphere.proofs.Lists.{gather, gather-has}
@@ -28,9 +28,9 @@ module _ (M : Map) (ds : List Vector) where
   -- x lies in no item's plane, is parallel to none of ds, and the ways from them to it miss all svertices
   pub record Outlook : Type 0 where
     pub vector : Vector
-    pub planes : (k : ℕ) (y : Item) → At (items M) k y → IsDirection (item_normal y) → dot (item_normal y) vector ≡ pos 0 → ⊥
-    pub apart : (k : ℕ) (d : Vector) → At ds k d → IsDirection d → IsDirection (cross d vector)
-    pub misses : (k : ℕ) (d : Vector) → At ds k d → (l : ℕ) (v : MapVertex) → At M.svertices l v → IsDirection (cross d v.dir) → dot (cross d v.dir) vector ≡ pos 0 → ⊥
+    pub planes : (k : ℕ) (y : Item) → IsAt (items M) k y → IsDirection (item_normal y) → dot (item_normal y) vector ≡ pos 0 → ⊥
+    pub apart : (k : ℕ) (d : Vector) → IsAt ds k d → IsDirection d → IsDirection (cross d vector)
+    pub misses : (k : ℕ) (d : Vector) → IsAt ds k d → (l : ℕ) (v : MapVertex) → IsAt M.svertices l v → IsDirection (cross d v.dir) → dot (cross d v.dir) vector ≡ pos 0 → ⊥
 
   pub outlook : Vector → Outlook
   outlook s = by (generic avoided s)
@@ -43,10 +43,10 @@ module _ (M : Map) (ds : List Vector) where
         misses = λ k d a l v h. e.off (cross d v.dir) (joined k d a (cross d v.dir) (lies-right (point_forms d) (gather (λ (v : MapVertex). cross d v.dir ∷ []) M.svertices) (cross d v.dir) (gather-has (λ (v : MapVertex). cross d v.dir ∷ []) M.svertices l v (cross d v.dir) h (inl refl))));
       }
         where
-          joined : (k : ℕ) (d : Vector) → At ds k d → (g : Vector) → Lies (joins d) g → Lies avoided g
+          joined : (k : ℕ) (d : Vector) → IsAt ds k d → (g : Vector) → Lies (joins d) g → Lies avoided g
           joined k d a g l = lies-right (gather (λ (y : Item). item_normal y ∷ []) (items M)) (gather joins ds) g (gather-has joins ds k d g a l)
 
-  module _ (V : Shaped M) (x : Outlook) (k : ℕ) (d : Vector) (here : At ds k d) (h : IsDirection d) where
+  module _ (V : Shaped M) (x : Outlook) (k : ℕ) (d : Vector) (here : IsAt ds k d) (h : IsDirection d) where
     pub outlook-direction : IsDirection x.vector
     outlook-direction z = x.apart k d here h (cross-none d x.vector z)
 
@@ -58,7 +58,7 @@ module _ (M : Map) (ds : List Vector) where
     }
 
     -- the way from a free direction that all items' planes hold
-    pub outlook-clear : IsFree M d → ((l : ℕ) (y : Item) → At (items M) l y → dot (item_normal y) d ≡ pos 0) → IsClear M d x.vector
+    pub outlook-clear : IsFree M d → ((l : ℕ) (y : Item) → IsAt (items M) l y → dot (item_normal y) d ≡ pos 0) → IsClear M d x.vector
     outlook-clear F level = record {
       start = F;
       direction = outlook-direction;
@@ -74,8 +74,8 @@ module _ (M : Map) (ds : List Vector) where
         between-direction i j sj z = cross-between d x.vector i j sj (x.apart k d here h) (cross-none d (blend i d j x.vector) z)
 
 -- the way from the outlook to a svertex, on a map without items
-pub outlook-svertex : (M : Map) (ds : List Vector) → Shaped M → (x : Outlook M ds) → IsFree M x.vector → ((l : ℕ) (y : Item) → At (items M) l y → ⊥)
-    → (k : ℕ) (v : Vector) → At ds k v → IsDirection v → IsClear M x.vector v
+pub outlook-svertex : (M : Map) (ds : List Vector) → Shaped M → (x : Outlook M ds) → IsFree M x.vector → ((l : ℕ) (y : Item) → IsAt (items M) l y → ⊥)
+    → (k : ℕ) (v : Vector) → IsAt ds k v → IsDirection v → IsClear M x.vector v
 outlook-svertex M ds V x F empty k v here h = record {
   start = F;
   direction = h;

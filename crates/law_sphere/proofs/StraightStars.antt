@@ -1,5 +1,5 @@
 -- A simplified star at a straight direction has no ray, or two opposite rays with its mark.
-use Rattle.law_sphere.proofs.Prelude.{◌≡◌, ℕ, zero, suc, pos, arith, refl, ap, sym, ◌∙◌, ◌⊎◌, inl, inr, List, ◌∷◌, subst, length, [], ints, Sign, sign, Vector, IsDirection, cross, dot, SameDirection, IsOpposite, opposite, Label, At, Map, NearLabel, Valid, by_side, NearStraight, Ray, Star, ray_dir, StarShows, IsSimplified, dot-comm, self-pos, cross-turned, nought-if, opposites, SameDirection-turned, SameDirection-trans, dir-self, dir-signs, opposite-turned, parallel-trans, crossed, direction-opposite, dot-opposite, level-of_opposite}
+use Rattle.law_sphere.proofs.Prelude.{◌≡◌, ℕ, zero, suc, pos, arith, refl, ap, sym, ◌∙◌, ◌⊎◌, inl, inr, List, ◌∷◌, subst, length, [], ints, Sign, sign, Vector, IsDirection, cross, dot, SameDirection, IsOpposite, opposite, Label, IsAt, Map, NearLabel, Valid, by_side, NearStraight, Ray, Star, ray_dir, StarShows, IsSimplified, dot-comm, self-pos, cross-turned, nought-if, opposites, SameDirection-turned, SameDirection-trans, dir-self, dir-signs, opposite-turned, parallel-trans, crossed, direction-opposite, dot-opposite, level-of_opposite}
 use Rattle.law_sphere.proofs.Vectors.{same-minus}
 use Rattle.law_sphere.proofs.Labels.{near-unique, label-unique}
 use Rattle.law_sphere.proofs.Around.{Beside, same_way, other_way, beside}
@@ -8,7 +8,7 @@ use Rattle.law_sphere.proofs.Simplified.{way-level, off-axis, ray-label, sector-
 
 -- no two rays go the same way
 abbrev pub RaysApart : Star → Type 0
-RaysApart t = (i k : ℕ) (q r : Ray) → At t.rays i q → At t.rays k r → SameDirection (ray_dir t q) (ray_dir t r) → i ≡ k
+RaysApart t = (i k : ℕ) (q r : Ray) → IsAt t.rays i q → IsAt t.rays k r → SameDirection (ray_dir t q) (ray_dir t r) → i ≡ k
 
 pub record TwoRays (t : Star) : Type 0 where
   pub first : Ray
@@ -35,12 +35,12 @@ module _ (t : Star) (M : Map) (V : Valid M) (S : StarShows t M) (simple : IsSimp
   w0-direction z = S.axis (nought-if n d P.direction z P.level)
 
   -- each ray goes along n x d or its opposite
-  along-plane : (k : ℕ) (r : Ray) → At t.rays k r → Beside w0 (ray_dir t r)
+  along-plane : (k : ℕ) (r : Ray) → IsAt t.rays k r → Beside w0 (ray_dir t r)
   along-plane k r a =
       let x = way-level t M V S simple k r a in
       beside w0 (ray_dir t r) w0-direction x.1 (crossed n d (ray_dir t r) (straight-level t M V S simple P k r a) x.0)
 
-  ray-mark : (k : ℕ) (r : Ray) → At t.rays k r → r.mark ≡ P.label
+  ray-mark : (k : ℕ) (r : Ray) → IsAt t.rays k r → r.mark ≡ P.label
   ray-mark k r a =
       let x = way-level t M V S simple k r a in
       near-unique M V d (ray_dir t r) r.mark P.label (ray-label t M V S simple k r a)
@@ -52,7 +52,7 @@ module _ (t : Star) (M : Map) (V : Valid M) (S : StarShows t M) (simple : IsSimp
   -- one ray alone: its sector goes all round
   not-one : (r : Ray) → t.rays ≡ r ∷ [] → ⊥
   not-one r e =
-      let a : At t.rays zero r = subst (λ (q : List Ray). At q zero r) (sym e) refl in
+      let a : IsAt t.rays zero r = subst (λ (q : List Ray). IsAt q zero r) (sym e) refl in
       let l = ap (length {A = Ray}) e in
       let s = S.sectors zero r a in
       let x = way-level t M V S simple zero r a in
@@ -70,23 +70,23 @@ module _ (t : Star) (M : Map) (V : Valid M) (S : StarShows t M) (simple : IsSimp
       last-one : length t.rays ≡ 1 → suc zero ≡ length t.rays
       last-one l = sym l
 
-      label-at : (r : Ray) → At t.rays zero r → (l : Label) → At t.sectors zero l → suc zero ≡ length t.rays → (e : Vector) → IsDirection e → dot d e ≡ pos 0 → (SameDirection (ray_dir t r) e → ⊥) → NearLabel M d e l
+      label-at : (r : Ray) → IsAt t.rays zero r → (l : Label) → IsAt t.sectors zero l → suc zero ≡ length t.rays → (e : Vector) → IsDirection e → dot d e ≡ pos 0 → (SameDirection (ray_dir t r) e → ⊥) → NearLabel M d e l
       label-at r a l s q e he z f =
           let x = way-level t M V S simple zero r a in
           sector-label t M V S simple zero r r l a (inr (q, a)) s e (whole-passes d (ray_dir t r) (ray_dir t r) e S.axis x.1 x.1 he x.0 x.0 z (dir-self (ray_dir t r) x.1) f)
 
   -- two rays on one side of the axis
-  both-same : (i k : ℕ) (q r : Ray) → At t.rays i q → At t.rays k r → SameDirection w0 (ray_dir t q) → SameDirection w0 (ray_dir t r) → i ≡ k
+  both-same : (i k : ℕ) (q r : Ray) → IsAt t.rays i q → IsAt t.rays k r → SameDirection w0 (ray_dir t q) → SameDirection w0 (ray_dir t r) → i ≡ k
   both-same i k q r a b x y = apart-rays i k q r a b (SameDirection-trans (ray_dir t q) w0 (ray_dir t r) (SameDirection-turned w0 (ray_dir t q) x) y)
 
-  both-other : (i k : ℕ) (q r : Ray) → At t.rays i q → At t.rays k r → IsOpposite w0 (ray_dir t q) → IsOpposite w0 (ray_dir t r) → i ≡ k
+  both-other : (i k : ℕ) (q r : Ray) → IsAt t.rays i q → IsAt t.rays k r → IsOpposite w0 (ray_dir t q) → IsOpposite w0 (ray_dir t r) → i ≡ k
   both-other i k q r a b x y = apart-rays i k q r a b (opposites w0 (ray_dir t q) (ray_dir t r) w0-direction x y)
 
   pub straight-rays : (t.rays ≡ []) ⊎ TwoRays t
   straight-rays = by t.rays refl
     where
-      listed : (rs : List Ray) → t.rays ≡ rs → (k : ℕ) (r : Ray) → At rs k r → At t.rays k r
-      listed rs e k r a = subst (λ (q : List Ray). At q k r) (sym e) a
+      listed : (rs : List Ray) → t.rays ≡ rs → (k : ℕ) (r : Ray) → IsAt rs k r → IsAt t.rays k r
+      listed rs e k r a = subst (λ (q : List Ray). IsAt q k r) (sym e) a
 
       zero-one : zero ≡ suc zero → ⊥
       zero-one e = omega arith
@@ -112,7 +112,7 @@ module _ (t : Star) (M : Map) (V : Valid M) (S : StarShows t M) (simple : IsSimp
       pair q r e (same_way x) (other_way y) = two q r e (flip w0 (ray_dir t q) (ray_dir t r) w0-direction x y)
       pair q r e (other_way x) (same_way y) = two q r e (opposite-turned (ray_dir t r) (ray_dir t q) (flip w0 (ray_dir t r) (ray_dir t q) w0-direction y x))
 
-      three : (q r s : Ray) → At t.rays zero q → At t.rays (suc zero) r → At t.rays (suc (suc zero)) s → Beside w0 (ray_dir t q) → Beside w0 (ray_dir t r) → Beside w0 (ray_dir t s) → ⊥
+      three : (q r s : Ray) → IsAt t.rays zero q → IsAt t.rays (suc zero) r → IsAt t.rays (suc (suc zero)) s → Beside w0 (ray_dir t q) → Beside w0 (ray_dir t r) → Beside w0 (ray_dir t s) → ⊥
       three q r s a b c (same_way x) (same_way y) z = zero-one (both-same zero (suc zero) q r a b x y)
       three q r s a b c (other_way x) (other_way y) z = zero-one (both-other zero (suc zero) q r a b x y)
       three q r s a b c (same_way x) (other_way y) (same_way z) = zero-two (both-same zero (suc (suc zero)) q s a c x z)

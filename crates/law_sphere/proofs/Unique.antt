@@ -1,5 +1,5 @@
 -- Two least maps with one label in every direction hold the same things.
-use Rattle.law_sphere.proofs.Prelude.{◌≡◌, ℕ, zero, arith, refl, ap, sym, ◌∙◌, ◌⊎◌, inl, inr, ⊎_elim, List, ◌∷◌, subst, Option, Some, None, [], ints, cases_lt, Vector, IsDirection, cross, dot, IsZero, SameDirection, Label, At, MapVertex, MapSloop, Map, Item, arc_item, sloop_item, items, dir_of, IsFree, whole, directly, MapLabel, seen, HasArc, Valid, NearPlain, NearStraight, Least, SameLabels, MatchedArc, MatchedSvertex, Within, Decided, decided-or, same-nought, self-pos, cross-turned, SameDirection-turned, SameDirection-trans, dir-self, dir-signs, direction-left, apart, parallel-trans, is-at_none}
+use Rattle.law_sphere.proofs.Prelude.{◌≡◌, ℕ, zero, arith, refl, ap, sym, ◌∙◌, ◌⊎◌, inl, inr, ⊎_elim, List, ◌∷◌, subst, Option, Some, None, [], ints, cases_lt, Vector, IsDirection, cross, dot, IsZero, SameDirection, Label, IsAt, MapVertex, MapSloop, Map, Item, arc_item, sloop_item, items, dir_of, IsFree, whole, directly, MapLabel, seen, HasArc, Valid, NearPlain, NearStraight, Least, SameLabels, MatchedArc, MatchedSvertex, MatchesInto, Decided, decided-or, same-nought, self-pos, cross-turned, SameDirection-turned, SameDirection-trans, dir-self, dir-signs, direction-left, apart, parallel-trans, is-at_none}
 use Rattle.law_sphere.proofs.Lists.{search_list, at-one}
 use Rattle.law_sphere.proofs.Places.{axis_x}
 use Rattle.law_sphere.proofs.Forms.{PlaceOf, svertex_place, item_place, free_place, place_of}
@@ -25,7 +25,7 @@ beside-d d f = let p = circle-point d f in let q = p.1 in (p.0, apart d d p.0 (�
 
 module _ (M N : Map) (V : Valid M) (W : Valid N) (L : Least M) (K : Least N) (s : SameLabels M N) where
   -- arcs at a svertex
-  arcs-carried : (k l : ℕ) (v u : MapVertex) → At M.svertices k v → At N.svertices l u → SameDirection v.dir u.dir → HasArc M k → HasArc N l
+  arcs-carried : (k l : ℕ) (v u : MapVertex) → IsAt M.svertices k v → IsAt N.svertices l u → SameDirection v.dir u.dir → HasArc M k → HasArc N l
   arcs-carried k l v u a b w (i, r, h, e) = by (ends-of M V.shaped i r h) (arc-matched M N V W L K s i r h)
     where
       by : Ends M r → MatchedArc M N r → HasArc N l
@@ -37,10 +37,10 @@ module _ (M N : Map) (V : Valid M) (W : Valid N) (L : Least M) (K : Least N) (s 
             m.arc,
             m.listed,
             ⊎_elim
-                (λ z. let q = at-one M.svertices k x.source v (subst (λ (j : ℕ). At M.svertices j x.source) z x.has_source) a in
+                (λ z. let q = at-one M.svertices k x.source v (subst (λ (j : ℕ). IsAt M.svertices j x.source) z x.has_source) a in
                 let c = subst (λ (j : Vector). SameDirection j (dir_of N.svertices m.arc.source)) (x.source_is ∙ ap (λ (j : MapVertex). j.dir) q) m.source in
                 inl (W.shaped.svertices_apart m.arc.source l y.source u y.has_source b (SameDirection-trans y.source.dir v.dir u.dir (SameDirection-turned v.dir y.source.dir (subst (SameDirection v.dir) y.source_is c)) w)))
-                (λ z. let q = at-one M.svertices k x.target v (subst (λ (j : ℕ). At M.svertices j x.target) z x.has_target) a in
+                (λ z. let q = at-one M.svertices k x.target v (subst (λ (j : ℕ). IsAt M.svertices j x.target) z x.has_target) a in
                 let c = subst (λ (j : Vector). SameDirection j (dir_of N.svertices m.arc.target)) (x.target_is ∙ ap (λ (j : MapVertex). j.dir) q) m.target in
                 inr (W.shaped.svertices_apart m.arc.target l y.target u y.has_target b (SameDirection-trans y.target.dir v.dir u.dir (SameDirection-turned v.dir y.target.dir (subst (SameDirection v.dir) y.target_is c)) w))) e,
           )
@@ -49,7 +49,7 @@ module _ (M N : Map) (V : Valid M) (W : Valid N) (L : Least M) (K : Least N) (s 
   back : SameLabels N M
   back = labels-turned M N V W s
 
-  around-same : (k l : ℕ) (v u : MapVertex) → At M.svertices k v → At N.svertices l u → SameDirection v.dir u.dir → v.around ≡ u.around
+  around-same : (k l : ℕ) (v u : MapVertex) → IsAt M.svertices k v → IsAt N.svertices l u → SameDirection v.dir u.dir → v.around ≡ u.around
   around-same k l v u a b w = by (HasArc-decided M k)
     where
       by : Decided (HasArc M k) → v.around ≡ u.around
@@ -64,7 +64,7 @@ module _ (M N : Map) (V : Valid M) (W : Valid N) (L : Least M) (K : Least N) (s 
           let d = near-same_way N W u.dir v.dir e.0 (SameDirection-turned v.dir u.dir w) y.0 (near-lone N W l u b m y.0 y.1 e.0 f) in
           x.1 ∙ ap (λ (r : Label). Some r) (near-unique N W v.dir e.0 x.0 y.0 c d) ∙ sym y.1
 
-  pub svertex-same : (k : ℕ) (v : MapVertex) → At M.svertices k v → MatchedSvertex N v
+  pub svertex-same : (k : ℕ) (v : MapVertex) → IsAt M.svertices k v → MatchedSvertex N v
   svertex-same k v a =
       let m = svertex-matched M N V W L back k v a in
       let w = SameDirection-turned m.svertex.dir v.dir m.same in
@@ -78,12 +78,12 @@ module _ (M N : Map) (V : Valid M) (W : Valid N) (L : Least M) (K : Least N) (s 
       }
 
 -- ---- the face
-pub no-items : (M : Map) → Valid M → M.svertices ≡ [] → M.sloop ≡ None → (k : ℕ) (x : Item) → At (items M) k x → ⊥
-no-items M V e f k (arc_item a) h = let b = V.shaped.arcs_between k a (arc-at M.arcs M.sloop k a h) in is-at_none (subst (λ (r : List MapVertex). At r a.source b.source) e b.has_source)
+pub no-items : (M : Map) → Valid M → M.svertices ≡ [] → M.sloop ≡ None → (k : ℕ) (x : Item) → IsAt (items M) k x → ⊥
+no-items M V e f k (arc_item a) h = let b = V.shaped.arcs_between k a (arc-at M.arcs M.sloop k a h) in is-at_none (subst (λ (r : List MapVertex). IsAt r a.source b.source) e b.has_source)
 no-items M V e f k (sloop_item l) h = let q = sloop-at M.arcs M.sloop k l h in cc
 
 empty-free : (M : Map) → Valid M → M.svertices ≡ [] → M.sloop ≡ None → (d : Vector) → IsDirection d → IsFree M d
-empty-free M V e f d h = record { direction = h; off_svertices = λ k v a w. is-at_none (subst (λ (r : List MapVertex). At r k v) e a); off_items = λ k x a o. no-items M V e f k x a }
+empty-free M V e f d h = record { direction = h; off_svertices = λ k v a w. is-at_none (subst (λ (r : List MapVertex). IsAt r k v) e a); off_items = λ k x a o. no-items M V e f k x a }
 
 pub ground-label : (M : Map) → Valid M → (m : Label) → M.ground ≡ Some m → (d : Vector) → IsDirection d → MapLabel M d m
 ground-label M V m g d h =
@@ -94,9 +94,9 @@ ground-label M V m g d h =
 module _ (M N : Map) (V : Valid M) (W : Valid N) (L : Least M) (K : Least N) (s : SameLabels M N) where
   -- a map without svertices and sloop
   empty-carried : M.svertices ≡ [] → M.sloop ≡ None → (N.svertices ≡ []) × (N.sloop ≡ None)
-  empty-carried e f = (none-listed N.svertices (λ k u b. let r = svertex-matched N M W V K s k u b in is-at_none (subst (λ (q : List MapVertex). At q r.number r.svertex) e r.listed)), no-sloop N.sloop refl)
+  empty-carried e f = (none-listed N.svertices (λ k u b. let r = svertex-matched N M W V K s k u b in is-at_none (subst (λ (q : List MapVertex). IsAt q r.number r.svertex) e r.listed)), no-sloop N.sloop refl)
     where
-      none-listed : (us : List MapVertex) → ((k : ℕ) (u : MapVertex) → At us k u → ⊥) → us ≡ []
+      none-listed : (us : List MapVertex) → ((k : ℕ) (u : MapVertex) → IsAt us k u → ⊥) → us ≡ []
       none-listed [] n = refl
       none-listed (u ∷ us) n = absurd (n zero u refl)
 
@@ -122,7 +122,7 @@ module _ (M N : Map) (V : Valid M) (W : Valid N) (L : Least M) (K : Least N) (s 
           let q = W.shaped.ground_not n f in let r = empty-carried N M W V K L t q.0 q.1 in let z = (V.shaped.ground_alone r.0 r.1).1 in cc
 
   -- all that M holds N holds
-  pub within : Within M N
+  pub within : MatchesInto M N
   within = record {
     svertices = λ k v a. svertex-same M N V W L K s k v a;
     arcs = λ k a h. arc-matched M N V W L K s k a h;
@@ -151,7 +151,7 @@ straight-same_way M V d c w p = record {
 }
 
 module _ (M : Map) (V : Valid M) (L : Least M) (d : Vector) where
-  pub svertex-neither : (k : ℕ) (v : MapVertex) → At M.svertices k v → SameDirection v.dir d → (NearPlain M d ⊎ NearStraight M d) → ⊥
+  pub svertex-neither : (k : ℕ) (v : MapVertex) → IsAt M.svertices k v → SameDirection v.dir d → (NearPlain M d ⊎ NearStraight M d) → ⊥
   svertex-neither k v a w (inl p) = L.no_plain k v a (plain-same_way M V d v.dir (SameDirection-turned v.dir d w) p)
   svertex-neither k v a w (inr p) = L.no_straight k v a (straight-same_way M V d v.dir (SameDirection-turned v.dir d w) p)
 

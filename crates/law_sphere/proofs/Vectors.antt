@@ -1,5 +1,5 @@
 -- Products of vectors, and what follows from their signs.
-use Rattle.law_sphere.proofs.Prelude.{◌≡◌, ℕ, ℤ, pos, ◌+ℤ◌, ◌*ℤ◌, ◌<ℤ◌, arith, ◌∙◌, inl, inr, ◌∷◌, refl, ints, ring, at, ◌⊕◌, ◌⊗◌, sign, sign-plus, sign-minus, plus-is, minus-is, by_order, Sign, minus, nought, plus, Vector, IsDirection, dot, IsNormal, Decided, comb, VectorBelow, At, Map, Item, items, item_normal, Shaped, dot-zero, blend_of, dot_of, dot_poly, numbers, vec, Label, by_side}
+use Rattle.law_sphere.proofs.Prelude.{◌≡◌, ℕ, ℤ, pos, ◌+ℤ◌, ◌*ℤ◌, ◌<ℤ◌, arith, ◌∙◌, inl, inr, ◌∷◌, refl, ints, ring, at, ◌⊕◌, ◌⊗◌, sign, sign-plus, sign-minus, plus-is, minus-is, by_order, Sign, minus, nought, plus, Vector, IsDirection, dot, IsNormal, Decided, comb, VectorBelow, IsAt, Map, Item, items, item_normal, Shaped, dot-zero, blend_of, dot_of, dot_poly, numbers, vec, Label, by_side}
 
 -- ---- linear
 pub dot-comb : (g : Vector) (a : ℤ) (u : Vector) (b : ℤ) (v : Vector) → dot g (comb a u b v) ≡ a *ℤ dot g u +ℤ b *ℤ dot g v
@@ -29,7 +29,7 @@ direction-by g e f z = f (dot-zero g e z)
 pub normal-direction : (n : Vector) → IsNormal n → IsDirection n
 normal-direction n h z = let p = h.third z.0 z.1 in let q = z.2 in omega (arith, ints)
 
-pub normal-is : {M : Map} (V : Shaped M) (k : ℕ) (x : Item) → At (items M) k x → IsDirection (item_normal x)
+pub normal-is : {M : Map} (V : Shaped M) (k : ℕ) (x : Item) → IsAt (items M) k x → IsDirection (item_normal x)
 normal-is V k x a = normal-direction (item_normal x) (V.normals k x a)
 
 -- ---- the labels by a side

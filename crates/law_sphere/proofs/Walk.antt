@@ -1,7 +1,7 @@
 -- Labels that nothing changes along a way are the same at both ends.
 use Rattle.law_sphere.proofs.Prelude.{◌≡◌, ℕ, zero, suc, ◌+◌, ◌*◌, ◌<◌, pos, nat_abs, arith, ap, sym, ◌∙◌, ◌⊎◌, inl, inr, ⊎_elim, List, subst, Bool, true, false, mul-pos, sign, Lies, Vector, IsDirection, cross, dot, IsOpposite, blend, Label, SameSigns, Labelling, Plain, zero-decided, cross-turned, cross-none, dir-signs, blend-turned, left-of, right-of}
 use Rattle.law_near.proofs.Counting.{count, find-passing, count-less}
-use Rattle.law_near.proofs.Crossings.{opposite, sign-inside, opposite-left, opposite-right, to-nought, balance}
+use Rattle.law_near.proofs.Crossings.{opposite_signs, sign-inside, opposite-left, opposite-right, to-nought, balance}
 use Rattle.law_sphere.proofs.Vectors.{dot-comb}
 use Rattle.law_sphere.proofs.Direct.{cross-between}
 use Rattle.law_sphere.proofs.Around.{Beside, same_way, other_way, beside}
@@ -21,7 +21,7 @@ between-direction d e i j sj f = cross-direction_right d (blend i d j e) (cross-
 
 -- ---- forms that change sign
 abbrev pub crosses : Vector → Vector → Vector → Bool
-crosses g d e = opposite (sign (dot g d)) (sign (dot g e))
+crosses g d e = opposite_signs (sign (dot g d)) (sign (dot g e))
 
 abbrev pub crossings : List Vector → Vector → Vector → ℕ
 crossings gs d e = count (λ g. crosses g d e) gs
@@ -57,10 +57,10 @@ cut gs d e g l c =
       j = j;
       some_i = s.1;
       some_j = s.0;
-      fewer_left = count-less (λ k. crosses k d e) (λ k. crosses k d z) gs (λ k m q. ap (opposite (sign (dot k d))) (inside k q) ∙ opposite-left (sign (dot k d)) (sign (dot k e))) g l c
-          (ap (λ r. opposite (sign (dot g d)) (sign r)) o ∙ to-nought (sign (dot g d)));
-      fewer_right = count-less (λ k. crosses k d e) (λ k. crosses k z e) gs (λ k m q. ap (λ r. opposite r (sign (dot k e))) (inside k q) ∙ opposite-right (sign (dot k d)) (sign (dot k e)) q) g l c
-          (ap (λ r. opposite (sign r) (sign (dot g e))) o);
+      fewer_left = count-less (λ k. crosses k d e) (λ k. crosses k d z) gs (λ k m q. ap (opposite_signs (sign (dot k d))) (inside k q) ∙ opposite-left (sign (dot k d)) (sign (dot k e))) g l c
+          (ap (λ r. opposite_signs (sign (dot g d)) (sign r)) o ∙ to-nought (sign (dot g d)));
+      fewer_right = count-less (λ k. crosses k d e) (λ k. crosses k z e) gs (λ k m q. ap (λ r. opposite_signs r (sign (dot k e))) (inside k q) ∙ opposite-right (sign (dot k d)) (sign (dot k e)) q) g l c
+          (ap (λ r. opposite_signs (sign r) (sign (dot g e))) o);
     }
 
 pub cross-onward : (d e : Vector) (i j : ℕ) → 0 < i → IsDirection (cross d e) → IsDirection (cross (blend i d j e) e)

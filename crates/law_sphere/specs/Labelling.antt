@@ -1,8 +1,8 @@
 -- Labellings, which the signs of finitely many forms determine, and maps that agree with a labelling piece by piece.
 use Rattle.std.specs.Prelude.{◌≡◌, ◌≤◌}
-use Rattle.nef_space.specs.Prelude.{ℕ, pos, List, Some, sign, Vector, IsDirection, cross, dot, blend}
+use Rattle.nef_space.specs.Prelude.{ℕ, pos, List, Some, sign, Vector, IsDirection, cross, dot, blend, IsAt}
 use Rattle.nef_space.specs.declared.label.Label.{Label}
-use Rattle.law_sphere.specs.Maps.{At, MapVertex, Map, Item, items, item_normal, item_pos, item_mark, item_neg, OnItem, IsFree, MapLabel}
+use Rattle.law_sphere.specs.Maps.{MapVertex, Map, Item, items, item_normal, item_pos, item_mark, item_neg, OnItem, IsFree, MapLabel}
 use Rattle.law_sphere.specs.Forms.{SameSigns}
 use Rattle.law_sphere.specs.Least.{by_side}
 
@@ -21,10 +21,10 @@ Plain F d = (m : Label) → F d m → (e : Vector) → IsDirection (cross d e) �
 
 -- at each svertex, item and free direction of the map, and close to each, F gives the label that the map has there
 pub record Agrees (M : Map) (F : Vector → Label → Type 0) : Type 0 where
-  pub svertices : (k : ℕ) (v : MapVertex) → At M.svertices k v → F v.dir v.mark
-  pub marks : (k : ℕ) (x : Item) (d : Vector) → At (items M) k x → OnItem M x d → F d (item_mark x)
-  pub beside : (k : ℕ) (x : Item) (d e : Vector) → At (items M) k x → OnItem M x d → IsDirection (cross d e) → Near F d e (by_side (item_pos x) (item_mark x) (item_neg x) (sign (dot (item_normal x) e)))
-  pub lone : (k : ℕ) (v : MapVertex) (m : Label) (e : Vector) → At M.svertices k v → v.around ≡ Some m → IsDirection (cross v.dir e) → Near F v.dir e m
+  pub svertices : (k : ℕ) (v : MapVertex) → IsAt M.svertices k v → F v.dir v.mark
+  pub marks : (k : ℕ) (x : Item) (d : Vector) → IsAt (items M) k x → OnItem M x d → F d (item_mark x)
+  pub beside : (k : ℕ) (x : Item) (d e : Vector) → IsAt (items M) k x → OnItem M x d → IsDirection (cross d e) → Near F d e (by_side (item_pos x) (item_mark x) (item_neg x) (sign (dot (item_normal x) e)))
+  pub lone : (k : ℕ) (v : MapVertex) (m : Label) (e : Vector) → IsAt M.svertices k v → v.around ≡ Some m → IsDirection (cross v.dir e) → Near F v.dir e m
   pub free : (d : Vector) → IsFree M d → Plain F d
   pub ground : (m : Label) (d : Vector) → M.ground ≡ Some m → IsDirection d → F d m
 

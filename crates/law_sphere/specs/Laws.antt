@@ -1,33 +1,33 @@
 -- What is proved of sphere maps: each law is one statement that a function's contract cites.
 use Rattle.std.specs.Prelude.{◌≡◌, ◌≤◌, ◌↔◌, ◌⊎◌}
-use Rattle.nef_space.specs.Prelude.{ℕ, pos, List, Lies, Place, Vector, IsDirection, cross, dot, blend, SameDirection, IsZero, Set, HasLabel, Germ, Flat, FlatDim}
+use Rattle.nef_space.specs.Prelude.{ℕ, pos, List, Lies, SpacePoint, Vector, IsDirection, cross, dot, blend, SameDirection, IsZero, Set, HasLabel, Germ, Flat, FlatDim, IsAt}
 use Rattle.nef_space.specs.declared.label.Label.{Label}
-use Rattle.law_sphere.specs.Maps.{At, Map, MapVertex, Item, items, item_normal, OnItem, IsFree, IsClear, HasSide, Side, Sees, SeenAs, MapLabel, NearLabel, Shaped, Valid}
+use Rattle.law_sphere.specs.Maps.{Map, MapVertex, Item, items, item_normal, OnItem, IsFree, IsClear, HasSide, Side, Sees, SeenAs, MapLabel, NearLabel, Shaped, Valid}
 use Rattle.law_sphere.specs.Forms.{SameSigns, Keeps, forms}
 use Rattle.law_sphere.specs.Least.{NearPlain, NearStraight, Least, SameLabels, Ordered, Cone}
 use Rattle.law_sphere.specs.Labelling.{Agrees, ByOp, IsSmooth}
-use Rattle.law_sphere.specs.Builds.{IsBuilt, Kept}
+use Rattle.law_sphere.specs.Builds.{IsBuilt, NoneSmooth}
 use Rattle.law_sphere.specs.Kinds.{IsInVolume, IsInFacet, IsOnEdge}
 
 -- for each v some vector keeps the signs of v that aren't nought, and has no sign nought
-abbrev pub GenericVector : Type 0
-GenericVector = (gs : List Vector) (v : Vector) → (w : Vector) × Keeps gs v w × ((g : Vector) → Lies gs g → IsDirection g → dot g w ≡ pos 0 → ⊥)
+abbrev pub SignsKeptGenerically : Type 0
+SignsKeptGenerically = (gs : List Vector) (v : Vector) → (w : Vector) × Keeps gs v w × ((g : Vector) → Lies gs g → IsDirection g → dot g w ≡ pos 0 → ⊥)
 
 -- each direction lies on a svertex, lies on an item, or is free
 abbrev pub PlacesDecided : Type 0
 PlacesDecided = (M : Map) (d : Vector) → IsDirection d
-    → ((k : ℕ) × (v : MapVertex) × At M.svertices k v × SameDirection v.dir d) ⊎ ((k : ℕ) × (x : Item) × At (items M) k x × OnItem M x d) ⊎ IsFree M d
+    → ((k : ℕ) × (v : MapVertex) × IsAt M.svertices k v × SameDirection v.dir d) ⊎ ((k : ℕ) × (x : Item) × IsAt (items M) k x × OnItem M x d) ⊎ IsFree M d
 
 -- directions with the same signs on the map's forms lie on the same svertices and items, or are both free
 abbrev pub PlacesBySigns : Type 0
 PlacesBySigns = (M : Map) (d e : Vector) → SameSigns (forms M) d e → IsDirection d
-    → ((k : ℕ) (v : MapVertex) → At M.svertices k v → SameDirection v.dir d → SameDirection v.dir e)
-    × ((k : ℕ) (x : Item) → At (items M) k x → OnItem M x d → OnItem M x e)
+    → ((k : ℕ) (v : MapVertex) → IsAt M.svertices k v → SameDirection v.dir d → SameDirection v.dir e)
+    × ((k : ℕ) (x : Item) → IsAt (items M) k x → OnItem M x d → OnItem M x e)
     × (IsFree M d → IsFree M e)
 
 -- some side of the map sees each free direction that lies off the plane of some item
 abbrev pub SeenDirectly : Type 0
-SeenDirectly = (M : Map) (d : Vector) (k : ℕ) (x : Item) → Valid M → IsFree M d → At (items M) k x → (dot (item_normal x) d ≡ pos 0 → ⊥) → (m : Label) × SeenAs M d m
+SeenDirectly = (M : Map) (d : Vector) (k : ℕ) (x : Item) → Valid M → IsFree M d → IsAt (items M) k x → (dot (item_normal x) d ≡ pos 0 → ⊥) → (m : Label) × SeenAs M d m
 
 -- one side of the map sees both ends of a clear way between free directions
 abbrev pub OneSideSeesBoth : Type 0
@@ -57,18 +57,18 @@ NearIsFar = (M : Map) (d e : Vector) → Valid M → IsDirection d → (n : ℕ)
 -- a direction is a svertex of a least map exactly where the labels around it are neither plain nor straight
 abbrev pub SvertexExactly : Type 0
 SvertexExactly = (M : Map) (d : Vector) → Valid M → Least M → IsDirection d
-    → ((k : ℕ) × (v : MapVertex) × At M.svertices k v × SameDirection v.dir d) ↔ (NearPlain M d ⊎ NearStraight M d → ⊥)
+    → ((k : ℕ) × (v : MapVertex) × IsAt M.svertices k v × SameDirection v.dir d) ↔ (NearPlain M d ⊎ NearStraight M d → ⊥)
 
 -- two least maps with one mark and with one label in every direction are equal
 abbrev pub LeastUnique : Type 0
 LeastUnique = (M N : Map) → Valid M → Valid N → Ordered M → Ordered N → Least M → Least N → M.mark ≡ N.mark → SameLabels M N → M ≡ N
 
 abbrev pub LeastMapUnique : Type 0
-LeastMapUnique = (M N : Map) (s : Set) (p : Place) → Cone M s p → Cone N s p → Ordered M → Ordered N → Least M → Least N → M ≡ N
+LeastMapUnique = (M N : Map) (s : Set) (p : SpacePoint) → Cone M s p → Cone N s p → Ordered M → Ordered N → Least M → Least N → M ≡ N
 
 -- a well shaped map that agrees with a set's germs at a point, piece by piece, shows the set there
 abbrev pub ConeFromPieces : Type 0
-ConeFromPieces = (M : Map) (s : Set) (p : Place) → Shaped M → HasLabel s p M.mark → Agrees M (Germ s p) → Cone M s p
+ConeFromPieces = (M : Map) (s : Set) (p : SpacePoint) → Shaped M → HasLabel s p M.mark → Agrees M (Germ s p) → Cone M s p
 
 abbrev pub OpFromPieces : Type 0
 OpFromPieces = (A B M : Map) (op : Label → Label → Label) → Valid A → Valid B → Shaped M → Agrees M (ByOp A B op)
@@ -76,7 +76,7 @@ OpFromPieces = (A B M : Map) (op : Label → Label → Label) → Valid A → Va
 
 -- the kind of a least map of a set at a point is the dimension of the set's flat directions at this point
 abbrev pub KindByDimension : Type 0
-KindByDimension = (M : Map) (s : Set) (p : Place) → Cone M s p → Least M
+KindByDimension = (M : Map) (s : Set) (p : SpacePoint) → Cone M s p → Least M
     → (IsInVolume M → FlatDim s p 3)
     × ((n : Vector) → IsInFacet M n → FlatDim s p 2 × ((d : Vector) → Flat s p d ↔ (dot n d ≡ pos 0)))
     × ((d : Vector) → IsOnEdge M d → FlatDim s p 1 × ((e : Vector) → Flat s p e ↔ IsZero (cross d e)))
@@ -84,16 +84,16 @@ KindByDimension = (M : Map) (s : Set) (p : Place) → Cone M s p → Least M
 
 -- a map that is built of op of two maps is valid and least, and has op of the two maps' labels
 abbrev pub OpBuild : Type 0
-OpBuild = (A B M : Map) (op : Label → Label → Label) → Valid A → Valid B → IsBuilt M (ByOp A B op) → Kept M (ByOp A B op)
+OpBuild = (A B M : Map) (op : Label → Label → Label) → Valid A → Valid B → IsBuilt M (ByOp A B op) → NoneSmooth M (ByOp A B op)
     → Valid M × Least M × ((d : Vector) (m : Label) → IsDirection d → MapLabel M d m ↔ ByOp A B op d m)
 
 -- a map that is built of a set's germs at a point is a least map of the set
 abbrev pub SetBuild : Type 0
-SetBuild = (M : Map) (s : Set) (p : Place) → HasLabel s p M.mark → IsBuilt M (Germ s p) → Kept M (Germ s p) → Cone M s p × Least M
+SetBuild = (M : Map) (s : Set) (p : SpacePoint) → HasLabel s p M.mark → IsBuilt M (Germ s p) → NoneSmooth M (Germ s p) → Cone M s p × Least M
 
 -- away from the svertices and the crossings of two maps, op of the two maps is plain or straight
 abbrev pub OpSmooth : Type 0
 OpSmooth = (A B : Map) (op : Label → Label → Label) → Valid A → Valid B → (d : Vector) → IsDirection d
-    → ((k : ℕ) (v : MapVertex) → At A.svertices k v → SameDirection v.dir d → ⊥) → ((k : ℕ) (v : MapVertex) → At B.svertices k v → SameDirection v.dir d → ⊥)
-    → ((i j : ℕ) (x y : Item) → At (items A) i x → At (items B) j y → OnItem A x d → OnItem B y d → IsZero (cross (item_normal x) (item_normal y)))
+    → ((k : ℕ) (v : MapVertex) → IsAt A.svertices k v → SameDirection v.dir d → ⊥) → ((k : ℕ) (v : MapVertex) → IsAt B.svertices k v → SameDirection v.dir d → ⊥)
+    → ((i j : ℕ) (x y : Item) → IsAt (items A) i x → IsAt (items B) j y → OnItem A x d → OnItem B y d → IsZero (cross (item_normal x) (item_normal y)))
     → IsSmooth (ByOp A B op) d

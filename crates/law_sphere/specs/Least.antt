@@ -1,9 +1,9 @@
 -- Plain and straight directions of a map by its labels alone, least maps, and two maps that match part by part.
 use Rattle.std.specs.Prelude.{◌≡◌, ◌<◌, ◌⊎◌}
-use Rattle.nef_space.specs.Prelude.{ℕ, pos, List, Some, Sign, minus, nought, plus, sign, Place, Vector, IsDirection, cross, dot, SameDirection, HasLabel, Germ, Set}
+use Rattle.nef_space.specs.Prelude.{ℕ, pos, List, Some, Sign, minus, nought, plus, sign, SpacePoint, Vector, IsDirection, cross, dot, SameDirection, HasLabel, Germ, Set, IsAt}
 use Rattle.nef_space.specs.declared.label.Label.{Label}
 use Rattle.law_sphere.specs.Vectors.{IsPrimitive, VectorBelow}
-use Rattle.law_sphere.specs.Maps.{At, MapVertex, Arc, MapSloop, Map, Item, items, item_normal, item_pos, item_mark, item_neg, dir_of, MapLabel, NearLabel, Valid}
+use Rattle.law_sphere.specs.Maps.{MapVertex, Arc, MapSloop, Map, Item, items, item_normal, item_pos, item_mark, item_neg, dir_of, MapLabel, NearLabel, Valid}
 
 -- the label for a sign at a plane: a above, m in, b below the plane
 abbrev pub by_side : Label → Label → Label → Sign → Label
@@ -29,9 +29,9 @@ pub record NearStraight (M : Map) (d : Vector) : Type 0 where
   pub near : (e : Vector) → IsDirection (cross d e) → NearLabel M d e (by_side pos label neg (sign (dot normal e)))
 
 pub record Least (M : Map) : Type 0 where
-  pub no_plain : (k : ℕ) (v : MapVertex) → At M.svertices k v → NearPlain M v.dir → ⊥
-  pub no_straight : (k : ℕ) (v : MapVertex) → At M.svertices k v → NearStraight M v.dir → ⊥
-  pub items_differ : (k : ℕ) (x : Item) → At (items M) k x → item_pos x ≡ item_mark x → item_neg x ≡ item_mark x → ⊥
+  pub no_plain : (k : ℕ) (v : MapVertex) → IsAt M.svertices k v → NearPlain M v.dir → ⊥
+  pub no_straight : (k : ℕ) (v : MapVertex) → IsAt M.svertices k v → NearStraight M v.dir → ⊥
+  pub items_differ : (k : ℕ) (x : Item) → IsAt (items M) k x → item_pos x ≡ item_mark x → item_neg x ≡ item_mark x → ⊥
 
 -- each direction with a label in M has the same label in N
 abbrev pub SameLabels : Map → Map → Type 0
@@ -42,7 +42,7 @@ SameLabels M N = (d : Vector) (m : Label) → MapLabel M d m → MapLabel N d m
 pub record MatchedArc (M N : Map) (a : Arc) : Type 0 where
   pub number : ℕ
   pub arc : Arc
-  pub listed : At N.arcs number arc
+  pub listed : IsAt N.arcs number arc
   pub normal : SameDirection a.normal arc.normal
   pub source : SameDirection (dir_of M.svertices a.source) (dir_of N.svertices arc.source)
   pub target : SameDirection (dir_of M.svertices a.target) (dir_of N.svertices arc.target)
@@ -61,15 +61,15 @@ pub record MatchedSloop (N : Map) (l : MapSloop) : Type 0 where
 pub record MatchedSvertex (N : Map) (v : MapVertex) : Type 0 where
   pub number : ℕ
   pub svertex : MapVertex
-  pub listed : At N.svertices number svertex
+  pub listed : IsAt N.svertices number svertex
   pub dir : SameDirection v.dir svertex.dir
   pub mark : v.mark ≡ svertex.mark
   pub around : v.around ≡ svertex.around
 
 -- each part of M has a matching part of N, up to the lengths of vectors and the order of the lists
-pub record Within (M N : Map) : Type 0 where
-  pub svertices : (k : ℕ) (v : MapVertex) → At M.svertices k v → MatchedSvertex N v
-  pub arcs : (k : ℕ) (a : Arc) → At M.arcs k a → MatchedArc M N a
+pub record MatchesInto (M N : Map) : Type 0 where
+  pub svertices : (k : ℕ) (v : MapVertex) → IsAt M.svertices k v → MatchedSvertex N v
+  pub arcs : (k : ℕ) (a : Arc) → IsAt M.arcs k a → MatchedArc M N a
   pub sloop : (l : MapSloop) → M.sloop ≡ Some l → MatchedSloop N l
   pub ground : M.ground ≡ N.ground
 
@@ -78,16 +78,16 @@ abbrev pub ArcBelow : Arc → Arc → Type 0
 ArcBelow a b = VectorBelow a.normal b.normal ⊎ ((a.normal ≡ b.normal) × (a.source < b.source))
 
 abbrev pub InOrder : {A : Type 0} → (A → A → Type 0) → List A → Type 0
-InOrder {A} Below xs = (i k : ℕ) (x y : A) → i < k → At xs i x → At xs k y → Below x y
+InOrder {A} Below xs = (i k : ℕ) (x y : A) → i < k → IsAt xs i x → IsAt xs k y → Below x y
 
 pub record Ordered (M : Map) : Type 0 where
-  pub dirs_lowest : (k : ℕ) (v : MapVertex) → At M.svertices k v → IsPrimitive v.dir
-  pub normals_lowest : (k : ℕ) (x : Item) → At (items M) k x → IsPrimitive (item_normal x)
+  pub dirs_lowest : (k : ℕ) (v : MapVertex) → IsAt M.svertices k v → IsPrimitive v.dir
+  pub normals_lowest : (k : ℕ) (x : Item) → IsAt (items M) k x → IsPrimitive (item_normal x)
   pub svertices : InOrder (λ (u v : MapVertex). VectorBelow u.dir v.dir) M.svertices
   pub arcs : InOrder ArcBelow M.arcs
 
 -- the map M is valid and shows the germs of the set s at the point p
-pub record Cone (M : Map) (s : Set) (p : Place) : Type 0 where
+pub record Cone (M : Map) (s : Set) (p : SpacePoint) : Type 0 where
   pub valid : Valid M
   pub mark : HasLabel s p M.mark
   pub labels : (d : Vector) → IsDirection d → (m : Label) × MapLabel M d m × Germ s p d m

@@ -2,11 +2,8 @@
 use Rattle.std.specs.Prelude.{◌≡◌, ℕ, zero, suc, ◌<◌, ◌≤◌, pos, ◌<ℤ◌, List, [], ◌∷◌, ◌⊎◌, Option, Some, None, slice_get}
 use Rattle.nef_space.specs.Vectors.{Vector, IsDirection, vector, dot, SameDirection, IsOpposite, IsNormal, blend}
 use Rattle.nef_space.specs.declared.label.Label.{Label}
+use Rattle.nef_space.specs.Lists.{IsAt}
 use Rattle.law_cyclic.specs.Arcs.{IsOnCircle, IsStrictlyOn}
-
--- x is the entry with number k of a list, counted from 0
-abbrev pub At : {X : Type 0} → List X → ℕ → X → Type 0
-At xs k x = slice_get xs k ≡ Some x
 
 -- ---- the parts of a map
 pub record MapVertex : Type 0 where
@@ -81,8 +78,8 @@ OnItem M (sloop_item l) d = IsOnCircle l.normal d
 -- d is a direction that lies on no svertex and on no item
 pub record IsFree (M : Map) (d : Vector) : Type 0 where
   pub direction : IsDirection d
-  pub off_svertices : (k : ℕ) (v : MapVertex) → At M.svertices k v → SameDirection v.dir d → ⊥
-  pub off_items : (k : ℕ) (x : Item) → At (items M) k x → OnItem M x d → ⊥
+  pub off_svertices : (k : ℕ) (v : MapVertex) → IsAt M.svertices k v → SameDirection v.dir d → ⊥
+  pub off_items : (k : ℕ) (x : Item) → IsAt (items M) k x → OnItem M x d → ⊥
 
 -- ---- sides and sight
 -- a side of a map: round the svertex, or on either side of the item, with this number, or the ground
@@ -94,9 +91,9 @@ pub data Side : Type 0 where
 
 -- the map M has the side, and m is the side's label
 abbrev pub HasSide : Map → Side → Label → Type 0
-HasSide M (around_svertex k) m = (v : MapVertex) × At M.svertices k v × (v.around ≡ Some m)
-HasSide M (pos_item k) m = (x : Item) × At (items M) k x × (item_pos x ≡ m)
-HasSide M (neg_item k) m = (x : Item) × At (items M) k x × (item_neg x ≡ m)
+HasSide M (around_svertex k) m = (v : MapVertex) × IsAt M.svertices k v × (v.around ≡ Some m)
+HasSide M (pos_item k) m = (x : Item) × IsAt (items M) k x × (item_pos x ≡ m)
+HasSide M (neg_item k) m = (x : Item) × IsAt (items M) k x × (item_neg x ≡ m)
 HasSide M whole m = M.ground ≡ Some m
 
 -- all directions strictly between the free direction a and the direction b on the short way are free
@@ -108,9 +105,9 @@ pub record IsClear (M : Map) (a b : Vector) : Type 0 where
 
 -- y lies on the svertex or the item of the side, and a lies on this side of the item
 abbrev pub Reaches : Map → Side → Vector → Vector → Type 0
-Reaches M (around_svertex k) a y = (v : MapVertex) × At M.svertices k v × SameDirection v.dir y
-Reaches M (pos_item k) a y = (x : Item) × At (items M) k x × OnItem M x y × (pos 0 <ℤ dot (item_normal x) a)
-Reaches M (neg_item k) a y = (x : Item) × At (items M) k x × OnItem M x y × (dot (item_normal x) a <ℤ pos 0)
+Reaches M (around_svertex k) a y = (v : MapVertex) × IsAt M.svertices k v × SameDirection v.dir y
+Reaches M (pos_item k) a y = (x : Item) × IsAt (items M) k x × OnItem M x y × (pos 0 <ℤ dot (item_normal x) a)
+Reaches M (neg_item k) a y = (x : Item) × IsAt (items M) k x × OnItem M x y × (dot (item_normal x) a <ℤ pos 0)
 Reaches M whole a y = Unit {0}
 
 -- the side sees the free direction d on a short way from d to y, or on two short ways that turn at c
@@ -126,8 +123,8 @@ pub record SeenAs (M : Map) (d : Vector) (m : Label) : Type 0 where
 
 -- d has the label m: the mark of the svertex or item that d lies on, or the label of a side that sees d
 pub data MapLabel (M : Map) (d : Vector) (m : Label) : Type 0 where
-  at_svertex : (k : ℕ) (v : MapVertex) → At M.svertices k v → SameDirection v.dir d → v.mark ≡ m → MapLabel M d m
-  on_item : (k : ℕ) (x : Item) → At (items M) k x → OnItem M x d → item_mark x ≡ m → MapLabel M d m
+  at_svertex : (k : ℕ) (v : MapVertex) → IsAt M.svertices k v → SameDirection v.dir d → v.mark ≡ m → MapLabel M d m
+  on_item : (k : ℕ) (x : Item) → IsAt (items M) k x → OnItem M x d → item_mark x ≡ m → MapLabel M d m
   seen : SeenAs M d m → MapLabel M d m
 
 abbrev pub NearLabel : Map → Vector → Vector → Label → Type 0
@@ -144,27 +141,27 @@ pub data InOneSface (M : Map) : Side → Side → Type 0 where
   link : (o p q : Side) (m : Label) → HasSide M p m → SeeOne M o p → InOneSface M p q → InOneSface M o q
 
 abbrev pub HasArc : Map → ℕ → Type 0
-HasArc M k = (i : ℕ) × (a : Arc) × At M.arcs i a × ((a.source ≡ k) ⊎ (a.target ≡ k))
+HasArc M k = (i : ℕ) × (a : Arc) × IsAt M.arcs i a × ((a.source ≡ k) ⊎ (a.target ≡ k))
 
 -- source and target of the arc are svertices, or one svertex, on the circle of the arc's normal
 pub record ArcBetween (M : Map) (a : Arc) : Type 0 where
   pub source : MapVertex
   pub target : MapVertex
-  pub has_source : At M.svertices a.source source
-  pub has_target : At M.svertices a.target target
+  pub has_source : IsAt M.svertices a.source source
+  pub has_target : IsAt M.svertices a.target target
   pub level_source : dot a.normal source.dir ≡ pos 0
   pub level_target : dot a.normal target.dir ≡ pos 0
 
 -- the parts of the map fit together; only labels, the orders of lists and the sizes of numbers are left open
 pub record Shaped (M : Map) : Type 0 where
-  pub svertex_dirs : (k : ℕ) (v : MapVertex) → At M.svertices k v → IsDirection v.dir
-  pub svertices_apart : (i k : ℕ) (u v : MapVertex) → At M.svertices i u → At M.svertices k v → SameDirection u.dir v.dir → i ≡ k
-  pub normals : (k : ℕ) (x : Item) → At (items M) k x → IsNormal (item_normal x)
-  pub arcs_between : (k : ℕ) (a : Arc) → At M.arcs k a → ArcBetween M a
-  pub no_svertex_on_item : (i k : ℕ) (v : MapVertex) (x : Item) → At M.svertices i v → At (items M) k x → OnItem M x v.dir → ⊥
-  pub no_items_meet : (i k : ℕ) (x y : Item) (d : Vector) → At (items M) i x → At (items M) k y → OnItem M x d → OnItem M y d → i ≡ k
-  pub around_lone : (k : ℕ) (v : MapVertex) → At M.svertices k v → (HasArc M k → ⊥) → (m : Label) × (v.around ≡ Some m)
-  pub around_not : (k : ℕ) (v : MapVertex) → At M.svertices k v → HasArc M k → v.around ≡ None
+  pub svertex_dirs : (k : ℕ) (v : MapVertex) → IsAt M.svertices k v → IsDirection v.dir
+  pub svertices_apart : (i k : ℕ) (u v : MapVertex) → IsAt M.svertices i u → IsAt M.svertices k v → SameDirection u.dir v.dir → i ≡ k
+  pub normals : (k : ℕ) (x : Item) → IsAt (items M) k x → IsNormal (item_normal x)
+  pub arcs_between : (k : ℕ) (a : Arc) → IsAt M.arcs k a → ArcBetween M a
+  pub no_svertex_on_item : (i k : ℕ) (v : MapVertex) (x : Item) → IsAt M.svertices i v → IsAt (items M) k x → OnItem M x v.dir → ⊥
+  pub no_items_meet : (i k : ℕ) (x y : Item) (d : Vector) → IsAt (items M) i x → IsAt (items M) k y → OnItem M x d → OnItem M y d → i ≡ k
+  pub around_lone : (k : ℕ) (v : MapVertex) → IsAt M.svertices k v → (HasArc M k → ⊥) → (m : Label) × (v.around ≡ Some m)
+  pub around_not : (k : ℕ) (v : MapVertex) → IsAt M.svertices k v → HasArc M k → v.around ≡ None
   pub ground_alone : M.svertices ≡ [] → M.sloop ≡ None → (m : Label) × (M.ground ≡ Some m)
   pub ground_not : (m : Label) → M.ground ≡ Some m → (M.svertices ≡ []) × (M.sloop ≡ None)
 

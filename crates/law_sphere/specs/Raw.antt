@@ -4,10 +4,11 @@ use Rattle.nef_space.specs.Vectors.{Vector, IsDirection, cross, dot, SameDirecti
 use Rattle.nef_space.specs.declared.label.Label.{Label}
 use Rattle.law_cyclic.specs.Arcs.{IsOnCircle}
 use Rattle.law_sphere.specs.Vectors.{IsPrimitive, VectorBelow}
-use Rattle.law_sphere.specs.Maps.{At, MapSloop}
+use Rattle.nef_space.specs.Lists.{IsAt}
+use Rattle.law_sphere.specs.Maps.{MapSloop}
 use Rattle.law_sphere.specs.Forms.{SameSigns}
 use Rattle.law_sphere.specs.Least.{InOrder}
-use Rattle.law_sphere.specs.Stars.{Ray, Star, IsRay, StarLabel}
+use Rattle.law_sphere.specs.Stars.{Ray, Star, LeavesAxis, StarLabel}
 use Rattle.law_sphere.specs.Labelling.{Near, StraightAt, IsSmooth}
 use Rattle.law_sphere.specs.Builds.{Proper}
 
@@ -39,9 +40,9 @@ RayBelow q r = VectorBelow q.normal r.normal ⊎ ((q.normal ≡ r.normal) × (q.
 pub record IsWellFormed (t : Star) : Type 0 where
   pub axis : IsDirection t.axis
   pub axis_lowest : IsPrimitive t.axis
-  pub rays : (k : ℕ) (r : Ray) → At t.rays k r → IsRay t r
-  pub rays_lowest : (k : ℕ) (r : Ray) → At t.rays k r → IsPrimitive r.normal
-  pub least_first : (k : ℕ) (q r : Ray) → At t.rays 0 q → At t.rays (suc k) r → RayBelow q r
+  pub rays : (k : ℕ) (r : Ray) → IsAt t.rays k r → LeavesAxis t r
+  pub rays_lowest : (k : ℕ) (r : Ray) → IsAt t.rays k r → IsPrimitive r.normal
+  pub least_first : (k : ℕ) (q r : Ray) → IsAt t.rays 0 q → IsAt t.rays (suc k) r → RayBelow q r
   pub as_many : length t.sectors ≡ sector_count t.rays
   pub each : (e : Vector) → IsDirection (cross t.axis e) → (l : Label) × StarLabel t e l
   pub one : (e : Vector) (l m : Label) → IsDirection (cross t.axis e) → StarLabel t e l → StarLabel t e m → l ≡ m
@@ -54,13 +55,13 @@ pub record ShowsLabels (t : Star) (L : Vector → Label) : Type 0 where
 
 -- no star of ts has its axis on the circle of n
 abbrev pub IsBare : List Star → Vector → Type 0
-IsBare ts n = (k : ℕ) (t : Star) → At ts k t → dot n t.axis ≡ pos 0 → ⊥
+IsBare ts n = (k : ℕ) (t : Star) → IsAt ts k t → dot n t.axis ≡ pos 0 → ⊥
 
 -- stars, circle and ground of R show L: L is plain or straight off the axes, and the circle has its labels all along
 pub record IsRawOf (R : RawMap) (L : Vector → Label) : Type 0 where
-  pub stars : (k : ℕ) (t : Star) → At R.stars k t → ShowsLabels t L
+  pub stars : (k : ℕ) (t : Star) → IsAt R.stars k t → ShowsLabels t L
   pub ordered : InOrder (λ t u. VectorBelow t.axis u.axis) R.stars
-  pub smooth : (d : Vector) → IsDirection d → ((k : ℕ) (t : Star) → At R.stars k t → SameDirection t.axis d → ⊥) → IsSmooth (Of L) d
+  pub smooth : (d : Vector) → IsDirection d → ((k : ℕ) (t : Star) → IsAt R.stars k t → SameDirection t.axis d → ⊥) → IsSmooth (Of L) d
   pub sloop_normal : (l : MapSloop) → R.sloop ≡ Some l → IsNormal l.normal
   pub sloop_lowest : (l : MapSloop) → R.sloop ≡ Some l → IsPrimitive l.normal
   pub sloop_bare : (l : MapSloop) → R.sloop ≡ Some l → IsBare R.stars l.normal

@@ -3,13 +3,14 @@ use Rattle.std.specs.Prelude.{◌≡◌, ℕ, ◌⊎◌}
 use Rattle.std.proofs.Common.{inl, inr}
 use Rattle.nef_space.specs.Vectors.{Vector, IsDirection, cross, opposite, SameDirection}
 use Rattle.law_cyclic.specs.Arcs.{Passes}
-use Rattle.law_sphere.specs.Maps.{At, MapVertex, Arc, Map, Side, around_svertex, pos_item, neg_item, HasArc}
+use Rattle.nef_space.specs.Lists.{IsAt}
+use Rattle.law_sphere.specs.Maps.{MapVertex, Arc, Map, Side, around_svertex, pos_item, neg_item, HasArc}
 
 -- a ray of svertex k: an arc of M that begins or ends at this svertex
 pub record ArcRay (M : Map) (k : ℕ) : Type 0 where
   pub number : ℕ
   pub arc : Arc
-  pub listed : At M.arcs number arc
+  pub listed : IsAt M.arcs number arc
   pub end : (arc.source ≡ k) ⊎ (arc.target ≡ k)
 
 -- the vector to the left when an arc's end is left along the arc: the normal at the source, its opposite at the target
@@ -43,7 +44,7 @@ IsLastSide M k v w o = ((HasArc M k → ⊥) × (o ≡ around_svertex k)) ⊎ (q
 -- the direction w lies strictly in a sector of svertex k, and the side o bounds this sector
 pub record BoundsSector (M : Map) (k : ℕ) (w : Vector) (o : Side) : Type 0 where
   pub svertex : MapVertex
-  pub listed : At M.svertices k svertex
+  pub listed : IsAt M.svertices k svertex
   pub aside : IsDirection (cross svertex.dir w)
   pub unrayed : Unrayed M k svertex.dir w
   pub bounds : IsLastSide M k svertex.dir w o

@@ -2,7 +2,8 @@
 use Rattle.std.specs.Prelude.{◌≡◌, ℕ, zero, suc, pos, List, [], ◌∷◌, length, Bool, true, false, cond, ◌⊎◌}
 use Rattle.nef_space.specs.Vectors.{Vector, IsDirection, cross, dot, SameDirection, IsNormal}
 use Rattle.nef_space.specs.declared.label.Label.{Label}
-use Rattle.law_sphere.specs.Maps.{At, Map, MapLabel, NearLabel}
+use Rattle.nef_space.specs.Lists.{IsAt}
+use Rattle.law_sphere.specs.Maps.{Map, MapLabel, NearLabel}
 use Rattle.law_cyclic.specs.Arcs.{IsStrictlyOn}
 
 pub record Ray : Type 0 where
@@ -33,22 +34,22 @@ PastRay t q r e = IsStrictlyOn t.axis (ray_dir t q) (ray_dir t r) (across t.axis
 
 -- r is the ray after the ray with number k, where the first ray follows the last one
 abbrev pub NextRay : List Ray → ℕ → Ray → Type 0
-NextRay rs k r = At rs (suc k) r ⊎ ((suc k ≡ length rs) × At rs zero r)
+NextRay rs k r = IsAt rs (suc k) r ⊎ ((suc k ≡ length rs) × IsAt rs zero r)
 
 -- the star's label toward e, for e that isn't parallel to the axis
 pub data StarLabel (t : Star) (e : Vector) (l : Label) : Type 0 where
-  on_ray : (k : ℕ) (r : Ray) → At t.rays k r → OnRay t r e → r.mark ≡ l → StarLabel t e l
-  in_sector : (k : ℕ) (q r : Ray) → At t.rays k q → NextRay t.rays k r → PastRay t q r e → At t.sectors k l → StarLabel t e l
-  in_only_sector : t.rays ≡ [] → At t.sectors zero l → StarLabel t e l
+  on_ray : (k : ℕ) (r : Ray) → IsAt t.rays k r → OnRay t r e → r.mark ≡ l → StarLabel t e l
+  in_sector : (k : ℕ) (q r : Ray) → IsAt t.rays k q → NextRay t.rays k r → PastRay t q r e → IsAt t.sectors k l → StarLabel t e l
+  in_only_sector : t.rays ≡ [] → IsAt t.sectors zero l → StarLabel t e l
 
 -- the ray leaves the axis: its normal is perpendicular to the axis
-pub record IsRay (t : Star) (r : Ray) : Type 0 where
+pub record LeavesAxis (t : Star) (r : Ray) : Type 0 where
   pub level : dot r.normal t.axis ≡ pos 0
   pub normal : IsNormal r.normal
 
 -- the star t has the axis d, and the labels of M on d and close to d
 pub record StarOf (t : Star) (M : Map) (d : Vector) : Type 0 where
-  pub rays : (k : ℕ) (r : Ray) → At t.rays k r → IsRay t r
+  pub rays : (k : ℕ) (r : Ray) → IsAt t.rays k r → LeavesAxis t r
   pub axis : t.axis ≡ d
   pub mark : MapLabel M d t.mark
   pub labels : (e : Vector) → IsDirection (cross d e) → (l : Label) × StarLabel t e l × NearLabel M d e l
@@ -75,8 +76,8 @@ pub record IsStraight (t : Star) : Type 0 where
 -- each label of the star is a label of M, on the star's axis or close to it
 pub record StarShows (t : Star) (M : Map) : Type 0 where
   pub axis : IsDirection t.axis
-  pub rays : (k : ℕ) (r : Ray) → At t.rays k r → IsRay t r
-  pub sectors : (k : ℕ) (r : Ray) → At t.rays k r → (l : Label) × At t.sectors k l
+  pub rays : (k : ℕ) (r : Ray) → IsAt t.rays k r → LeavesAxis t r
+  pub sectors : (k : ℕ) (r : Ray) → IsAt t.rays k r → (l : Label) × IsAt t.sectors k l
   pub mark : MapLabel M t.axis t.mark
   pub labels : (e : Vector) (l : Label) → IsDirection (cross t.axis e) → StarLabel t e l → NearLabel M t.axis e l
 
@@ -86,4 +87,4 @@ Follows rs j k = (suc j ≡ k) ⊎ ((suc j ≡ length rs) × (k ≡ zero))
 
 -- no ray has the mark of both neighbouring sectors
 abbrev pub IsSimplified : Star → Type 0
-IsSimplified t = (j k : ℕ) (q r : Ray) (l m : Label) → At t.rays j q → At t.rays k r → Follows t.rays j k → At t.sectors j l → At t.sectors k m → r.mark ≡ l → r.mark ≡ m → ⊥
+IsSimplified t = (j k : ℕ) (q r : Ray) (l m : Label) → IsAt t.rays j q → IsAt t.rays k r → Follows t.rays j k → IsAt t.sectors j l → IsAt t.sectors k m → r.mark ≡ l → r.mark ≡ m → ⊥

@@ -1,10 +1,10 @@
 //! Laws of sphere maps: where a direction lies, its label, least maps, and maps that are built.
 
-ghost use Rattle.law_sphere.specs.Laws.{GenericVector, PlacesDecided, PlacesBySigns, SeenDirectly, OneSideSeesBoth, FreeSeen, ClearLabel, OneLabel, LabelBySigns, OneNearLabel, NearIsFar, SvertexExactly, LeastUnique, LeastMapUnique, ConeFromPieces, OpFromPieces, KindByDimension, OpBuild, SetBuild, OpSmooth};
+ghost use Rattle.law_sphere.specs.Laws.{SignsKeptGenerically, PlacesDecided, PlacesBySigns, SeenDirectly, OneSideSeesBoth, FreeSeen, ClearLabel, OneLabel, LabelBySigns, OneNearLabel, NearIsFar, SvertexExactly, LeastUnique, LeastMapUnique, ConeFromPieces, OpFromPieces, KindByDimension, OpBuild, SetBuild, OpSmooth};
 
 /// Where a direction lies on a map: it is decided, and the signs on the map's forms say it.
 pub fn place_laws()
-    ensures generic { GenericVector }
+    ensures generic { SignsKeptGenerically }
     ensures places { PlacesDecided }
     ensures by_signs { PlacesBySigns }
 {}

@@ -1,5 +1,5 @@
 -- Links, cycles and parts of complexes with the same vertices and edges are the same, whatever their carriers.
-use Rattle.law_text.proofs.Prelude.{ℕ, inl, inr, ⊎_elim, List, [], ◌∷◌, Chained, Place, Form, Vector, Label, In, Item, Side, chain-link, chain-map, SpotMark, Towards, SeesSpot, Belongs, on_skeleton, off_skeleton, Vertex, Edge, Complex, Corner, HasEnds, IsCorner, IsEdgePoint, IsOnEdges, IsFacetPoint, Spot, at_vertex, on_edge, in_facet, IsSpot, IsSkeletonPoint, PlaneMeet, meets_vertex, meets_edge, LiesIn, Meets, IsFirstInPlane, IsCornerAt, RayNames, HasCorner, VertexSide, IsAbove, RayDown, AreAlong, LinkAlong, LinkAcross, FacetLink, LinkInSface, AreSidesAlong, pos_arcs, neg_arcs, around_ends, LinkAlongEdge, LinkAcrossFacet, LinkDown, VolumeLink, IsNextArc, NextCorner, StepsTo, IsCycle, Cycles, IsSideNumber, HasRows, count_items, count_sides, IsVolumeOf, IsSideBelow, FacetNumbers, VolumeNumbers, pos_of, neg_of, IsFacetAt, IsFacet, IsVolume, IsParts, cycle_corners, shell_sides, ShellLink, IsNamed, IsShell, Shells, Facet, Parts}
+use Rattle.law_text.proofs.Prelude.{ℕ, inl, inr, ⊎_elim, List, [], ◌∷◌, Chained, SpacePoint, Form, Vector, Label, In, Item, Side, chain-link, chain-map, SpotMark, Towards, SeesSpot, Belongs, on_skeleton, off_skeleton, Vertex, Edge, Complex, Corner, HasEnds, IsCorner, IsEdgePoint, IsOnEdges, IsFacetPoint, Spot, at_vertex, on_edge, in_facet, IsSpot, IsSkeletonPoint, PlaneMeet, meets_vertex, meets_edge, LiesIn, Meets, IsFirstInPlane, IsCornerAt, RayNames, HasCorner, VertexSide, IsAbove, RayDown, AreAlong, LinkAlong, LinkAcross, FacetLink, LinkInSface, AreSidesAlong, pos_arcs, neg_arcs, around_ends, LinkAlongEdge, LinkAcrossFacet, LinkDown, VolumeLink, IsNextArc, NextCorner, StepsTo, IsCycle, Cycles, IsSideNumber, HasRows, count_items, count_sides, IsVolumeOf, IsSideBelow, FacetNumbers, VolumeNumbers, pos_of, neg_of, IsFacetAt, IsFacet, IsVolume, IsParts, cycle_corners, shell_sides, ShellLink, IsSideNamed, IsShell, Shells, Facet, Parts}
 use Rattle.nef_complex.specs.declared.parts.Side.{Side as NamedSide}
 
 abbrev pub made : List Form → List Vertex → List Edge → Complex
@@ -13,41 +13,41 @@ module _ (vs : List Vertex) (es : List Edge) where
   corner : (hs gs : List Form) (k : Corner) (v : Vertex) (x : Item) → IsCorner (made hs vs es) k v x → IsCorner (made gs vs es) k v x
   corner hs gs k v x h = record { vertex = h.vertex; item = h.item }
 
-  edge-point : (hs gs : List Form) (k : ℕ) (y : Place) → IsEdgePoint (made hs vs es) k y → IsEdgePoint (made gs vs es) k y
+  edge-point : (hs gs : List Form) (k : ℕ) (y : SpacePoint) → IsEdgePoint (made hs vs es) k y → IsEdgePoint (made gs vs es) k y
   edge-point hs gs k y (e, v, w, a, h, b) = (e, v, w, a, ends hs gs e v w h, b)
 
-  on-edges : (hs gs : List Form) (y : Place) → IsOnEdges (made hs vs es) y → IsOnEdges (made gs vs es) y
+  on-edges : (hs gs : List Form) (y : SpacePoint) → IsOnEdges (made hs vs es) y → IsOnEdges (made gs vs es) y
   on-edges hs gs y (k, h) = (k, ⊎_elim (λ a. inl a) (λ a. inr (edge-point hs gs k y a)) h)
 
-  facet-point : (hs gs : List Form) (v : Vertex) (x : Item) (y : Place) → IsFacetPoint (made hs vs es) v x y → IsFacetPoint (made gs vs es) v x y
+  facet-point : (hs gs : List Form) (v : Vertex) (x : Item) (y : SpacePoint) → IsFacetPoint (made hs vs es) v x y → IsFacetPoint (made gs vs es) v x y
   facet-point hs gs v x y f = record { off_edges = λ h. f.off_edges (on-edges gs hs y h); on_item = f.on_item; clear = λ q b h. f.clear q b (on-edges gs hs q h) }
 
-  spot : (hs gs : List Form) (o : Spot) (y : Place) → IsSpot (made hs vs es) o y → IsSpot (made gs vs es) o y
+  spot : (hs gs : List Form) (o : Spot) (y : SpacePoint) → IsSpot (made hs vs es) o y → IsSpot (made gs vs es) o y
   spot hs gs (at_vertex k) y h = h
   spot hs gs (on_edge k) y h = edge-point hs gs k y h
   spot hs gs (in_facet k) y (v, x, c, f) = (v, x, corner hs gs k v x c, facet-point hs gs v x y f)
 
-  skeleton : (hs gs : List Form) (y : Place) → IsSkeletonPoint (made hs vs es) y → IsSkeletonPoint (made gs vs es) y
+  skeleton : (hs gs : List Form) (y : SpacePoint) → IsSkeletonPoint (made hs vs es) y → IsSkeletonPoint (made gs vs es) y
   skeleton hs gs y (o, h) = (o, spot hs gs o y h)
 
   lies-in : (hs gs : List Form) (h : Form) (k : ℕ) → LiesIn (made hs vs es) h k → LiesIn (made gs vs es) h k
   lies-in hs gs h k (e, v, w, a, b, f, g) = (e, v, w, a, ends hs gs e v w b, f, g)
 
-  meets : (hs gs : List Form) (h : Form) (m : PlaneMeet) (y : Place) → Meets (made hs vs es) h m y → Meets (made gs vs es) h m y
+  meets : (hs gs : List Form) (h : Form) (m : PlaneMeet) (y : SpacePoint) → Meets (made hs vs es) h m y → Meets (made gs vs es) h m y
   meets hs gs h (meets_vertex k) y a = a
   meets hs gs h (meets_edge k) y (a, b) = (edge-point hs gs k y a, lies-in hs gs h k b)
 
-  first-in-plane : (hs gs : List Form) (h : Form) (p : Place) (d : Vector) (m : PlaneMeet) → IsFirstInPlane (made hs vs es) h p d m → IsFirstInPlane (made gs vs es) h p d m
+  first-in-plane : (hs gs : List Form) (h : Form) (p : SpacePoint) (d : Vector) (m : PlaneMeet) → IsFirstInPlane (made hs vs es) h p d m → IsFirstInPlane (made gs vs es) h p d m
   first-in-plane hs gs h p d m f = record { place = f.place; ahead = f.ahead; meets = meets hs gs h m f.place f.meets; first = λ q n b a. f.first q n b (meets gs hs h n q a) }
 
   corner-at : (hs gs : List Form) (h : Form) (f : Vector) (m : PlaneMeet) (k : Corner) → IsCornerAt (made hs vs es) h f m k → IsCornerAt (made gs vs es) h f m k
   corner-at hs gs h f (meets_vertex i) k (v, x, e, c, s, o) = (v, x, e, corner hs gs k v x c, s, o)
   corner-at hs gs h f (meets_edge i) k a = a
 
-  names : (hs gs : List Form) (h : Form) (p : Place) (d : Vector) (k : Corner) → RayNames (made hs vs es) h p d k → RayNames (made gs vs es) h p d k
+  names : (hs gs : List Form) (h : Form) (p : SpacePoint) (d : Vector) (k : Corner) → RayNames (made hs vs es) h p d k → RayNames (made gs vs es) h p d k
   names hs gs h p d k (m, f, c) = (m, first-in-plane hs gs h p d m f, corner-at hs gs h _ m k c)
 
-  has-corner : (hs gs : List Form) (y : Place) (k : Corner) → HasCorner (made hs vs es) y k → HasCorner (made gs vs es) y k
+  has-corner : (hs gs : List Form) (y : SpacePoint) (k : Corner) → HasCorner (made hs vs es) y k → HasCorner (made gs vs es) y k
   has-corner hs gs y k h = record {
     beside = h.beside;
     vertex = h.vertex;
@@ -57,12 +57,12 @@ module _ (vs : List Vertex) (es : List Edge) where
     named = names hs gs _ y _ k h.named;
   }
 
-  above : (hs gs : List Form) (y : Place) (o : Spot) (x : VertexSide) → IsAbove (made hs vs es) y o x → IsAbove (made gs vs es) y o x
+  above : (hs gs : List Form) (y : SpacePoint) (o : Spot) (x : VertexSide) → IsAbove (made hs vs es) y o x → IsAbove (made gs vs es) y o x
   above hs gs y (at_vertex k) x h = h
   above hs gs y (on_edge k) x h = h
   above hs gs y (in_facet j) x (k, c, e, f) = (k, has-corner hs gs y k c, e, f)
 
-  down : (hs gs : List Form) (p : Place) (x : VertexSide) → RayDown (made hs vs es) p x → RayDown (made gs vs es) p x
+  down : (hs gs : List Form) (p : SpacePoint) (x : VertexSide) → RayDown (made hs vs es) p x → RayDown (made gs vs es) p x
   down hs gs p x r = record {
     place = r.place;
     spot = r.spot;
@@ -228,7 +228,7 @@ module _ (vs : List Vertex) (es : List Edge) where
   shell-chain : (hs gs : List Form) (x y : VertexSide) → Chained (ShellLink (made hs vs es)) x y → Chained (ShellLink (made gs vs es)) x y
   shell-chain hs gs x y c = chain-map (ShellLink (made hs vs es)) (ShellLink (made gs vs es)) (λ (x : VertexSide). x) (λ x y l. chain-link (ShellLink (made gs vs es)) x y (shell-link hs gs x y l)) x y c
 
-  named : (hs gs : List Form) (s : NamedSide) (x : VertexSide) → IsNamed (made hs vs es) s x → IsNamed (made gs vs es) s x
+  named : (hs gs : List Form) (s : NamedSide) (x : VertexSide) → IsSideNamed (made hs vs es) s x → IsSideNamed (made gs vs es) s x
   named hs gs s x (e, n) = (e, side-number hs gs x s.side n)
 
   shell-too : (hs gs : List Form) (h : List NamedSide) → IsShell (made hs vs es) h → IsShell (made gs vs es) h
@@ -273,9 +273,9 @@ module _ (vs : List Vertex) (es : List Edge) where
   towards hs gs (on_edge k) d l t = t
   towards hs gs (in_facet k) d l (v, x, c, e) = (v, x, corner hs gs k v x c, e)
 
-  sees-spot : (hs gs : List Form) (p : Place) (o : Spot) (y : Place) → SeesSpot (made hs vs es) p o y → SeesSpot (made gs vs es) p o y
+  sees-spot : (hs gs : List Form) (p : SpacePoint) (o : Spot) (y : SpacePoint) → SeesSpot (made hs vs es) p o y → SeesSpot (made gs vs es) p o y
   sees-spot hs gs p o y h = record { off = λ k. h.off (skeleton gs hs p k); spot = spot hs gs o y h.spot; clear = λ q b k. h.clear q b (skeleton gs hs q k) }
 
-  pub belongs-too : (hs gs : List Form) (p : Place) → Belongs (made hs vs es) p → Belongs (made gs vs es) p
+  pub belongs-too : (hs gs : List Form) (p : SpacePoint) → Belongs (made hs vs es) p → Belongs (made gs vs es) p
   belongs-too hs gs p (on_skeleton o h m) = on_skeleton o (spot hs gs o p h) (spot-mark hs gs o In m)
   belongs-too hs gs p (off_skeleton o y h t) = off_skeleton o y (sees-spot hs gs p o y h) (towards hs gs o _ In t)

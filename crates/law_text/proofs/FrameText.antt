@@ -1,5 +1,5 @@
 -- The texts of the empty set and of the whole frame.
-use Rattle.law_text.proofs.Prelude.{◌≡◌, ℕ, suc, ℤ, pos, nat_abs, ◌<ℤ◌, arith, refl, sym, ◌∙◌, ap, true, false, List, [], ◌∷◌, ◌++◌, length, map, subst, Option, Some, None, codes, option_map, option_to_list, ints, length-map, flat_map, SameSet, IsAt, Place, Form, Set, Vector, Label, Out, Not, In, cones-of_same, FlatDim-by_cone, form_of, Plane, MapVertex, Arc, MapSloop, at-from_get, svertex_of, arc_of, sloop_of, SLoop, Vertex as PlainVertex, Edge as PlainEdge, Complex as PlainComplex, Corner as PlainCorner, Edges, vertex_of, edge_of, corner_of, complex_of, ShowsSet, cone-carried, edges-one, One, IsFacet, IsParts, cycle_corners, Word, line, label_word, option_word, numbers, signed, plane_words, vertex_text, svertex_line, arc_line, sloop_line, edge_line, cycle_line, facet_text, volume_line, text, Cycle, Facet, Parts, Ends, Axis, IsWhole, empty-whole, full-whole, end_of, turned_set}
+use Rattle.law_text.proofs.Prelude.{◌≡◌, ℕ, suc, ℤ, pos, nat_abs, ◌<ℤ◌, arith, refl, sym, ◌∙◌, ap, true, false, List, [], ◌∷◌, ◌++◌, length, map, subst, Option, Some, None, codes, option_map, option_to_list, ints, length-map, flat_map, SameSet, IsAt, SpacePoint, Form, Set, Vector, Label, Out, Not, In, cones-of_same, FlatDim-by_cone, form_of, Plane, MapVertex, Arc, MapSloop, at-from_get, svertex_of, arc_of, sloop_of, SLoop, Vertex as PlainVertex, Edge as PlainEdge, Complex as PlainComplex, Corner as PlainCorner, Edges, vertex_of, edge_of, corner_of, complex_of, ShowsSet, cone-carried, edges-one, One, IsFacet, IsParts, cycle_corners, Word, line, label_word, option_word, numbers, signed_numbers, plane_words, vertex_text, svertex_line, arc_line, sloop_line, edge_line, cycle_line, facet_text, volume_line, text, Cycle, Facet, Parts, FrameCorner, Axis, IsOneLabelSet, empty-whole, full-whole, is_high_on, turned_set}
 use Rattle.std.specs.Fmt.{digits}
 use Rattle.nef_complex.specs.declared.complex.Complex.{Complex}
 use Rattle.nef_complex.specs.declared.complex.Vertex.{Vertex}
@@ -24,10 +24,10 @@ flat-same f g (x ∷ xs) (y ∷ ys) e same = ap (λ r. r ++ flat_map f xs) (same
 
 -- ---- the lines of plain vertices and edges
 abbrev vector_words : Vector → List Word
-vector_words d = signed (d.x ∷ d.y ∷ d.z ∷ [])
+vector_words d = signed_numbers (d.x ∷ d.y ∷ d.z ∷ [])
 
-abbrev place_words : Place → List Word
-place_words p = signed (p.x ∷ p.y ∷ p.z ∷ pos p.w ∷ [])
+abbrev place_words : SpacePoint → List Word
+place_words p = signed_numbers (p.x ∷ p.y ∷ p.z ∷ pos p.w ∷ [])
 
 abbrev plain_svertex : MapVertex → List ℕ
 plain_svertex v = line (codes "s" ∷ [] ++ vector_words v.dir ++ label_word v.mark ∷ option_word v.around ∷ [])
@@ -54,7 +54,7 @@ sloop-same (Some l) = refl
 
 -- the text of a vertex by the words of its weight and the texts of its map
 abbrev vertex_by : Vertex → ℤ → List ℕ → List ℕ → List ℕ → List ℕ
-vertex_by v w a b c = line (codes "v" ∷ [] ++ signed (v.point.x ∷ v.point.y ∷ v.point.z ∷ w ∷ []) ++ label_word v.map.mark ∷ option_word v.map.ground ∷ []) ++ a ++ b ++ c
+vertex_by v w a b c = line (codes "v" ∷ [] ++ signed_numbers (v.point.x ∷ v.point.y ∷ v.point.z ∷ w ∷ []) ++ label_word v.map.mark ∷ option_word v.map.ground ∷ []) ++ a ++ b ++ c
 
 vertex-plain : (v : Vertex) → vertex_text v ≡ plain_vertex (vertex_of v)
 vertex-plain v =
@@ -85,9 +85,9 @@ cycles-plain [] = refl
 cycles-plain (x ∷ xs) = ap (λ r. r ++ flat_map cycle_line xs) (cycle-plain x) ∙ ap (λ r. plain_cycle (map corner_of x.corners) ++ r) (cycles-plain xs)
 
 abbrev wall_text : Wall → List ℕ
-wall_text (k, a) = facet_by (wall_plane a (end_of k a)) Out (volume_beside (end_of k a) false) (volume_beside (end_of k a) true) (flat_map plain_cycle (wall_cycle k a ∷ []))
+wall_text (k, a) = facet_by (wall_plane a (is_high_on k a)) Out (volume_beside (is_high_on k a) false) (volume_beside (is_high_on k a) true) (flat_map plain_cycle (wall_cycle k a ∷ []))
 
-facet-plain : (k : Ends) (a : Axis) (f : Facet) → IsWallFacet k a f → facet_text f ≡ wall_text (k, a)
+facet-plain : (k : FrameCorner) (a : Axis) (f : Facet) → IsWallFacet k a f → facet_text f ≡ wall_text (k, a)
 facet-plain k a f (g, m, above, under, cycles) = ap (facet_by f.plane f.mark f.pos f.neg) (cycles-plain f.cycles) ∙ rw (g, m, above, under, cycles) refl
 
 -- ---- the text
@@ -97,7 +97,7 @@ text_by ns vs es fs ms = line (codes "nef3" ∷ codes "1" ∷ [] ++ numbers ns) 
 abbrev frame_text : Label → List ℕ
 frame_text l = text_by (8 ∷ 12 ∷ 6 ∷ 2 ∷ []) (flat_map plain_vertex (frame_vertices l)) (flat_map plain_edge frame_edges) (flat_map wall_text walls) (Out ∷ l ∷ [])
 
-module _ (t : Set) (l : Label) (W : IsWhole t l) (turned : (n : ℕ) → turned_set n t ≡ t) (s : Set) (c : Complex) (p : Parts) (same : SameSet s t) (S : ShowsSet s c) (P : IsParts (complex_of c) p) where
+module _ (t : Set) (l : Label) (W : IsOneLabelSet t l) (turned : (n : ℕ) → turned_set n t ≡ t) (s : Set) (c : Complex) (p : Parts) (same : SameSet s t) (S : ShowsSet s c) (P : IsParts (complex_of c) p) where
   -- the vertices are those of the other set too
   of-other : AreOf t (map vertex_of c.vertices)
   of-other =

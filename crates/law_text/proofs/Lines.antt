@@ -11,11 +11,11 @@ Each-append P [] ys h k = k
 Each-append P (x ∷ xs) ys h k = (h.0, Each-append P xs ys h.1 k)
 
 -- a word has neither a blank nor LF
-abbrev pub IsPlain : Word → Type 0
-IsPlain = Each (λ (b : ℕ). 32 < b)
+abbrev pub IsPlainWord : Word → Type 0
+IsPlainWord = Each (λ (b : ℕ). 32 < b)
 
 abbrev pub ArePlain : List Word → Type 0
-ArePlain = Each IsPlain
+ArePlain = Each IsPlainWord
 
 -- ---- lists with equal ends
 pub same-head : {A : Type 0} (a b : A) (x y : List A) → a ∷ x ≡ b ∷ y → a ≡ b
@@ -29,7 +29,7 @@ same-both {A} a b x y e f = ap (λ (r : A). r ∷ x) e ∙ ap (λ (r : List A). 
 
 -- ---- words
 -- a plain word ends at the first blank or LF
-pub word-ends : (u v : Word) (s t : ℕ) (x y : List ℕ) → IsPlain u → IsPlain v → s ≤ 32 → t ≤ 32 → u ++ (s ∷ x) ≡ v ++ (t ∷ y) → (u ≡ v) × (s ≡ t) × (x ≡ y)
+pub word-ends : (u v : Word) (s t : ℕ) (x y : List ℕ) → IsPlainWord u → IsPlainWord v → s ≤ 32 → t ≤ 32 → u ++ (s ∷ x) ≡ v ++ (t ∷ y) → (u ≡ v) × (s ≡ t) × (x ≡ y)
 word-ends [] [] s t x y P Q i j e = (refl, same-head s t x y e, same-tail s t x y e)
 word-ends [] (c ∷ v) s t x y P Q i j e = let h = same-head s c x (v ++ (t ∷ y)) e in let k = Q.0 in absurd (omega arith)
 word-ends (b ∷ u) [] s t x y P Q i j e = let h = same-head b t (u ++ (s ∷ x)) y e in let k = P.0 in absurd (omega arith)

@@ -3,8 +3,8 @@ use Rattle.law_text.proofs.Prelude.{◌≡◌, ℕ, refl, ap, sym, ◌∙◌, Li
 use Rattle.law_text.proofs.Lines.{Starts, Lacks, starts-lacks, starts-never, same-both}
 
 -- the text before a rest tells the value, and where the rest begins
-abbrev pub Reads : (A B : Type 0) → (List ℕ → Type 0) → (A → B) → (A → List ℕ) → Type 0
-Reads A B Rest value spelled = (a b : A) (x y : List ℕ) → Rest x → Rest y → spelled a ++ x ≡ spelled b ++ y → (value a ≡ value b) × (x ≡ y)
+abbrev pub IsReadBack : (A B : Type 0) → (List ℕ → Type 0) → (A → B) → (A → List ℕ) → Type 0
+IsReadBack A B Rest value spelled = (a b : A) (x y : List ℕ) → Rest x → Rest y → spelled a ++ x ≡ spelled b ++ y → (value a ≡ value b) × (x ≡ y)
 
 -- so for a list of texts that begin with c, before a rest that doesn't
 abbrev pub ReadsAll : (A B : Type 0) → (List ℕ → Type 0) → (A → B) → (A → List ℕ) → ℕ → Type 0
@@ -12,8 +12,8 @@ ReadsAll A B Rest value spelled c = (xs ys : List A) (x y : List ℕ) → Rest x
     → (map value xs ≡ map value ys) × (x ≡ y)
 
 -- any rest
-abbrev pub Any : List ℕ → Type 0
-Any x = Unit {0}
+abbrev pub AnyRest : List ℕ → Type 0
+AnyRest x = Unit {0}
 
 -- texts that begin with c lack any other letter
 module _ (A : Type 0) (spelled : A → List ℕ) (c : ℕ) (starts : (a : A) → Starts c (spelled a)) where
@@ -25,7 +25,7 @@ module _ (A : Type 0) (spelled : A → List ℕ) (c : ℕ) (starts : (a : A) →
 
 -- a list of them ends where the rest doesn't begin with c
 module _ (A B : Type 0) (Rest : List ℕ → Type 0) (value : A → B) (spelled : A → List ℕ) (c : ℕ) (starts : (a : A) → Starts c (spelled a))
-    (reads : Reads A B Rest value spelled) (more : (a : A) (x : List ℕ) → Rest (spelled a ++ x)) where
+    (reads : IsReadBack A B Rest value spelled) (more : (a : A) (x : List ℕ) → Rest (spelled a ++ x)) where
   all-rest : (xs : List A) (x : List ℕ) → Rest x → Rest (flat_map spelled xs ++ x)
   all-rest [] x h = h
   all-rest (a ∷ xs) x h = subst Rest (sym (append_assoc (spelled a) (flat_map spelled xs) x)) (more a (flat_map spelled xs ++ x))

@@ -1,18 +1,19 @@
 -- The map written out is the least map at the lowest corner of a set that holds all of the frame or nothing of it.
-use Rattle.law_text.proofs.Prelude.{◌≡◌, ℕ, ◌+◌, ◌≤◌, ℤ, pos, neg_ℤ, ◌+ℤ◌, ◌*ℤ◌, ◌<ℤ◌, arith, refl, sym, ◌∙◌, ap, ◌⊎◌, inl, inr, ⊎_elim, cond, Some, None, subst, ints, Sign, minus, nought, plus, sign, Lies, mul_pos, minus-is, sign-minus, sign-plus, sign-neg, sign_turned, by_order, HasLabel, Germ, Place, slope, Set, Vector, dot, cross, triple, blend, IsDirection, IsZero, SameDirection, IsNormal, Label, Out, IsStrictlyOn, sign_at, carriers, frame-minus, Germ-unique, Near, by_side, NearPlain, NearStraight, Least, Cone, At, MapVertex, Arc, Map, Item, arc_item, items, item_normal, item_pos, item_mark, item_neg, dir_of, OnItem, IsFree, MapLabel, NearLabel, HasArc, ArcBetween, Shaped, amount, dir-at, at-map, IsCornerPlace, axes, Axis, on_x, on_y, on_z, wall, wall-listed, IsWhole, germ-inward, germ-outward, end_of, inward_way, through, leads-in, axis_of, dot-zero}
+use Rattle.law_text.proofs.Prelude.{◌≡◌, ℕ, ◌+◌, ◌≤◌, ℤ, pos, neg_ℤ, ◌+ℤ◌, ◌*ℤ◌, ◌<ℤ◌, arith, refl, sym, ◌∙◌, ap, ◌⊎◌, inl, inr, ⊎_elim, cond, Some, None, subst, ints, Sign, minus, nought, plus, sign, Lies, mul_pos, minus-is, sign-minus, sign-plus, sign-neg, sign_turned, by_order, HasLabel, Germ, SpacePoint, slope, Set, Vector, dot, cross, triple, blend, IsDirection, IsZero, SameDirection, IsNormal, Label, Out, IsStrictlyOn, sign_at, carriers, frame-minus, Germ-unique, Near, by_side, NearPlain, NearStraight, Least, Cone, IsAt, MapVertex, Arc, Map, Item, arc_item, items, item_normal, item_pos, item_mark, item_neg, dir_of, OnItem, IsFree, MapLabel, NearLabel, HasArc, ArcBetween, Shaped, amount, dir-at, at-map, IsFrameCornerAt, axes, Axis, on_x, on_y, on_z, wall, wall-listed, IsOneLabelSet, germ-inward, germ-outward, is_high_on, inward_way, through, leads-in, axis_of, dot-zero}
 use Rattle.law_near.proofs.Decisions.{near-germ_one}
 use Rattle.law_sphere.specs.Labelling.{Agrees}
 use Rattle.law_cones.proofs.Signs.{leading, leading-level, far-leading}
 use Rattle.law_sphere.proofs.Built.{agrees-label}
 use Rattle.law_sphere.proofs.Labellings.{normals_of, germ-labelling, cone-from_agrees}
-use Rattle.law_text.proofs.Corners.{on_axes, each-axis, is_positive, positive-is, each-listed}
-use Rattle.law_text.proofs.Octants.{next, after, axes_down, slot, octant, axis-at, axis-normal, lowest}
+use Rattle.nef_case.specs.Between.{is_positive}
+use Rattle.law_text.proofs.Corners.{on_axes, each-axis, positive-is, each-listed}
+use Rattle.law_text.proofs.Octants.{next, axis_after, axes_down, slot, octant, axis-at, axis-normal, lowest}
 
 -- ---- the part of a direction along an axis
 abbrev pub part : Axis → Vector → ℤ
 part a d = dot (axis_of a) d
 
-wall-part : (a : Axis) (d : Vector) → slope (wall a (end_of lowest a)) d ≡ neg_ℤ (part a d)
+wall-part : (a : Axis) (d : Vector) → slope (wall a (is_high_on lowest a)) d ≡ neg_ℤ (part a d)
 wall-part on_x d = omega (arith, ints)
 wall-part on_y d = omega (arith, ints)
 wall-part on_z d = omega (arith, ints)
@@ -21,7 +22,7 @@ no-parts : (d : Vector) → ((a : Axis) → part a d ≡ pos 0) → IsZero d
 no-parts d f = let x = f on_x in let y = f on_y in let z = f on_z in (omega (arith, ints, x), omega (arith, ints, y), omega (arith, ints, z))
 
 -- the three axes
-pub around : (P : Axis → Type 0) (a : Axis) → P a → P (next a) → P (after a) → (o : Axis) → P o
+pub around : (P : Axis → Type 0) (a : Axis) → P a → P (next a) → P (axis_after a) → (o : Axis) → P o
 around P on_x f g h on_x = f
 around P on_x f g h on_y = g
 around P on_x f g h on_z = h
@@ -33,7 +34,7 @@ around P on_z f g h on_y = h
 around P on_z f g h on_z = f
 
 -- what has no part along two axes is along the third
-along : (a : Axis) (d : Vector) → part (next a) d ≡ pos 0 → part (after a) d ≡ pos 0 → pos 0 <ℤ part a d → SameDirection (axis_of a) d
+along : (a : Axis) (d : Vector) → part (next a) d ≡ pos 0 → part (axis_after a) d ≡ pos 0 → pos 0 <ℤ part a d → SameDirection (axis_of a) d
 along on_x d e f h = record { parallel = (omega (arith, ints), omega (arith, ints), omega (arith, ints)); forward = omega (arith, ints) }
 along on_y d e f h = record { parallel = (omega (arith, ints), omega (arith, ints), omega (arith, ints)); forward = omega (arith, ints) }
 along on_z d e f h = record { parallel = (omega (arith, ints), omega (arith, ints), omega (arith, ints)); forward = omega (arith, ints) }
@@ -48,40 +49,40 @@ pub some-direction : (d : Vector) (n : ℕ) → dot d d ≡ pos (n + 1) → IsDi
 some-direction d n e z = let q = dot-zero d d z in omega (arith, ints, e, q)
 
 -- and what is along one has none along the others
-pub level-ray : (a : Axis) (d : Vector) → SameDirection (axis_of a) d → (part (next a) d ≡ pos 0) × (part (after a) d ≡ pos 0)
+pub level-ray : (a : Axis) (d : Vector) → SameDirection (axis_of a) d → (part (next a) d ≡ pos 0) × (part (axis_after a) d ≡ pos 0)
 level-ray on_x d w = let e = w.parallel.2 in let f = w.parallel.1 in (omega (arith, ints), omega (arith, ints))
 level-ray on_y d w = let e = w.parallel.0 in let f = w.parallel.2 in (omega (arith, ints), omega (arith, ints))
 level-ray on_z d w = let e = w.parallel.1 in let f = w.parallel.0 in (omega (arith, ints), omega (arith, ints))
 
 -- ---- the arcs
-triple-next : (a : Axis) (d : Vector) → triple (axis_of a) (axis_of (next a)) d ≡ part (after a) d
+triple-next : (a : Axis) (d : Vector) → triple (axis_of a) (axis_of (next a)) d ≡ part (axis_after a) d
 triple-next on_x d = omega (arith, ints)
 triple-next on_y d = omega (arith, ints)
 triple-next on_z d = omega (arith, ints)
 
-triple-after : (a : Axis) (d : Vector) → triple (axis_of a) d (axis_of (after a)) ≡ part (next a) d
+triple-after : (a : Axis) (d : Vector) → triple (axis_of a) d (axis_of (axis_after a)) ≡ part (next a) d
 triple-after on_x d = omega (arith, ints)
 triple-after on_y d = omega (arith, ints)
 triple-after on_z d = omega (arith, ints)
 
-triple-one : (a : Axis) → pos 0 <ℤ triple (axis_of a) (axis_of (next a)) (axis_of (after a))
-triple-one a = let e = each-axis (λ o. triple (axis_of o) (axis_of (next o)) (axis_of (after o))) (λ o. pos 1) refl a in omega (arith, ints, e)
+triple-one : (a : Axis) → pos 0 <ℤ triple (axis_of a) (axis_of (next a)) (axis_of (axis_after a))
+triple-one a = let e = each-axis (λ o. triple (axis_of o) (axis_of (next o)) (axis_of (axis_after o))) (λ o. pos 1) refl a in omega (arith, ints, e)
 
 -- where a direction lies strictly on the arc with the normal a
 abbrev pub OnQuarter : Axis → Vector → Type 0
-OnQuarter a d = (part a d ≡ pos 0) × (pos 0 <ℤ part (next a) d) × (pos 0 <ℤ part (after a) d)
+OnQuarter a d = (part a d ≡ pos 0) × (pos 0 <ℤ part (next a) d) × (pos 0 <ℤ part (axis_after a) d)
 
-strict-quarter : (a : Axis) (d : Vector) → IsStrictlyOn (axis_of a) (axis_of (next a)) (axis_of (after a)) d → OnQuarter a d
+strict-quarter : (a : Axis) (d : Vector) → IsStrictlyOn (axis_of a) (axis_of (next a)) (axis_of (axis_after a)) d → OnQuarter a d
 strict-quarter a d o = let p = o.less_than_half (triple-one a) in (o.on_circle.level, positive-as _ _ (triple-after a d) p.1, positive-as _ _ (triple-next a d) p.0)
 
-quarter-strict : (a : Axis) (d : Vector) → OnQuarter a d → IsStrictlyOn (axis_of a) (axis_of (next a)) (axis_of (after a)) d
+quarter-strict : (a : Axis) (d : Vector) → OnQuarter a d → IsStrictlyOn (axis_of a) (axis_of (next a)) (axis_of (axis_after a)) d
 quarter-strict a d (level, h, i) =
     let first = positive-as _ _ (sym (triple-next a d)) i in
     let last = positive-as _ _ (sym (triple-after a d)) h in
     record {
       on_circle = record { direction = λ z. none-positive _ (dot-zero (axis_of (next a)) d z) h; level = level };
       not_source = λ w. none-positive _ (level-ray (next a) d w).0 i;
-      not_target = λ w. none-positive _ (subst (λ o. part o d ≡ pos 0) (each-axis (λ o. after (after o)) next refl a) (level-ray (after a) d w).1) h;
+      not_target = λ w. none-positive _ (subst (λ o. part o d ≡ pos 0) (each-axis (λ o. axis_after (axis_after o)) next refl a) (level-ray (axis_after a) d w).1) h;
       less_than_half = λ g. (first, last);
       more_than_half = λ g. inl first;
       just_half = λ o. first;
@@ -95,18 +96,18 @@ module _ (l : Label) where
   ray a = record { dir = axis_of a; mark = Out; around = None }
 
   abbrev pub quarter : Axis → Arc
-  quarter a = record { normal = axis_of a; source = slot (next a); target = slot (after a); pos = l; mark = Out; neg = Out }
+  quarter a = record { normal = axis_of a; source = slot (next a); target = slot (axis_after a); pos = l; mark = Out; neg = Out }
 
-  pub each-ray : (P : ℕ → MapVertex → Type 0) → ((a : Axis) → P (slot a) (ray a)) → (n : ℕ) (v : MapVertex) → At M.svertices n v → P n v
+  pub each-ray : (P : ℕ → MapVertex → Type 0) → ((a : Axis) → P (slot a) (ray a)) → (n : ℕ) (v : MapVertex) → IsAt M.svertices n v → P n v
   each-ray = each-listed ray slot axes_down refl
 
-  pub each-quarter : (P : ℕ → Item → Type 0) → ((a : Axis) → P (slot a) (arc_item (quarter a))) → (n : ℕ) (x : Item) → At (items M) n x → P n x
+  pub each-quarter : (P : ℕ → Item → Type 0) → ((a : Axis) → P (slot a) (arc_item (quarter a))) → (n : ℕ) (x : Item) → IsAt (items M) n x → P n x
   each-quarter = each-listed (λ a. arc_item (quarter a)) slot axes_down refl
 
-  ray-at : (a : Axis) → At M.svertices (slot a) (ray a)
+  ray-at : (a : Axis) → IsAt M.svertices (slot a) (ray a)
   ray-at a = at-map ray axes_down (slot a) a (axis-at a)
 
-  pub quarter-at : (a : Axis) → At (items M) (slot a) (arc_item (quarter a))
+  pub quarter-at : (a : Axis) → IsAt (items M) (slot a) (arc_item (quarter a))
   quarter-at a = at-map (λ o. arc_item (quarter o)) axes_down (slot a) a (axis-at a)
 
   abbrev Strict : Vector → Axis → Vector → Vector → Type 0
@@ -116,10 +117,10 @@ module _ (l : Label) where
   ray-dir a = dir-at M.svertices (slot a) (ray a) (ray-at a)
 
   pub on-quarter : (a : Axis) (d : Vector) → OnItem M (arc_item (quarter a)) d → OnQuarter a d
-  on-quarter a d o = strict-quarter a d (subst (Strict d a (axis_of (next a))) (ray-dir (after a)) (subst (λ (s : Vector). Strict d a s (dir_of M.svertices (slot (after a)))) (ray-dir (next a)) o))
+  on-quarter a d o = strict-quarter a d (subst (Strict d a (axis_of (next a))) (ray-dir (axis_after a)) (subst (λ (s : Vector). Strict d a s (dir_of M.svertices (slot (axis_after a)))) (ray-dir (next a)) o))
 
   pub quarter-on : (a : Axis) (d : Vector) → OnQuarter a d → OnItem M (arc_item (quarter a)) d
-  quarter-on a d q = subst (λ (s : Vector). Strict d a s (dir_of M.svertices (slot (after a)))) (sym (ray-dir (next a))) (subst (Strict d a (axis_of (next a))) (sym (ray-dir (after a))) (quarter-strict a d q))
+  quarter-on a d q = subst (λ (s : Vector). Strict d a s (dir_of M.svertices (slot (axis_after a)))) (sym (ray-dir (next a))) (subst (Strict d a (axis_of (next a))) (sym (ray-dir (axis_after a))) (quarter-strict a d q))
 
   -- ---- the shape
   one-axis : (a o : Axis) → SameDirection (axis_of a) (axis_of o) → a ≡ o
@@ -127,23 +128,23 @@ module _ (l : Label) where
       (each-axis (λ b. cond (is_positive (dot (axis_of a) (axis_of b))) a b) (λ b. b) (each-axis (λ c. on_axes (λ b. cond (is_positive (dot (axis_of c) (axis_of b))) c b)) (λ c. on_axes (λ b. b)) refl a) o)
 
   no-ray : (a o : Axis) → OnQuarter a (axis_of o) → ⊥
-  no-ray a o (z, h, i) = none-positive _ (each-axis (λ b. part (next a) (axis_of b) *ℤ part (after a) (axis_of b)) (λ b. pos 0)
-      (each-axis (λ c. on_axes (λ b. part (next c) (axis_of b) *ℤ part (after c) (axis_of b))) (λ c. on_axes (λ b. pos 0)) refl a) o) (mul_pos (part (next a) (axis_of o)) (part (after a) (axis_of o)) h i)
+  no-ray a o (z, h, i) = none-positive _ (each-axis (λ b. part (next a) (axis_of b) *ℤ part (axis_after a) (axis_of b)) (λ b. pos 0)
+      (each-axis (λ c. on_axes (λ b. part (next c) (axis_of b) *ℤ part (axis_after c) (axis_of b))) (λ c. on_axes (λ b. pos 0)) refl a) o) (mul_pos (part (next a) (axis_of o)) (part (axis_after a) (axis_of o)) h i)
 
   one-quarter : (a o : Axis) (d : Vector) → OnQuarter a d → OnQuarter o d → slot a ≡ slot o
   one-quarter a o d p = around (λ b. OnQuarter b d → slot a ≡ slot b) a (λ q. refl) (λ q. absurd (none-positive _ q.0 p.1)) (λ q. absurd (none-positive _ q.0 p.2)) o
 
   has-arc : (a : Axis) → HasArc M (slot a)
-  has-arc a = (slot (next a), quarter (next a), at-map quarter axes_down (slot (next a)) (next a) (axis-at (next a)), inr (each-axis (λ o. slot (after (next o))) slot refl a))
+  has-arc a = (slot (next a), quarter (next a), at-map quarter axes_down (slot (next a)) (next a) (axis-at (next a)), inr (each-axis (λ o. slot (axis_after (next o))) slot refl a))
 
   between : (a : Axis) → ArcBetween M (quarter a)
   between a = record {
     source = ray (next a);
-    target = ray (after a);
+    target = ray (axis_after a);
     has_source = ray-at (next a);
-    has_target = ray-at (after a);
+    has_target = ray-at (axis_after a);
     level_source = each-axis (λ o. dot (axis_of o) (axis_of (next o))) (λ o. pos 0) refl a;
-    level_target = each-axis (λ o. dot (axis_of o) (axis_of (after o))) (λ o. pos 0) refl a;
+    level_target = each-axis (λ o. dot (axis_of o) (axis_of (axis_after o))) (λ o. pos 0) refl a;
   }
 
   pub lowest-shaped : Shaped M
@@ -188,7 +189,7 @@ not-plus : (s t : Sign) → s ≡ t → (t ≡ plus → ⊥) → s ≡ plus → 
 not-plus s t e n h = n (sym e ∙ h)
 
 -- the part inward along two axes is the sum of theirs, for a form that is level along the third
-inward-sum : (a : Axis) (n : Vector) → dot n (axis_of a) ≡ pos 0 → dot n (inward_way lowest) ≡ dot n (axis_of (next a)) +ℤ dot n (axis_of (after a))
+inward-sum : (a : Axis) (n : Vector) → dot n (axis_of a) ≡ pos 0 → dot n (inward_way lowest) ≡ dot n (axis_of (next a)) +ℤ dot n (axis_of (axis_after a))
 inward-sum on_x n e = omega (arith, ints)
 inward-sum on_y n e = omega (arith, ints)
 inward-sum on_z n e = omega (arith, ints)
@@ -210,7 +211,7 @@ module _ (l : Label) (d : Vector) (f : IsFree (octant l lowest) d) where
   off-quarters : (a : Axis) → OnQuarter a d → ⊥
   off-quarters a q = f.off_items (slot a) (arc_item (quarter l a)) (quarter-at l a) (quarter-on l a d q)
 
-  off-rays : (a : Axis) → part (next a) d ≡ pos 0 → part (after a) d ≡ pos 0 → pos 0 <ℤ part a d → ⊥
+  off-rays : (a : Axis) → part (next a) d ≡ pos 0 → part (axis_after a) d ≡ pos 0 → pos 0 <ℤ part a d → ⊥
   off-rays a y z h = f.off_svertices (slot a) (ray l a) (ray-at l a) (along a d y z h)
 
   pub free-cases : Order (part on_x d) → Order (part on_y d) → Order (part on_z d) → ((a : Axis) × (part a d <ℤ pos 0)) ⊎ ((a : Axis) → pos 0 <ℤ part a d)
@@ -227,7 +228,7 @@ module _ (l : Label) (d : Vector) (f : IsFree (octant l lowest) d) where
   free-cases (inr (inl x)) (inr (inl y)) (inr (inl z)) = absurd (f.direction (no-parts d (around (λ a. part a d ≡ pos 0) on_x x y z)))
 
 -- ---- the map and the set
-module _ (s : Set) (l : Label) (W : IsWhole s l) (p : Place) (c : IsCornerPlace lowest p) where
+module _ (s : Set) (l : Label) (W : IsOneLabelSet s l) (p : SpacePoint) (c : IsFrameCornerAt lowest p) where
   abbrev F : Vector → Label → Type 0
   F = Germ s p
 
@@ -235,7 +236,7 @@ module _ (s : Set) (l : Label) (W : IsWhole s l) (p : Place) (c : IsCornerPlace 
   germ-in d f = germ-inward s l W p d (leads-in lowest p c d (λ a. ap sign (wall-part a d) ∙ sign-neg (part a d) ∙ ap sign_turned (f a)))
 
   germ-off : (d : Vector) (a : Axis) → (sign (part a d) ≡ plus → ⊥) → F d Out
-  germ-off d a n = germ-outward s p d a (end_of lowest a) (through lowest p c a) (λ m. n (sign-plus (part a d) (let e = wall-part a d in let h = minus-is (slope (wall a (end_of lowest a)) d) m in omega (arith, ints, e, h))))
+  germ-off d a n = germ-outward s p d a (is_high_on lowest a) (through lowest p c a) (λ m. n (sign-plus (part a d) (let e = wall-part a d in let h = minus-is (slope (wall a (is_high_on lowest a)) d) m in omega (arith, ints, e, h))))
 
   near-in : (d e : Vector) → ((a : Axis) → lead a d e ≡ plus) → Near F d e l
   near-in d e f = (amount axes e, λ i h. germ-in (blend i d 1 e) (λ a. far a d e i h ∙ f a))
@@ -252,7 +253,7 @@ module _ (s : Set) (l : Label) (W : IsWhole s l) (p : Place) (c : IsCornerPlace 
       by : (t : Sign) → lead a d e ≡ t → Near F d e (by_side l Out Out t)
       by minus q = near-off d e a (not-plus _ minus q (λ r. cc))
       by nought q = near-off d e a (not-plus _ nought q (λ r. cc))
-      by plus q = near-in d e (around (λ o. lead o d e ≡ plus) a q (lead-plus (next a) d e h) (lead-plus (after a) d e i))
+      by plus q = near-in d e (around (λ o. lead o d e ≡ plus) a q (lead-plus (next a) d e h) (lead-plus (axis_after a) d e i))
 
   agrees : Agrees (M l) F
   agrees = record {
@@ -269,7 +270,7 @@ module _ (s : Set) (l : Label) (W : IsWhole s l) (p : Place) (c : IsCornerPlace 
   }
 
   outside : HasLabel s p Out
-  outside i = differ (sign_at (wall on_x (end_of lowest on_x)) p) (through lowest p c on_x) (frame-minus p i (wall on_x (end_of lowest on_x)) (wall-listed on_x (end_of lowest on_x)))
+  outside i = differ (sign_at (wall on_x (is_high_on lowest on_x)) p) (through lowest p c on_x) (frame-minus p i (wall on_x (is_high_on lowest on_x)) (wall-listed on_x (is_high_on lowest on_x)))
     where
       differ : (t : Sign) → t ≡ nought → t ≡ minus → ⊥
       differ t e f = cc
@@ -289,10 +290,10 @@ module _ (s : Set) (l : Label) (W : IsWhole s l) (p : Place) (c : IsCornerPlace 
 
   -- toward the next axis it is Out, and toward the one after
   next-near : (a : Axis) → Near F (axis_of a) (axis_of (next a)) Out
-  next-near a = near-off (axis_of a) (axis_of (next a)) (after a) (not-plus _ nought (each-axis (λ o. lead (after o) (axis_of o) (axis_of (next o))) (λ o. nought) refl a) (λ q. cc))
+  next-near a = near-off (axis_of a) (axis_of (next a)) (axis_after a) (not-plus _ nought (each-axis (λ o. lead (axis_after o) (axis_of o) (axis_of (next o))) (λ o. nought) refl a) (λ q. cc))
 
-  after-near : (a : Axis) → Near F (axis_of a) (axis_of (after a)) Out
-  after-near a = near-off (axis_of a) (axis_of (after a)) (next a) (not-plus _ nought (each-axis (λ o. lead (next o) (axis_of o) (axis_of (after o))) (λ o. nought) refl a) (λ q. cc))
+  after-near : (a : Axis) → Near F (axis_of a) (axis_of (axis_after a)) Out
+  after-near a = near-off (axis_of a) (axis_of (axis_after a)) (next a) (not-plus _ nought (each-axis (λ o. lead (next o) (axis_of o) (axis_of (axis_after o))) (λ o. nought) refl a) (λ q. cc))
 
   inward-across : (a : Axis) → IsDirection (cross (axis_of a) (inward_way lowest))
   inward-across a = some-direction _ 1 (each-axis (λ o. dot (cross (axis_of o) (inward_way lowest)) (cross (axis_of o) (inward_way lowest))) (λ o. pos 2) refl a)
@@ -312,10 +313,10 @@ module _ (s : Set) (l : Label) (W : IsWhole s l) (p : Place) (c : IsCornerPlace 
   no-straight a N =
       let v = axis_of a in
       let u = axis_of (next a) in
-      let w = axis_of (after a) in
+      let w = axis_of (axis_after a) in
       let f = near-germ_one s p v (inward_way lowest) _ l (toward-side a N (inward_way lowest) (inward-across a)) (inward-near a) in
       let g = near-germ_one s p v u _ Out (toward-side a N u (some-direction _ 0 (each-axis (λ o. dot (cross (axis_of o) (axis_of (next o))) (cross (axis_of o) (axis_of (next o)))) (λ o. pos 1) refl a))) (next-near a) in
-      let h = near-germ_one s p v w _ Out (toward-side a N w (some-direction _ 0 (each-axis (λ o. dot (cross (axis_of o) (axis_of (after o))) (cross (axis_of o) (axis_of (after o)))) (λ o. pos 1) refl a))) (after-near a) in
+      let h = near-germ_one s p v w _ Out (toward-side a N w (some-direction _ 0 (each-axis (λ o. dot (cross (axis_of o) (axis_of (axis_after o))) (cross (axis_of o) (axis_of (axis_after o)))) (λ o. pos 1) refl a))) (after-near a) in
       W.some (sym f ∙ ⊎_elim (λ e. ap (by_side N.pos Out N.neg) e ∙ g) (λ r. ⊎_elim (λ e. ap (by_side N.pos Out N.neg) e ∙ h) (λ e. ap (by_side N.pos Out N.neg) e) r) (sum-sign (dot N.normal u) (dot N.normal w) (dot N.normal (inward_way lowest)) (inward-sum a N.normal N.level)))
 
   pub lowest-least : Least (M l)

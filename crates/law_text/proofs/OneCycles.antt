@@ -1,5 +1,5 @@
 -- Where each corner has one next corner, the cycles are the only ones.
-use Rattle.law_text.proofs.Prelude.{◌≡◌, ℕ, zero, suc, ◌<◌, ◌⊎◌, inl, inr, ⊎_elim, List, [], ◌∷◌, length, arith, refl, sym, ◌∙◌, ap, subst, ints, All, At, same-lists, Complex, Corner, NextCorner, IsCornerBelow, StepsTo, IsCycle, IsCycleBelow, Cycles, is-at_none, is-at_first}
+use Rattle.law_text.proofs.Prelude.{◌≡◌, ℕ, zero, suc, ◌<◌, ◌⊎◌, inl, inr, ⊎_elim, List, [], ◌∷◌, length, arith, refl, sym, ◌∙◌, ap, subst, ints, All, IsAt, same-lists, Complex, Corner, NextCorner, IsCornerBelow, StepsTo, IsCycle, IsCycleBelow, Cycles, is-at_none, is-at_first}
 
 below-apart : (j k : Corner) → IsCornerBelow j k → IsCornerBelow k j → ⊥
 below-apart j k (inl h) (inl g) = omega (arith, ints)
@@ -68,17 +68,17 @@ module _ (C : Complex) (one : HasOneNext C) where
       (both-ways i i j f.rest ls f.leads t f.above q)
 
   -- the rest of a cycle after one of its corners
-  rest-of : (a z m : Corner) (ks : List Corner) (i : ℕ) → StepsTo C a ks z → AllAbove z ks → At ks i m → (qs : List Corner) × StepsTo C m qs z × AllAbove z qs
+  rest-of : (a z m : Corner) (ks : List Corner) (i : ℕ) → StepsTo C a ks z → AllAbove z ks → IsAt ks i m → (qs : List Corner) × StepsTo C m qs z × AllAbove z qs
   rest-of a z m [] i s p h = absurd (is-at_none h)
   rest-of a z m (k ∷ ks) zero (n, s) (b, p) h = (ks, subst (λ (w : Corner). StepsTo C w ks z) (is-at_first h) s, p)
   rest-of a z m (k ∷ ks) (suc i) (n, s) (b, p) h = rest-of k z m ks i s p h
 
-  rest-from : (j m : Corner) (ks : List Corner) (i : ℕ) → IsCycle C (j ∷ ks) → At (j ∷ ks) i m → (qs : List Corner) × StepsTo C m qs j × AllAbove j qs
+  rest-from : (j m : Corner) (ks : List Corner) (i : ℕ) → IsCycle C (j ∷ ks) → IsAt (j ∷ ks) i m → (qs : List Corner) × StepsTo C m qs j × AllAbove j qs
   rest-from j m ks zero c h = (ks, subst (λ (w : Corner). StepsTo C w ks j) (is-at_first h) (c.0), all-above j ks (c.1))
   rest-from j m ks (suc i) c h = rest-of j j m ks i (c.0) (all-above j ks (c.1)) h
 
   -- cycles with a common corner are one
-  cycle-one : (x y : List Corner) (i k : ℕ) (m : Corner) → IsCycle C x → IsCycle C y → At x i m → At y k m → x ≡ y
+  cycle-one : (x y : List Corner) (i k : ℕ) (m : Corner) → IsCycle C x → IsCycle C y → IsAt x i m → IsAt y k m → x ≡ y
   cycle-one [] y i k m c d a b = absurd (is-at_none a)
   cycle-one (j ∷ ks) [] i k m c d a b = absurd (is-at_none b)
   cycle-one (j ∷ ks) (l ∷ ls) i k m c d a b =
@@ -95,12 +95,12 @@ module _ (C : Complex) (one : HasOneNext C) where
       below-apart m n (subst (λ (w : Corner). IsCornerBelow m w) (sym (is-at_first b)) (subst (λ (w : Corner). IsCornerBelow w k) (sym (is-at_first a)) h))
       (subst (λ (w : Corner). IsCornerBelow n w) (sym (is-at_first d)) (subst (λ (w : Corner). IsCornerBelow w o) (sym (is-at_first c)) g))
 
-  found : (P : Corner → Type 0) (xs ys : List (List Corner)) → Cycles C P xs → Cycles C P ys → (k : ℕ) (x : List Corner) → At xs k x → (i : ℕ) × At ys i x
+  found : (P : Corner → Type 0) (xs ys : List (List Corner)) → Cycles C P xs → Cycles C P ys → (k : ℕ) (x : List Corner) → IsAt xs k x → (i : ℕ) × IsAt ys i x
   found P xs ys X Y k [] a = absurd (X.cycles k [] a)
   found P xs ys X Y k (j ∷ ks) a =
       let r = Y.complete j (X.within k 0 (j ∷ ks) j a refl) in
       let e = cycle-one (j ∷ ks) (r.2) 0 (r.1) j (X.cycles k (j ∷ ks) a) (Y.cycles (r.0) (r.2) (r.3)) refl (r.4) in
-      (r.0, subst (λ (x : List Corner). At ys (r.0) x) (sym e) (r.3))
+      (r.0, subst (λ (x : List Corner). IsAt ys (r.0) x) (sym e) (r.3))
 
   pub cycles-one : (P : Corner → Type 0) (xs ys : List (List Corner)) → Cycles C P xs → Cycles C P ys → xs ≡ ys
   cycles-one P xs ys X Y = same-lists IsCycleBelow cycle-below-apart xs ys X.ordered Y.ordered (found P xs ys X Y) (found P ys xs Y X)

@@ -1,5 +1,5 @@
 -- A complex has its parts in one way alone, where each corner has one next corner.
-use Rattle.law_text.proofs.Prelude.{◌≡◌, ℕ, zero, suc, ◌<◌, ◌≤◌, ⊎_elim, List, length, map, arith, refl, sym, ◌∙◌, ap, subst, IsInTable, normal_of, Label, form_of, Item, items, item_normal, sides_of, is-at_within, is-at_some, is-at_one, at-from_get, get-from_at, side-has, number-one, number_of, Vertex, Complex, Corner, IsCorner, VertexSide, HasSideLabel, corner_of, FacetLink, VolumeLink, IsCornerBelow, Cycles, IsSideNumber, count_items, count_sides, IsFacetOf, IsVolumeOf, IsSideBelow, pos_of, neg_of, IsFacet, IsParts, cycle_corners, shell_sides, Shells, Cycle, Facet, Parts, Shell, map-one, cross-turned, parallel-both, direction-right}
+use Rattle.law_text.proofs.Prelude.{◌≡◌, ℕ, zero, suc, ◌<◌, ◌≤◌, ⊎_elim, List, length, map, arith, refl, sym, ◌∙◌, ap, subst, IsInTable, normal_of, Label, form_of, Item, items, item_normal, sides_of, is-at_within, is-at_some, is-at_one, at-from_get, get-from_at, side-has, number-one, side_number, Vertex, Complex, Corner, IsCorner, VertexSide, HasSideLabel, corner_of, FacetLink, VolumeLink, IsCornerBelow, Cycles, IsSideNumber, count_items, count_sides, IsFacetOf, IsVolumeOf, IsSideBelow, pos_of, neg_of, IsFacet, IsParts, cycle_corners, shell_sides, Shells, Cycle, Facet, Parts, Shell, map-one, cross-turned, parallel-both, direction-right}
 use Rattle.nef_complex.specs.declared.complex.Corner.{Corner as CornerValue}
 use Rattle.nef_complex.proofs.SamePlanes.{parallel-equal}
 use Rattle.law_text.proofs.Numbering.{IsEarlier, numbers-one}
@@ -47,7 +47,7 @@ module _ (C : Complex) where
   side-number-one x i k a b =
       let e : a.vertex ≡ b.vertex = is-at_one C.vertices x.vertex a.vertex b.vertex (get-from_at C.vertices x.vertex a.vertex a.is_vertex) (get-from_at C.vertices x.vertex b.vertex b.is_vertex) in
       number-one a.vertex.map i x.side a.label a.is_side
-      ∙ sym (subst (λ (v : Vertex). k ≡ number_of v.map x.side) (sym e) (number-one b.vertex.map k x.side b.label b.is_side))
+      ∙ sym (subst (λ (v : Vertex). k ≡ side_number v.map x.side) (sym e) (number-one b.vertex.map k x.side b.label b.is_side))
 
   volume-one : (rows : List (List ℕ)) (x : VertexSide) (m n : ℕ) → IsVolumeOf C rows x m → IsVolumeOf C rows x n → m ≡ n
   volume-one rows x m n (i, a, f) (k, b, g) = table-one rows x.vertex i m n f (subst (λ (j : ℕ). IsInTable rows x.vertex j n) (side-number-one x k i b a) g)

@@ -1,5 +1,5 @@
 -- Complexes that show one set have the same text.
-use Rattle.law_text.proofs.Prelude.{◌≡◌, ℕ, List, map, sym, ◌∙◌, ap, subst, ◌↔◌, SameSet, Place, InFrame, Set, Holds, form_of, Belongs, Edge as PlainEdge, Edges, Shows, complex_of, vertex_of, edge_of, TextVersion, One, Two, Parts, IsParts, text, Spells, edges-one, set-vertices}
+use Rattle.law_text.proofs.Prelude.{◌≡◌, ℕ, List, map, sym, ◌∙◌, ap, subst, ◌↔◌, SameSet, SpacePoint, InFrame, Set, Holds, form_of, Belongs, Edge as PlainEdge, Edges, Shows, complex_of, vertex_of, edge_of, TextVersion, One, Two, Parts, IsParts, text, Spells, edges-one, set-vertices}
 use Rattle.law_complex.specs.Laws.{BelongsHolds}
 use Rattle.nef_complex.specs.declared.complex.Complex.{Complex}
 use Rattle.nef_complex.specs.declared.complex.Vertex.{Vertex}
@@ -37,13 +37,13 @@ pub text-set : (version : TextVersion) (s t : Set) (c d : Complex) (p q : Parts)
 text-set version s t c d p q S T e = vertices-set s t (complex_of c) (complex_of d) S T (ap (map vertex_of) (vertices-read version c d p q e))
 
 -- complexes with the same vertices and edges have the same points
-belongs-same : (c d : Complex) (y : Place) → c.vertices ≡ d.vertices → map edge_of c.edges ≡ map edge_of d.edges → Belongs (complex_of c) y → Belongs (complex_of d) y
+belongs-same : (c d : Complex) (y : SpacePoint) → c.vertices ≡ d.vertices → map edge_of c.edges ≡ map edge_of d.edges → Belongs (complex_of c) y → Belongs (complex_of d) y
 belongs-same c d y e f b =
     subst (λ (ws : List PlainEdge). Belongs (made (map form_of d.carriers) (map vertex_of d.vertices) ws) y) f
     (subst (λ (vs : List Vertex). Belongs (made (map form_of d.carriers) (map vertex_of vs) (map edge_of c.edges)) y) e
     (belongs-too (map vertex_of c.vertices) (map edge_of c.edges) (map form_of c.carriers) (map form_of d.carriers) y b))
 
-pub spelled-holds : BelongsHolds → (version : TextVersion) (s : Set) (c d : Complex) (p : Parts) (bytes : List ℕ) (y : Place) → Shows s (complex_of c) → bytes ≡ text version c p → Spells version bytes d → InFrame y → Belongs (complex_of d) y ↔ Holds s y
+pub spelled-holds : BelongsHolds → (version : TextVersion) (s : Set) (c d : Complex) (p : Parts) (bytes : List ℕ) (y : SpacePoint) → Shows s (complex_of c) → bytes ≡ text version c p → Spells version bytes d → InFrame y → Belongs (complex_of d) y ↔ Holds s y
 spelled-holds holds version s c d p bytes y S e (E, (q, Q, f)) inside =
     let v : c.vertices ≡ d.vertices = vertices-read version c d p q (sym e ∙ f) in
     let w : map edge_of c.edges ≡ map edge_of d.edges =

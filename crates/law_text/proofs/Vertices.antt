@@ -1,12 +1,12 @@
 -- The vertices that a text tells.
-use Rattle.law_text.proofs.Prelude.{◌≡◌, ℕ, ℤ, pos, negsuc, ◌<◌, ◌≤◌, ◌^◌, nat_abs, arith, refl, ap, sym, ◌∙◌, List, [], ◌∷◌, ◌++◌, get_or, map, append_assoc, Option, Some, None, option_to_list, decimal, signed_decimal, flat_map, map-id, direction_limit, point_limit, weight_limit, vector, Dir, Point, same_places_equal, SVertex, SArc, SLoop, dir-equal, svertex-equal, arc-equal, sloop-equal, map-equal, vertex-equal, TextVersion, One, Two, Parts, Word, label_word, option_word, numbers, vertex_line, svertex_line, arc_line, sloop_line, vertex_text, sface_line, faced_text, with_rows, vertices_text}
+use Rattle.law_text.proofs.Prelude.{◌≡◌, ℕ, ℤ, pos, negsuc, ◌<◌, ◌≤◌, ◌^◌, nat_abs, arith, refl, ap, sym, ◌∙◌, List, [], ◌∷◌, ◌++◌, get_or, map, append_assoc, Option, Some, None, option_to_list, decimal, signed_decimal, flat_map, map-id, direction_limit, point_limit, weight_limit, vector, Dir, Point, same_points_equal, SVertex, SArc, SLoop, dir-equal, svertex-equal, arc-equal, sloop-equal, map-equal, vertex-equal, TextVersion, One, Two, Parts, Word, label_word, option_word, numbers, vertex_line, svertex_line, arc_line, sloop_line, vertex_text, sface_line, faced_text, with_rows, vertices_text}
 use lib.Signed.{mag}
 use Rattle.std.proofs.lemmas.Fmt.{decimal_injective, signed_decimal_injective}
 use Rattle.nef_complex.specs.declared.complex.Vertex.{Vertex}
 use Rattle.nef_complex.specs.declared.complex.Complex.{Complex}
 use Rattle.law_text.proofs.Lines.{ArePlain, Starts, Lacks, same-head, line-starts, line-ends, starts-onto, starts-lacks}
 use Rattle.law_text.proofs.Words.{decimal-plain, numbers-plain, signed-plain, label-plain, option-plain, label-one, option-one}
-use Rattle.law_text.proofs.Lists.{Reads, ReadsAll, Any, all-lack, all-read, four_parts}
+use Rattle.law_text.proofs.Lists.{IsReadBack, ReadsAll, AnyRest, all-lack, all-read, four_parts}
 
 -- the n-th word of a line
 abbrev nth : ℕ → List Word → Word
@@ -29,7 +29,7 @@ dir-read d e a b c =
     ∙ ap (λ r. vector e.x e.y r) (number-read direction_limit d.z e.z l d.z_small e.z_small c))
 
 point-one : (p q : Point) → p.x ≡ q.x → p.y ≡ q.y → p.z ≡ q.z → p.w ≡ q.w → p ≡ q
-point-one p q a b c d = same_places_equal p q (record { along_x = rw (a, d) refl; along_y = rw (b, d) refl; along_z = rw (c, d) refl })
+point-one p q a b c d = same_points_equal p q (record { along_x = rw (a, d) refl; along_y = rw (b, d) refl; along_z = rw (c, d) refl })
 
 point-read : (p q : Point) → signed_decimal p.x ≡ signed_decimal q.x → signed_decimal p.y ≡ signed_decimal q.y
     → signed_decimal p.z ≡ signed_decimal q.z → signed_decimal p.w ≡ signed_decimal q.w → p ≡ q
@@ -49,14 +49,14 @@ svertex-plain v = ((omega arith, tt), (signed-plain v.dir.x, (signed-plain v.dir
 svertex-starts : (v : SVertex) → Starts 115 (svertex_line v)
 svertex-starts v = line-starts 115 [] (svertex_words v)
 
-svertex-reads : Reads SVertex SVertex Any (λ (v : SVertex). v) svertex_line
+svertex-reads : IsReadBack SVertex SVertex AnyRest (λ (v : SVertex). v) svertex_line
 svertex-reads v u x y P Q e =
     let r = line-ends (115 ∷ []) (svertex_words v) (115 ∷ []) (svertex_words u) x y (svertex-plain v) (svertex-plain u) e in
     let d = dir-read v.dir u.dir (ap (nth 1) r.0) (ap (nth 2) r.0) (ap (nth 3) r.0) in
     (svertex-equal v u d (label-one v.mark u.mark (ap (nth 4) r.0)) (option-one v.around u.around (ap (nth 5) r.0)), r.1)
 
-svertex-lists : ReadsAll SVertex SVertex Any (λ (v : SVertex). v) svertex_line 115
-svertex-lists = all-read SVertex SVertex Any (λ (v : SVertex). v) svertex_line 115 svertex-starts svertex-reads (λ _ _. tt)
+svertex-lists : ReadsAll SVertex SVertex AnyRest (λ (v : SVertex). v) svertex_line 115
+svertex-lists = all-read SVertex SVertex AnyRest (λ (v : SVertex). v) svertex_line 115 svertex-starts svertex-reads (λ _ _. tt)
 
 -- ---- arcs
 abbrev arc_words : SArc → List Word
@@ -72,7 +72,7 @@ arc-plain a =
 arc-starts : (a : SArc) → Starts 97 (arc_line a)
 arc-starts a = line-starts 97 [] (arc_words a)
 
-arc-reads : Reads SArc SArc Any (λ (a : SArc). a) arc_line
+arc-reads : IsReadBack SArc SArc AnyRest (λ (a : SArc). a) arc_line
 arc-reads a b x y P Q e =
     let r = line-ends (97 ∷ []) (arc_words a) (97 ∷ []) (arc_words b) x y (arc-plain a) (arc-plain b) e in
     let s = decimal_injective a.source b.source a.source_small b.source_small (ap (nth 1) r.0) in
@@ -80,8 +80,8 @@ arc-reads a b x y P Q e =
     let n = dir-read a.normal b.normal (ap (nth 3) r.0) (ap (nth 4) r.0) (ap (nth 5) r.0) in
     (arc-equal a b s t n (label-one a.mark b.mark (ap (nth 6) r.0)) (label-one a.pos b.pos (ap (nth 7) r.0)) (label-one a.neg b.neg (ap (nth 8) r.0)), r.1)
 
-arc-lists : ReadsAll SArc SArc Any (λ (a : SArc). a) arc_line 97
-arc-lists = all-read SArc SArc Any (λ (a : SArc). a) arc_line 97 arc-starts arc-reads (λ _ _. tt)
+arc-lists : ReadsAll SArc SArc AnyRest (λ (a : SArc). a) arc_line 97
+arc-lists = all-read SArc SArc AnyRest (λ (a : SArc). a) arc_line 97 arc-starts arc-reads (λ _ _. tt)
 
 -- ---- sloops
 abbrev sloop_words : SLoop → List Word
@@ -96,14 +96,14 @@ sloop-plain l = (
 sloop-starts : (l : SLoop) → Starts 108 (sloop_line l)
 sloop-starts l = line-starts 108 [] (sloop_words l)
 
-sloop-reads : Reads SLoop SLoop Any (λ (l : SLoop). l) sloop_line
+sloop-reads : IsReadBack SLoop SLoop AnyRest (λ (l : SLoop). l) sloop_line
 sloop-reads l k x y P Q e =
     let r = line-ends (108 ∷ []) (sloop_words l) (108 ∷ []) (sloop_words k) x y (sloop-plain l) (sloop-plain k) e in
     let n = dir-read l.normal k.normal (ap (nth 1) r.0) (ap (nth 2) r.0) (ap (nth 3) r.0) in
     (sloop-equal l k n (label-one l.mark k.mark (ap (nth 4) r.0)) (label-one l.pos k.pos (ap (nth 5) r.0)) (label-one l.neg k.neg (ap (nth 6) r.0)), r.1)
 
-sloop-lists : ReadsAll SLoop SLoop Any (λ (l : SLoop). l) sloop_line 108
-sloop-lists = all-read SLoop SLoop Any (λ (l : SLoop). l) sloop_line 108 sloop-starts sloop-reads (λ _ _. tt)
+sloop-lists : ReadsAll SLoop SLoop AnyRest (λ (l : SLoop). l) sloop_line 108
+sloop-lists = all-read SLoop SLoop AnyRest (λ (l : SLoop). l) sloop_line 108 sloop-starts sloop-reads (λ _ _. tt)
 
 -- an optional thing is told by its list
 option-listed : {A : Type 0} (o p : Option A) → option_to_list o ≡ option_to_list p → o ≡ p
@@ -173,7 +173,7 @@ pieces : (v : Vertex) (x : List ℕ) → vertex_text v ++ x ≡ vertex_line v ++
 pieces v x =
     let m = v.map in four_parts (vertex_line v) (flat_map svertex_line m.svertices) (flat_map arc_line m.arcs) (flat_map sloop_line (option_to_list m.sloop)) x
 
-vertex-reads : Reads Vertex Vertex FollowsVertex (λ (v : Vertex). v) vertex_text
+vertex-reads : IsReadBack Vertex Vertex FollowsVertex (λ (v : Vertex). v) vertex_text
 vertex-reads v u x y P Q e =
     let h = line-read v u _ _ (sym (pieces v x) ∙ e ∙ pieces u y) in
     let s = svertices-read v u x y P Q h.3 in
@@ -214,14 +214,14 @@ Faced = Vertex × List ℕ
 faced-starts : (v : Faced) → Starts 118 (faced_text v)
 faced-starts v = starts-onto 118 (vertex_text v.0) (sface_line v.1) (vertex-starts v.0)
 
-faced-reads : Reads Faced Vertex Any (λ (v : Faced). v.0) faced_text
+faced-reads : IsReadBack Faced Vertex AnyRest (λ (v : Faced). v.0) faced_text
 faced-reads v u x y P Q e =
     let f = sym (append_assoc (vertex_text v.0) (sface_line v.1) x) ∙ e ∙ append_assoc (vertex_text u.0) (sface_line u.1) y in
     let r = vertex-reads v.0 u.0 (sface_line v.1 ++ x) (sface_line u.1 ++ y) (face-follows v.1 x) (face-follows u.1 y) f in
     (r.0, (line-ends (103 ∷ []) (numbers v.1) (103 ∷ []) (numbers u.1) x y (face-plain v.1) (face-plain u.1) r.1).1)
 
-faced-lists : ReadsAll Faced Vertex Any (λ (v : Faced). v.0) faced_text 118
-faced-lists = all-read Faced Vertex Any (λ (v : Faced). v.0) faced_text 118 faced-starts faced-reads (λ _ _. tt)
+faced-lists : ReadsAll Faced Vertex AnyRest (λ (v : Faced). v.0) faced_text 118
+faced-lists = all-read Faced Vertex AnyRest (λ (v : Faced). v.0) faced_text 118 faced-starts faced-reads (λ _ _. tt)
 
 pub with-rows_firsts : {X Y : Type 0} (xs : List X) (rows : List (List Y)) → map (λ (x : X × List Y). x.0) (with_rows xs rows) ≡ xs
 with-rows_firsts [] rows = refl

@@ -5,9 +5,9 @@ use Rattle.nef_index.specs.declared.skeleton.Edge.{Edge}
 use Rattle.nef_complex.specs.declared.complex.Vertex.{Vertex}
 use Rattle.nef_complex.specs.declared.complex.Complex.{Complex}
 use Rattle.nef_complex.specs.declared.parts.Side.{Side}
-use Rattle.law_text.proofs.Lines.{Each-append, IsPlain, ArePlain, Starts, Lacks, line-starts, line-ends, starts-onto, starts-lacks}
+use Rattle.law_text.proofs.Lines.{Each-append, IsPlainWord, ArePlain, Starts, Lacks, line-starts, line-ends, starts-onto, starts-lacks}
 use Rattle.law_text.proofs.Words.{decimal-plain, numbers-plain, signed-plain, label-plain}
-use Rattle.law_text.proofs.Lists.{Reads, ReadsAll, Any, all-lack, all-read, same-length, four_parts}
+use Rattle.law_text.proofs.Lists.{IsReadBack, ReadsAll, AnyRest, all-lack, all-read, same-length, four_parts}
 use Rattle.law_text.proofs.Vertices.{FollowsVertex, with-rows_firsts, vertices-listed}
 
 -- ---- edges
@@ -22,18 +22,18 @@ edge-plain e =
 edge-starts : (e : Edge) → Starts 101 (edge_line e)
 edge-starts e = line-starts 101 [] (edge_words e)
 
-edge-reads : Reads Edge (Unit {0}) Any (λ _. tt) edge_line
+edge-reads : IsReadBack Edge (Unit {0}) AnyRest (λ _. tt) edge_line
 edge-reads a b x y P Q e = (refl, (line-ends (101 ∷ []) (edge_words a) (101 ∷ []) (edge_words b) x y (edge-plain a) (edge-plain b) e).1)
 
 -- ---- facets
 corners-plain : (ks : List Corner) → ArePlain (flat_map corner_words ks)
 corners-plain [] = tt
-corners-plain (k ∷ ks) = Each-append IsPlain (corner_words k) (flat_map corner_words ks) (numbers-plain (k.vertex ∷ k.item ∷ [])) (corners-plain ks)
+corners-plain (k ∷ ks) = Each-append IsPlainWord (corner_words k) (flat_map corner_words ks) (numbers-plain (k.vertex ∷ k.item ∷ [])) (corners-plain ks)
 
 cycle-starts : (o : Cycle) → Starts 99 (cycle_line o)
 cycle-starts o = line-starts 99 [] (flat_map corner_words o.corners)
 
-cycle-reads : Reads Cycle (Unit {0}) Any (λ _. tt) cycle_line
+cycle-reads : IsReadBack Cycle (Unit {0}) AnyRest (λ _. tt) cycle_line
 cycle-reads a b x y P Q e =
     let p : ArePlain ((99 ∷ []) ∷ flat_map corner_words a.corners) = ((omega arith, tt), corners-plain a.corners) in
     let q : ArePlain ((99 ∷ []) ∷ flat_map corner_words b.corners) = ((omega arith, tt), corners-plain b.corners) in
@@ -55,13 +55,13 @@ facet-starts f = starts-onto 102 (facet_line f) (flat_map cycle_line f.cycles) (
 before-facet : (f : Facet) (x : List ℕ) → Lacks 99 (facet_text f ++ x)
 before-facet f x = starts-lacks 102 99 (facet_text f) x (facet-starts f) (λ e. omega arith)
 
-facet-reads : Reads Facet (Unit {0}) (Lacks 99) (λ _. tt) facet_text
+facet-reads : IsReadBack Facet (Unit {0}) (Lacks 99) (λ _. tt) facet_text
 facet-reads f g x y P Q e =
     let a = flat_map cycle_line f.cycles in
     let b = flat_map cycle_line g.cycles in
     let h = sym (append_assoc (facet_line f) a x) ∙ e ∙ append_assoc (facet_line g) b y in
     let r = line-ends (102 ∷ []) (facet_words f) (102 ∷ []) (facet_words g) (a ++ x) (b ++ y) (facet-plain f) (facet-plain g) h in
-    (refl, (all-read Cycle (Unit {0}) Any (λ _. tt) cycle_line 99 cycle-starts cycle-reads (λ _ _. tt) f.cycles g.cycles x y tt tt P Q r.1).1)
+    (refl, (all-read Cycle (Unit {0}) AnyRest (λ _. tt) cycle_line 99 cycle-starts cycle-reads (λ _ _. tt) f.cycles g.cycles x y tt tt P Q r.1).1)
 
 facet-lists : ReadsAll Facet (Unit {0}) (Lacks 99) (λ _. tt) facet_text 102
 facet-lists = all-read Facet (Unit {0}) (Lacks 99) (λ _. tt) facet_text 102 facet-starts facet-reads before-facet
@@ -73,18 +73,18 @@ volume-plain l = ((omega arith, tt), (label-plain l, tt))
 volume-starts : (l : Label) → Starts 119 (volume_line l)
 volume-starts l = line-starts 119 [] (label_word l ∷ [])
 
-volume-reads : Reads Label (Unit {0}) Any (λ _. tt) volume_line
+volume-reads : IsReadBack Label (Unit {0}) AnyRest (λ _. tt) volume_line
 volume-reads l k x y P Q e = (refl, (line-ends (119 ∷ []) (label_word l ∷ []) (119 ∷ []) (label_word k ∷ []) x y (volume-plain l) (volume-plain k) e).1)
 
 -- ---- volumes with their shells
 sides-plain : (ss : List Side) → ArePlain (flat_map side_words ss)
 sides-plain [] = tt
-sides-plain (s ∷ ss) = Each-append IsPlain (side_words s) (flat_map side_words ss) (numbers-plain (s.vertex ∷ s.side ∷ [])) (sides-plain ss)
+sides-plain (s ∷ ss) = Each-append IsPlainWord (side_words s) (flat_map side_words ss) (numbers-plain (s.vertex ∷ s.side ∷ [])) (sides-plain ss)
 
 shell-starts : (h : Shell) → Starts 104 (shell_line h)
 shell-starts h = line-starts 104 [] (flat_map side_words h.sides)
 
-shell-reads : Reads Shell (Unit {0}) Any (λ _. tt) shell_line
+shell-reads : IsReadBack Shell (Unit {0}) AnyRest (λ _. tt) shell_line
 shell-reads a b x y P Q e =
     let p : ArePlain ((104 ∷ []) ∷ flat_map side_words a.sides) = ((omega arith, tt), sides-plain a.sides) in
     let q : ArePlain ((104 ∷ []) ∷ flat_map side_words b.sides) = ((omega arith, tt), sides-plain b.sides) in
@@ -99,13 +99,13 @@ shelled-starts w = starts-onto 119 (volume_line w.0) (flat_map shell_line w.1) (
 before-shelled : (w : Shelled) (x : List ℕ) → Lacks 104 (shelled_text w ++ x)
 before-shelled w x = starts-lacks 119 104 (shelled_text w) x (shelled-starts w) (λ e. omega arith)
 
-shelled-reads : Reads Shelled (Unit {0}) (Lacks 104) (λ _. tt) shelled_text
+shelled-reads : IsReadBack Shelled (Unit {0}) (Lacks 104) (λ _. tt) shelled_text
 shelled-reads v w x y P Q e =
     let a = flat_map shell_line v.1 in
     let b = flat_map shell_line w.1 in
     let h = sym (append_assoc (volume_line v.0) a x) ∙ e ∙ append_assoc (volume_line w.0) b y in
     let r = line-ends (119 ∷ []) (label_word v.0 ∷ []) (119 ∷ []) (label_word w.0 ∷ []) (a ++ x) (b ++ y) (volume-plain v.0) (volume-plain w.0) h in
-    (refl, (all-read Shell (Unit {0}) Any (λ _. tt) shell_line 104 shell-starts shell-reads (λ _ _. tt) v.1 w.1 x y tt tt P Q r.1).1)
+    (refl, (all-read Shell (Unit {0}) AnyRest (λ _. tt) shell_line 104 shell-starts shell-reads (λ _ _. tt) v.1 w.1 x y tt tt P Q r.1).1)
 
 shelled-lists : ReadsAll Shelled (Unit {0}) (Lacks 104) (λ _. tt) shelled_text 119
 shelled-lists = all-read Shelled (Unit {0}) (Lacks 104) (λ _. tt) shelled_text 119 shelled-starts shelled-reads before-shelled
@@ -143,7 +143,7 @@ module _ (version : TextVersion) where
 
 volumes-read : (version : TextVersion) (p q : Parts) → volumes_end version p ≡ volumes_end version q → length p.volumes ≡ length q.volumes
 volumes-read One p q e =
-    let r = all-read Label (Unit {0}) Any (λ _. tt) volume_line 119 volume-starts volume-reads (λ _ _. tt) p.volumes q.volumes [] [] tt tt tt tt e in
+    let r = all-read Label (Unit {0}) AnyRest (λ _. tt) volume_line 119 volume-starts volume-reads (λ _ _. tt) p.volumes q.volumes [] [] tt tt tt tt e in
     same-length (λ (l : Label). tt) p.volumes q.volumes r.0
 volumes-read Two p q e =
     let v = with_rows p.volumes p.shells in
@@ -161,7 +161,7 @@ module _ (version : TextVersion) where
 
   edges-read : (c d : Complex) (p q : Parts) → edges_end version c p ≡ edges_end version d q → (length c.edges ≡ length d.edges) × (facets_end version p ≡ facets_end version q)
   edges-read c d p q e =
-      let r = all-read Edge (Unit {0}) Any (λ _. tt) edge_line 101 edge-starts edge-reads (λ _ _. tt) c.edges d.edges (facets_end version p) (facets_end version q) tt tt
+      let r = all-read Edge (Unit {0}) AnyRest (λ _. tt) edge_line 101 edge-starts edge-reads (λ _ _. tt) c.edges d.edges (facets_end version p) (facets_end version q) tt tt
       (facets-lack version 101 (λ e. omega arith) (λ e. omega arith) p) (facets-lack version 101 (λ e. omega arith) (λ e. omega arith) q) e in
       (same-length (λ (e : Edge). tt) c.edges d.edges r.0, r.1)
 
@@ -169,7 +169,7 @@ module _ (version : TextVersion) where
 abbrev name_word : Word
 name_word = 110 ∷ 101 ∷ 102 ∷ 51 ∷ []
 
-version-plain : (version : TextVersion) → IsPlain (version_word version)
+version-plain : (version : TextVersion) → IsPlainWord (version_word version)
 version-plain One = (omega arith, tt)
 version-plain Two = (omega arith, tt)
 

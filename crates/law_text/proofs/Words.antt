@@ -1,7 +1,7 @@
 -- The words of a text: plain, and each told by what it spells.
-use Rattle.law_text.proofs.Prelude.{◌≡◌, ℕ, ℤ, pos, negsuc, zero, suc, ◌+◌, ◌<◌, ◌/◌, ◌%◌, nat_lt, nat_eq, arith, refl, ap, sym, ◌∙◌, Bool, true, false, cond, List, [], ◌∷◌, get_or, Option, Some, None, subst, digits_onto, digit_glyph, decimal, signed_decimal, Label, Out, Not, In, Word, label_word, option_word, numbers, signed}
+use Rattle.law_text.proofs.Prelude.{◌≡◌, ℕ, ℤ, pos, negsuc, zero, suc, ◌+◌, ◌<◌, ◌/◌, ◌%◌, nat_lt, nat_eq, arith, refl, ap, sym, ◌∙◌, Bool, true, false, cond, List, [], ◌∷◌, get_or, Option, Some, None, subst, digits_onto, digit_glyph, decimal, signed_decimal, Label, Out, Not, In, Word, label_word, option_word, numbers, signed_numbers}
 use Rattle.std.specs.Fmt.{digits}
-use Rattle.law_text.proofs.Lines.{IsPlain, ArePlain}
+use Rattle.law_text.proofs.Lines.{IsPlainWord, ArePlain}
 
 -- ---- numbers, of any size
 glyph-plain : (d : ℕ) → 32 < digit_glyph false d
@@ -11,25 +11,25 @@ glyph-plain d = by (nat_lt d 10)
     by true = omega arith
     by false = omega arith
 
-either-plain : (t : Bool) (u v : Word) → IsPlain u → IsPlain v → IsPlain (cond t u v)
+either-plain : (t : Bool) (u v : Word) → IsPlainWord u → IsPlainWord v → IsPlainWord (cond t u v)
 either-plain true u v h k = h
 either-plain false u v h k = k
 
-digits-plain : (k n : ℕ) (acc : Word) → IsPlain acc → IsPlain (digits_onto k 10 false n acc)
+digits-plain : (k n : ℕ) (acc : Word) → IsPlainWord acc → IsPlainWord (digits_onto k 10 false n acc)
 digits-plain zero n acc h = h
 digits-plain (suc k) n acc h =
     let more = digit_glyph false (n % 10) ∷ acc in
-    let p : IsPlain more = (glyph-plain (n % 10), h) in
+    let p : IsPlainWord more = (glyph-plain (n % 10), h) in
     either-plain (nat_eq (n / 10) 0) more (digits_onto k 10 false (n / 10) more) p (digits-plain k (n / 10) more p)
 
 spelled : (n : ℕ) → digits_onto 64 10 false n [] ≡ digits 10 false n
 unfolding digits
 spelled n = refl
 
-pub decimal-plain : (n : ℕ) → IsPlain (decimal n)
-decimal-plain n = subst IsPlain (spelled n) (digits-plain 64 n [] tt)
+pub decimal-plain : (n : ℕ) → IsPlainWord (decimal n)
+decimal-plain n = subst IsPlainWord (spelled n) (digits-plain 64 n [] tt)
 
-pub signed-plain : (z : ℤ) → IsPlain (signed_decimal z)
+pub signed-plain : (z : ℤ) → IsPlainWord (signed_decimal z)
 signed-plain (pos n) = decimal-plain n
 signed-plain (negsuc n) = (omega arith, decimal-plain (suc n))
 
@@ -37,17 +37,17 @@ pub numbers-plain : (ns : List ℕ) → ArePlain (numbers ns)
 numbers-plain [] = tt
 numbers-plain (n ∷ ns) = (decimal-plain n, numbers-plain ns)
 
-pub all-signed-plain : (zs : List ℤ) → ArePlain (signed zs)
+pub all-signed-plain : (zs : List ℤ) → ArePlain (signed_numbers zs)
 all-signed-plain [] = tt
 all-signed-plain (z ∷ zs) = (signed-plain z, all-signed-plain zs)
 
 -- ---- labels
-pub label-plain : (l : Label) → IsPlain (label_word l)
+pub label-plain : (l : Label) → IsPlainWord (label_word l)
 label-plain In = (omega arith, tt)
 label-plain Not = (omega arith, tt)
 label-plain Out = (omega arith, tt)
 
-pub option-plain : (o : Option Label) → IsPlain (option_word o)
+pub option-plain : (o : Option Label) → IsPlainWord (option_word o)
 option-plain None = (omega arith, tt)
 option-plain (Some l) = label-plain l
 

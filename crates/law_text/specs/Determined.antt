@@ -1,6 +1,6 @@
 -- The parts and the text of a complex, which its vertices and edges determine, and so the set does.
 use Rattle.std.specs.Prelude.{◌≡◌, ◌↔◌}
-use Rattle.nef_complex.specs.Prelude.{ℕ, List, SameSet, Place, InFrame, complex_of, IsParts}
+use Rattle.nef_complex.specs.Prelude.{ℕ, List, SameSet, SpacePoint, InFrame, complex_of, IsParts}
 use Rattle.nef_case.specs.Turns.{Undoes}
 use Rattle.nef_space.specs.Sets.{Set, Holds}
 use Rattle.law_complex.specs.Prelude.{Belongs, Shows}
@@ -28,4 +28,4 @@ SameTextSameSet = (version : TextVersion) (s t : Set) (c d : Complex) (p q : Par
 
 -- a point of the frame belongs to the complex that a set's text spells exactly where the set holds
 abbrev pub SpelledHolds : Type 0
-SpelledHolds = (version : TextVersion) (s : Set) (c d : Complex) (p : Parts) (bytes : List ℕ) (y : Place) → Shows s (complex_of c) → bytes ≡ text version c p → Spells version bytes d → InFrame y → Belongs (complex_of d) y ↔ Holds s y
+SpelledHolds = (version : TextVersion) (s : Set) (c d : Complex) (p : Parts) (bytes : List ℕ) (y : SpacePoint) → Shows s (complex_of c) → bytes ≡ text version c p → Spells version bytes d → InFrame y → Belongs (complex_of d) y ↔ Holds s y

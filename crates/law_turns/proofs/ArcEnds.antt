@@ -1,8 +1,8 @@
 -- Two arcs with one normal that begin at one svertex, or end at one, are one arc.
-use Rattle.law_turns.proofs.Prelude.{◌≡◌, ℕ, pos, neg_ℤ, true, ap, sym, ◌∙◌, subst, Vector, dot, IsDirection, SameDirection, opposite, IsStrictlyOn, way_back_passes_the_same, At, Arc, arc_item, Map, items, dir_of, Shaped, item-point, Ends, ends-of, at-arc, normal-is, ends-together}
+use Rattle.law_turns.proofs.Prelude.{◌≡◌, ℕ, pos, neg_ℤ, true, ap, sym, ◌∙◌, subst, Vector, dot, IsDirection, SameDirection, opposite, IsStrictlyOn, way_back_passes_the_same, IsAt, Arc, arc_item, Map, items, dir_of, Shaped, item-point, Ends, ends-of, at-arc, normal-is, ends-together}
 use Rattle.law_turns.proofs.Turning.{signed-dot, zero-signed}
 
-module _ (M : Map) (V : Shaped M) (i j : ℕ) (a b : Arc) (at-a : At M.arcs i a) (at-b : At M.arcs j b) (normal : a.normal ≡ b.normal) where
+module _ (M : Map) (V : Shaped M) (i j : ℕ) (a b : Arc) (at-a : IsAt M.arcs i a) (at-b : IsAt M.arcs j b) (normal : a.normal ≡ b.normal) where
   abbrev n : Vector
   n = a.normal
 
@@ -24,10 +24,10 @@ module _ (M : Map) (V : Shaped M) (i j : ℕ) (a b : Arc) (at-a : At M.arcs i a)
   abbrev v : Vector
   v = dir_of M.svertices b.target
 
-  item-a : At (items M) i (arc_item a)
+  item-a : IsAt (items M) i (arc_item a)
   item-a = at-arc M.arcs M.sloop i a at-a
 
-  item-b : At (items M) j (arc_item b)
+  item-b : IsAt (items M) j (arc_item b)
   item-b = at-arc M.arcs M.sloop j b at-b
 
   n-is : IsDirection n

@@ -1,6 +1,6 @@
 -- What holds of each coordinate with its sign holds of turned vectors.
 use Rattle.law_turns.proofs.Prelude.{◌≡◌, ℕ, zero, suc, ◌/◌, ◌%◌, ℤ, ◌+ℤ◌, ◌-ℤ◌, ◌*ℤ◌, neg_ℤ, Bool, true, false, refl, ap, sym, ◌∙◌, subst, arith, [], ◌∷◌, ints, ring, at, neg, ◌⊖◌, ◌⊗◌, vector, Triple, ordered, has_bit, negated_if, turned, differ, is_exchange, is_odd, disordered, unturned}
-use Rattle.nef_case.proofs.TurnLemmas.{same_triple, triple}
+use Rattle.nef_case.proofs.TurnLemmas.{same_triple, triple_with}
 use lib.IntN.{neg_ℤ-neg_ℤ}
 use Rattle.law_turns.proofs.Bools.{each-three}
 
@@ -31,7 +31,7 @@ zip-ordered f (suc (suc (suc (suc (suc n))))) v w = refl
 pub zip-turned : (f : ℤ → ℤ → ℤ) → IsOddFunction f → (k : ℕ) (v w : Triple) → zipped f (turned k v) (turned k w) ≡ turned k (zipped f v w)
 zip-turned f odd k v w =
     same_triple _ _ _ _ _ _ (zip-sign f odd (has_bit 1 (k % 8)) _ _) (zip-sign f odd (has_bit 2 (k % 8)) _ _) (zip-sign f odd (has_bit 4 (k % 8)) _ _)
-    ∙ ap (λ (t : Triple). triple (negated_if (has_bit 1 (k % 8)) t.0) (negated_if (has_bit 2 (k % 8)) t.1) (negated_if (has_bit 4 (k % 8)) t.2)) (zip-ordered f (k / 8) v w)
+    ∙ ap (λ (t : Triple). triple_with (negated_if (has_bit 1 (k % 8)) t.0) (negated_if (has_bit 2 (k % 8)) t.1) (negated_if (has_bit 4 (k % 8)) t.2)) (zip-ordered f (k / 8) v w)
 
 -- ---- what is said of each coordinate
 abbrev pub Each : (ℤ → ℤ → Type 0) → Triple → Triple → Type 0

@@ -1,5 +1,5 @@
 -- Each ordered map that is well shaped has a turned image whose lists are in order.
-use Rattle.law_turns.proofs.Prelude.{◌≡◌, ℕ, zero, Bool, true, false, cond, refl, ap, sym, ◌∙◌, subst, inl, inr, ⊎_elim, List, map, Option, Some, None, cases_order, Lies, Vector, SameDirection, IsNormal, Form, normal_of, negated_if, IsPrimitive, VectorBelow, At, MapVertex, Arc, MapSloop, Item, arc_item, sloop_item, Map, items, item_normal, Shaped, InOrder, ArcBelow, Ordered, at-one, lies-at, at-lies, arc-at, sloop-at, at-sloop, at-arc, normal-is, below-itself, at-map, map-at, Mapped, map-list, Sorted, sort, chain-order, signed_form, turned_plane, turned_vector, unturned_vector, differ, is_odd, signed, turned_svertex, IsTurnedArc, IsTurnedOption, HasTurnedLists, dir-self}
+use Rattle.law_turns.proofs.Prelude.{◌≡◌, ℕ, zero, Bool, true, false, cond, refl, ap, sym, ◌∙◌, subst, inl, inr, ⊎_elim, List, map, Option, Some, None, cases_order, Lies, Vector, SameDirection, IsNormal, Form, normal_of, negated_if, IsPrimitive, VectorBelow, IsAt, MapVertex, Arc, MapSloop, Item, arc_item, sloop_item, Map, items, item_normal, Shaped, InOrder, ArcBelow, Ordered, at-one, lies-at, at-lies, arc-at, sloop-at, at-sloop, at-arc, normal-is, below-itself, at-map, map-at, Mapped, map-list, Sorted, sort, chain-order, signed_form, turned_plane, turned_vector, unturned_vector, differ, is_odd, signed, turned_svertex, IsTurnedArc, IsTurnedOption, HasTurnedLists, dir-self}
 use Rattle.law_cones.proofs.Lowest.{below-trans, below-either}
 use Rattle.law_cones.proofs.Rays.{arc-either, arc-trans, SameArc}
 use Rattle.law_turns.proofs.Carriers.{same-form}
@@ -16,7 +16,7 @@ WayBelow u v = VectorBelow u.dir v.dir
 abbrev SameWay : MapVertex → MapVertex → Type 0
 SameWay u v = u.dir ≡ v.dir
 
-one-svertex : (vs : List MapVertex) → InOrder WayBelow vs → (i j : ℕ) (u v : MapVertex) → At vs i u → At vs j v → u.dir ≡ v.dir → i ≡ j
+one-svertex : (vs : List MapVertex) → InOrder WayBelow vs → (i j : ℕ) (u v : MapVertex) → IsAt vs i u → IsAt vs j v → u.dir ≡ v.dir → i ≡ j
 one-svertex vs o i j u v a b e = elim (cases_order i j) [
   | inl same ↦ same
   | inr apart ↦ ⊎_elim (λ l. absurd (below-itself v.dir (subst (λ (r : Vector). VectorBelow r v.dir) e (o i j u v l a b))))
@@ -51,16 +51,16 @@ module _ (k : ℕ) where
 abbrev pub IsArcImage : ℕ → (ℕ → ℕ) → Arc → Arc → Type 0
 IsArcImage k vertex a b = (flip : Bool) × IsTurnedArc k vertex flip a b × IsNormal b.normal × IsPrimitive b.normal
 
-pub image-number : (k : ℕ) (M : Map) → Shaped M → (i j : ℕ) (v w : MapVertex) → At M.svertices i v → At M.svertices j w → turned_vector k v.dir ≡ turned_vector k w.dir → i ≡ j
+pub image-number : (k : ℕ) (M : Map) → Shaped M → (i j : ℕ) (v w : MapVertex) → IsAt M.svertices i v → IsAt M.svertices j w → turned_vector k v.dir ≡ turned_vector k w.dir → i ≡ j
 image-number k M V i j v w a b e = V.svertices_apart i j v w a b (subst (λ (r : Vector). SameDirection v.dir r) (turned-one k v.dir w.dir e) (dir-self v.dir (V.svertex_dirs i v a)))
 
-module _ (k : ℕ) (M : Map) (V : Shaped M) (us : List MapVertex) (vertex : ℕ → ℕ) (has : (i : ℕ) (v : MapVertex) → At M.svertices i v → At us (vertex i) (turned_svertex k v)) where
-  number-one : (i j : ℕ) (v w : MapVertex) → At M.svertices i v → At M.svertices j w → vertex i ≡ vertex j → i ≡ j
+module _ (k : ℕ) (M : Map) (V : Shaped M) (us : List MapVertex) (vertex : ℕ → ℕ) (has : (i : ℕ) (v : MapVertex) → IsAt M.svertices i v → IsAt us (vertex i) (turned_svertex k v)) where
+  number-one : (i j : ℕ) (v w : MapVertex) → IsAt M.svertices i v → IsAt M.svertices j w → vertex i ≡ vertex j → i ≡ j
   number-one i j v w a b e =
-      image-number k M V i j v w a b (ap (λ (r : MapVertex). r.dir) (at-one us (vertex j) (turned_svertex k v) (turned_svertex k w) (subst (λ (n : ℕ). At us n (turned_svertex k v)) e (has i v a)) (has j w b)))
+      image-number k M V i j v w a b (ap (λ (r : MapVertex). r.dir) (at-one us (vertex j) (turned_svertex k v) (turned_svertex k w) (subst (λ (n : ℕ). IsAt us n (turned_svertex k v)) e (has i v a)) (has j w b)))
 
   -- images that are one in the order of arcs are of one arc
-  pub one-arc : (i j : ℕ) (a c x y : Arc) → At M.arcs i a → At M.arcs j c → IsArcImage k vertex a x → IsArcImage k vertex c y → SameArc x y → i ≡ j
+  pub one-arc : (i j : ℕ) (a c x y : Arc) → IsAt M.arcs i a → IsAt M.arcs j c → IsArcImage k vertex a x → IsArcImage k vertex c y → SameArc x y → i ≡ j
   one-arc i j a c x y at-a at-c (p, s, _, _) (q, t, _, _) (e, d) =
       let (pq, n) = one-origin k p q a.normal c.normal (V.normals i (arc_item a) (at-arc M.arcs M.sloop i a at-a)) (V.normals j (arc_item c) (at-arc M.arcs M.sloop j c at-c)) (sym s.normal ∙ e ∙ t.normal) in
       let t' = subst (λ (r : Bool). IsTurnedArc k vertex r c y) (sym pq) t in
@@ -82,28 +82,28 @@ module _ (k : ℕ) (M : Map) (V : Shaped M) (O : Ordered M) where
   S-order : InOrder WayBelow S.list
   S-order = chain-order WayBelow SameWay S.list S.chain
 
-  origin : (u : MapVertex) → Lies S.list u → (i : ℕ) × (v : MapVertex) × At M.svertices i v × (u ≡ turned_svertex k v)
+  origin : (u : MapVertex) → Lies S.list u → (i : ℕ) × (v : MapVertex) × IsAt M.svertices i v × (u ≡ turned_svertex k v)
   origin u l =
       let (i, a) = lies-at images u (S.sound u l) in
       let (v, b, e) = at-map (turned_svertex k) M.svertices i u a in
       (i, v, b, sym e)
 
-  placed : (i : ℕ) (v : MapVertex) → At M.svertices i v → (j : ℕ) × At S.list j (turned_svertex k v)
+  placed : (i : ℕ) (v : MapVertex) → IsAt M.svertices i v → (j : ℕ) × IsAt S.list j (turned_svertex k v)
   placed i v a =
       let (y, l, e) = S.all (turned_svertex k v) (at-lies images i (turned_svertex k v) (map-at (turned_svertex k) M.svertices i v a)) in
       let (m, w, b, h) = origin y l in
       let same = image-number k M V i m v w a b (e ∙ ap (λ (r : MapVertex). r.dir) h) in
-      let one = at-one M.svertices m v w (subst (λ (n : ℕ). At M.svertices n v) same a) b in
+      let one = at-one M.svertices m v w (subst (λ (n : ℕ). IsAt M.svertices n v) same a) b in
       let (j, c) = lies-at S.list y l in
-      (j, subst (λ (r : MapVertex). At S.list j r) (h ∙ ap (turned_svertex k) (sym one)) c)
+      (j, subst (λ (r : MapVertex). IsAt S.list j r) (h ∙ ap (turned_svertex k) (sym one)) c)
 
   abbrev vertex : ℕ → ℕ
   vertex = chosen M.svertices zero (λ i v a. (placed i v a).0)
 
-  vertex-has : (i : ℕ) (v : MapVertex) → At M.svertices i v → At S.list (vertex i) (turned_svertex k v)
-  vertex-has = chosen-has M.svertices zero (λ i v a. (placed i v a).0) (λ i v j. At S.list j (turned_svertex k v)) (λ i v a. (placed i v a).1)
+  vertex-has : (i : ℕ) (v : MapVertex) → IsAt M.svertices i v → IsAt S.list (vertex i) (turned_svertex k v)
+  vertex-has = chosen-has M.svertices zero (λ i v a. (placed i v a).0) (λ i v j. IsAt S.list j (turned_svertex k v)) (λ i v a. (placed i v a).1)
 
-  vertex-from : (j : ℕ) (u : MapVertex) → At S.list j u → (i : ℕ) × (v : MapVertex) × At M.svertices i v × (vertex i ≡ j)
+  vertex-from : (j : ℕ) (u : MapVertex) → IsAt S.list j u → (i : ℕ) × (v : MapVertex) × IsAt M.svertices i v × (vertex i ≡ j)
   vertex-from j u a =
       let (i, v, b, e) = origin u (at-lies S.list j u a) in
       (i, v, b, one-svertex S.list S-order (vertex i) j (turned_svertex k v) u (vertex-has i v b) a (sym (ap (λ (r : MapVertex). r.dir) e)))
@@ -112,7 +112,7 @@ module _ (k : ℕ) (M : Map) (V : Shaped M) (O : Ordered M) where
   abbrev IsImage : ℕ → Arc → Arc → Type 0
   IsImage i a b = IsArcImage k vertex a b
 
-  image-arc : (i : ℕ) (a : Arc) → At M.arcs i a → (b : Arc) × IsImage i a b
+  image-arc : (i : ℕ) (a : Arc) → IsAt M.arcs i a → (b : Arc) × IsImage i a b
   image-arc i a l =
       let item = at-arc M.arcs M.sloop i a l in
       let (flip, n) = normal-choice (f k a.normal) ((direction-turned k a.normal).1 (normal-is V i (arc_item a) item)) in
@@ -134,19 +134,19 @@ module _ (k : ℕ) (M : Map) (V : Shaped M) (O : Ordered M) where
   A : Sorted ArcBelow SameArc A1.list
   A = sort ArcBelow SameArc arc-trans (λ a. (refl, refl)) arc-either A1.list
 
-  arc-origin : (b : Arc) → Lies A.list b → (i : ℕ) × (a : Arc) × At M.arcs i a × IsImage i a b
+  arc-origin : (b : Arc) → Lies A.list b → (i : ℕ) × (a : Arc) × IsAt M.arcs i a × IsImage i a b
   arc-origin b l =
       let (i, m) = lies-at A1.list b (A.sound b l) in
       let (a, c, s) = A1.sound i b m in
       (i, a, c, s)
 
-  arcs-there : (i : ℕ) (a : Arc) → At M.arcs i a → (j : ℕ) × (b : Arc) × (flip : Bool) × At A.list j b × IsTurnedArc k vertex flip a b
+  arcs-there : (i : ℕ) (a : Arc) → IsAt M.arcs i a → (j : ℕ) × (b : Arc) × (flip : Bool) × IsAt A.list j b × IsTurnedArc k vertex flip a b
   arcs-there i a l =
       let (x, m, s) = A1.all i a l in
       let (y, n, e) = A.all x (at-lies A1.list i x m) in
       let (j, c, d, t) = arc-origin y n in
       let same = one-arc k M V S.list vertex vertex-has i j a c x y l d s t e in
-      let one = at-one M.arcs j c a d (subst (λ (n : ℕ). At M.arcs n a) same l) in
+      let one = at-one M.arcs j c a d (subst (λ (n : ℕ). IsAt M.arcs n a) same l) in
       let (h, o) = lies-at A.list y n in
       (h, y, t.0, o, subst (λ (r : Arc). IsTurnedArc k vertex t.0 r y) one t.1)
 
@@ -176,7 +176,7 @@ module _ (k : ℕ) (M : Map) (V : Shaped M) (O : Ordered M) where
   pub turned_map : Map
   turned_map = record { mark = M.mark; svertices = S.list; arcs = A.list; sloop = Q.0; ground = M.ground }
 
-  item-normals : (j : ℕ) (y : Item) → At (items turned_map) j y → IsNormal (item_normal y) × IsPrimitive (item_normal y)
+  item-normals : (j : ℕ) (y : Item) → IsAt (items turned_map) j y → IsNormal (item_normal y) × IsPrimitive (item_normal y)
   unfolding turned_map
   item-normals j (arc_item b) a = let (i, c, d, s) = arc-origin b (at-lies A.list j b (arc-at A.list Q.0 j b a)) in (s.2, s.3)
   item-normals j (sloop_item m) a = Q.1.1 m (sloop-at A.list Q.0 j m a)

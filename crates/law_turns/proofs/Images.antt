@@ -1,5 +1,5 @@
 -- A map whose items are the images of another map's sees what the images see, and has the labels there.
-use Rattle.law_turns.proofs.Prelude.{◌≡◌, ℕ, ℤ, pos, ◌<ℤ◌, neg_ℤ, Bool, true, false, cond, ap, sym, ◌∙◌, subst, arith, ints, sign, Vector, dot, cross, IsDirection, SameDirection, blend, Label, At, MapVertex, Item, Map, items, item_normal, item_pos, item_mark, item_neg, OnItem, IsFree, Side, around_svertex, pos_item, neg_item, whole, HasSide, IsClear, Reaches, Sees, directly, by_way_of, MapLabel, at_svertex, on_item, seen, NearLabel, InOneSface, here, link, by_side, NearPlain, NearStraight, signed}
+use Rattle.law_turns.proofs.Prelude.{◌≡◌, ℕ, ℤ, pos, ◌<ℤ◌, neg_ℤ, Bool, true, false, cond, ap, sym, ◌∙◌, subst, arith, ints, sign, Vector, dot, cross, IsDirection, SameDirection, blend, Label, IsAt, MapVertex, Item, Map, items, item_normal, item_pos, item_mark, item_neg, OnItem, IsFree, Side, around_svertex, pos_item, neg_item, whole, HasSide, IsClear, Reaches, Sees, directly, by_way_of, MapLabel, at_svertex, on_item, seen, NearLabel, InOneSface, here, link, by_side, NearPlain, NearStraight, signed}
 use Rattle.law_turns.proofs.Turning.{Turning, direction-there, direction_cross-there, same_direction-there, opposite-there, dot-there}
 
 -- y of N is the image of x of M
@@ -15,8 +15,8 @@ pub record Image (f : Vector → Vector) (M N : Map) : Type 0 where
   pub vertex : ℕ → ℕ
   pub item : ℕ → ℕ
   pub flip : ℕ → Bool
-  pub svertices : (i : ℕ) (v : MapVertex) → At M.svertices i v → (u : MapVertex) × At N.svertices (vertex i) u × (u.dir ≡ f v.dir) × (u.mark ≡ v.mark) × (u.around ≡ v.around)
-  pub items_there : (i : ℕ) (x : Item) → At (items M) i x → (y : Item) × At (items N) (item i) y × ItemImage f (flip i) M N x y
+  pub svertices : (i : ℕ) (v : MapVertex) → IsAt M.svertices i v → (u : MapVertex) × IsAt N.svertices (vertex i) u × (u.dir ≡ f v.dir) × (u.mark ≡ v.mark) × (u.around ≡ v.around)
+  pub items_there : (i : ℕ) (x : Item) → IsAt (items M) i x → (y : Item) × IsAt (items N) (item i) y × ItemImage f (flip i) M N x y
   pub same_ground : N.ground ≡ M.ground
 
 positive-sign : (x y : ℤ) → y ≡ neg_ℤ x → pos 0 <ℤ x → y <ℤ pos 0
@@ -33,11 +33,11 @@ module _ (f g : Vector → Vector) (odd : Bool) (F : Turning f odd) (fg : (d : V
   side_there (neg_item i) = cond (I.flip i) (pos_item (I.item i)) (neg_item (I.item i))
   side_there whole = whole
 
-  pos-has : (b : Bool) (j : ℕ) (x y : Item) (m : Label) → At (items N) j y → ItemImage f b M N x y → item_pos x ≡ m → HasSide N (cond b (neg_item j) (pos_item j)) m
+  pos-has : (b : Bool) (j : ℕ) (x y : Item) (m : Label) → IsAt (items N) j y → ItemImage f b M N x y → item_pos x ≡ m → HasSide N (cond b (neg_item j) (pos_item j)) m
   pos-has true j x y m a i e = (y, a, i.neg ∙ e)
   pos-has false j x y m a i e = (y, a, i.pos ∙ e)
 
-  neg-has : (b : Bool) (j : ℕ) (x y : Item) (m : Label) → At (items N) j y → ItemImage f b M N x y → item_neg x ≡ m → HasSide N (cond b (pos_item j) (neg_item j)) m
+  neg-has : (b : Bool) (j : ℕ) (x y : Item) (m : Label) → IsAt (items N) j y → ItemImage f b M N x y → item_neg x ≡ m → HasSide N (cond b (pos_item j) (neg_item j)) m
   neg-has true j x y m a i e = (y, a, i.pos ∙ e)
   neg-has false j x y m a i e = (y, a, i.neg ∙ e)
 
@@ -68,11 +68,11 @@ module _ (f g : Vector → Vector) (odd : Bool) (F : Turning f odd) (fg : (d : V
     between = λ i j some some'. subst (λ (r : Vector). IsFree N r) (sym (F.blends i a j b)) (free-there (blend i a j b) (h.between i j some some'));
   }
 
-  pos-reaches : (b : Bool) (j : ℕ) (x y : Item) (a d : Vector) → At (items N) j y → ItemImage f b M N x y → OnItem M x d → pos 0 <ℤ dot (item_normal x) a → Reaches N (cond b (neg_item j) (pos_item j)) (f a) (f d)
+  pos-reaches : (b : Bool) (j : ℕ) (x y : Item) (a d : Vector) → IsAt (items N) j y → ItemImage f b M N x y → OnItem M x d → pos 0 <ℤ dot (item_normal x) a → Reaches N (cond b (neg_item j) (pos_item j)) (f a) (f d)
   pos-reaches true j x y a d l i on h = (y, l, i.on d on, positive-sign (dot (item_normal x) a) (dot (item_normal y) (f a)) (ap (λ (r : Vector). dot r (f a)) i.normal ∙ dot-there f odd F true (item_normal x) a) h)
   pos-reaches false j x y a d l i on h = (y, l, i.on d on, subst (λ (r : ℤ). pos 0 <ℤ r) (sym (ap (λ (r : Vector). dot r (f a)) i.normal ∙ dot-there f odd F false (item_normal x) a)) h)
 
-  neg-reaches : (b : Bool) (j : ℕ) (x y : Item) (a d : Vector) → At (items N) j y → ItemImage f b M N x y → OnItem M x d → dot (item_normal x) a <ℤ pos 0 → Reaches N (cond b (pos_item j) (neg_item j)) (f a) (f d)
+  neg-reaches : (b : Bool) (j : ℕ) (x y : Item) (a d : Vector) → IsAt (items N) j y → ItemImage f b M N x y → OnItem M x d → dot (item_normal x) a <ℤ pos 0 → Reaches N (cond b (pos_item j) (neg_item j)) (f a) (f d)
   neg-reaches true j x y a d l i on h = (y, l, i.on d on, negative-sign (dot (item_normal x) a) (dot (item_normal y) (f a)) (ap (λ (r : Vector). dot r (f a)) i.normal ∙ dot-there f odd F true (item_normal x) a) h)
   neg-reaches false j x y a d l i on h = (y, l, i.on d on, subst (λ (r : ℤ). r <ℤ pos 0) (sym (ap (λ (r : Vector). dot r (f a)) i.normal ∙ dot-there f odd F false (item_normal x) a)) h)
 

@@ -3,7 +3,7 @@ pub mod Bools
 pub mod Coordinates
 pub mod Turning
 pub mod Vectors
-pub mod Places
+pub mod Points
 pub mod Meaning
 pub mod Images
 pub mod TurnedMaps

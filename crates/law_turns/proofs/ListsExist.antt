@@ -1,6 +1,6 @@
 -- The turned planes and vertices of each complex that shows a set can be listed in order.
-use Rattle.law_turns.proofs.Prelude.{◌≡◌, ℕ, ℤ, pos, ◌*ℤ◌, false, refl, sym, ◌∙◌, arith, ◌⊎◌, inl, inr, List, [], ◌∷◌, map, ints, Lies, by_order, IsBelow, Place, Form, form_numbers, SamePlace, IsPlaceBelow, Set, same-place_sym, At, Map, Ordered, at-map, map-at, Mapped, map-list, Sorted, sort, chain-order, Vertex, Complex, Shows, turned_plane, turned_place, AreTurnedPlanes, AreTurnedVertices, IsTurnedMap, same-place_trans, lies-at, at-lies}
-use Rattle.law_near.proofs.PlaceOrder.{place_below-trans}
+use Rattle.law_turns.proofs.Prelude.{◌≡◌, ℕ, ℤ, pos, ◌*ℤ◌, false, refl, sym, ◌∙◌, arith, ◌⊎◌, inl, inr, List, [], ◌∷◌, map, ints, Lies, by_order, IsBelow, SpacePoint, Form, form_numbers, SamePoint, IsPointBelow, Set, same-point_sym, IsAt, Map, Ordered, at-map, map-at, Mapped, map-list, Sorted, sort, chain-order, Vertex, Complex, Shows, turned_plane, turned_point, AreTurnedPlanes, AreTurnedVertices, IsTurnedMap, same-point_trans, lies-at, at-lies}
+use Rattle.law_near.proofs.PointOrder.{point_below-trans}
 use Rattle.law_complex.proofs.Ways.{same-itself}
 use Rattle.law_turns.proofs.Carriers.{same-form}
 use Rattle.law_turns.proofs.Exists.{turned_map, has-lists, turned-ordered}
@@ -29,7 +29,7 @@ form-either g h =
     (λ l. inr (inr (inr (sym a, inl l)))))
     (λ l. inr (inr (inl l)))
 
-place-either : (p q : Place) → IsPlaceBelow p q ⊎ SamePlace p q ⊎ IsPlaceBelow q p
+place-either : (p q : SpacePoint) → IsPointBelow p q ⊎ SamePoint p q ⊎ IsPointBelow q p
 place-either p q =
     by_order (p.x *ℤ pos q.w) (q.x *ℤ pos p.w) (λ l. inl (inl l)) (λ a.
     by_order (p.y *ℤ pos q.w) (q.y *ℤ pos p.w) (λ l. inl (inr (a, inl l))) (λ b.
@@ -63,30 +63,30 @@ module _ (k : ℕ) (gs : List Form) where
 
 module _ (k : ℕ) (s : Set) (C : Complex) (S : Shows s C) where
   abbrev IsImage : ℕ → Vertex → Vertex → Type 0
-  IsImage i u v = SamePlace v.point (turned_place k u.point) × IsTurnedMap k u.map v.map × Ordered v.map
+  IsImage i u v = SamePoint v.point (turned_point k u.point) × IsTurnedMap k u.map v.map × Ordered v.map
 
-  image : (i : ℕ) (u : Vertex) → At C.vertices i u → (v : Vertex) × IsImage i u v
+  image : (i : ℕ) (u : Vertex) → IsAt C.vertices i u → (v : Vertex) × IsImage i u v
   image i u a =
       let shaped = (S.cones i u a).valid.shaped in
       let ordered = S.maps_ordered i u a in
       let made : Map = turned_map k u.map shaped ordered in (
-        record { point = turned_place k u.point; map = made },
-        (same-itself (turned_place k u.point), lists-turned k u.map made (has-lists k u.map shaped ordered), turned-ordered k u.map shaped ordered),
+        record { point = turned_point k u.point; map = made },
+        (same-itself (turned_point k u.point), lists-turned k u.map made (has-lists k u.map shaped ordered), turned-ordered k u.map shaped ordered),
       )
 
   M : Mapped C.vertices IsImage
   M = map-list C.vertices IsImage image
 
   abbrev Below : Vertex → Vertex → Type 0
-  Below u v = IsPlaceBelow u.point v.point
+  Below u v = IsPointBelow u.point v.point
 
   abbrev Same : Vertex → Vertex → Type 0
-  Same u v = SamePlace u.point v.point
+  Same u v = SamePoint u.point v.point
 
   V : Sorted Below Same M.list
-  V = sort Below Same (λ u v w. place_below-trans u.point v.point w.point) (λ u. same-itself u.point) (λ u v. place-either u.point v.point) M.list
+  V = sort Below Same (λ u v w. point_below-trans u.point v.point w.point) (λ u. same-itself u.point) (λ u v. place-either u.point v.point) M.list
 
-  from : (v : Vertex) → Lies V.list v → (i : ℕ) × (u : Vertex) × At C.vertices i u × IsImage i u v
+  from : (v : Vertex) → Lies V.list v → (i : ℕ) × (u : Vertex) × IsAt C.vertices i u × IsImage i u v
   from v l =
       let (i, a) = lies-at M.list v (V.sound v l) in
       let (u, b, h) = M.sound i v a in
@@ -101,7 +101,7 @@ module _ (k : ℕ) (s : Set) (C : Complex) (S : Shows s C) where
           let (v, b, h) = M.all i u a in
           let (w, l, e) = V.all v (at-lies M.list i v b) in
           let (j, c) = lies-at V.list w l in
-          (j, w, c, same-place_trans w.point v.point (turned_place k u.point) (same-place_sym v.point w.point e) h.0);
+          (j, w, c, same-point_trans w.point v.point (turned_point k u.point) (same-point_sym v.point w.point e) h.0);
       ordered = chain-order Below Same V.list V.chain;
       maps_ordered = λ j v a. let (i, u, b, h) = from v (at-lies V.list j v a) in h.2;
     },

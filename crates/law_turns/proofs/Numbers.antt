@@ -1,7 +1,7 @@
 -- Turned vectors and forms are as large as before, in lowest terms where they were, and have one normal form.
-use Rattle.law_turns.proofs.Prelude.{◌≡◌, ℕ, ◌≤◌, ℤ, pos, negsuc, ◌+ℤ◌, ◌*ℤ◌, neg_ℤ, nat_abs, Bool, true, false, refl, ap, sym, ◌∙◌, subst, arith, ⊎_elim, [], ◌∷◌, ints, ring, at, num, neg, ◌⊕◌, ◌⊗◌, IsLowest, Place, Form, form_numbers, Vector, dot, IsAtMost, IsDirection, IsNormal, Triple, negated_if, turned, IsPrimitive, triple_of, turned_vector, turned_plane, turned_place, place_numbers, signed, signed_form}
+use Rattle.law_turns.proofs.Prelude.{◌≡◌, ℕ, ◌≤◌, ℤ, pos, negsuc, ◌+ℤ◌, ◌*ℤ◌, neg_ℤ, nat_abs, Bool, true, false, refl, ap, sym, ◌∙◌, subst, arith, ⊎_elim, [], ◌∷◌, ints, ring, at, num, neg, ◌⊕◌, ◌⊗◌, IsLowest, SpacePoint, Form, form_numbers, Vector, dot, IsAtMost, IsDirection, IsNormal, Triple, negated_if, turned, IsPrimitive, triple_of, turned_vector, turned_plane, turned_point, point_numbers, signed, signed_form}
 use Rattle.std.specs.Int.{◌∣◌}
-use Rattle.nef_space.specs.Vectors.{triple_of as vector_numbers}
+use Rattle.nef_space.specs.Vectors.{direction_numbers as vector_numbers}
 use Rattle.law_sphere.proofs.Kind.{away}
 use Rattle.law_sphere.proofs.Builder.{normal-or}
 use Rattle.law_turns.proofs.Coordinates.{same-vector, SignBlind, each-turned, each-back, sign-twice}
@@ -13,15 +13,15 @@ size-sign true x = omega (arith, ints)
 size-sign false x = refl
 
 -- ---- sizes
-abbrev IsSmall : ℕ → ℤ → ℤ → Type 0
-IsSmall n x y = nat_abs x ≤ n
+abbrev IsSmallNumber : ℕ → ℤ → ℤ → Type 0
+IsSmallNumber n x y = nat_abs x ≤ n
 
-small-blind : (n : ℕ) → SignBlind (IsSmall n)
+small-blind : (n : ℕ) → SignBlind (IsSmallNumber n)
 small-blind n x y h = subst (λ (i : ℕ). i ≤ n) (sym (size-sign true x)) h
 
 pub at_most-turned : (k : ℕ) (b : Bool) (n : ℕ) (d : Vector) → IsAtMost n d → IsAtMost n (signed b (turned_vector k d))
 at_most-turned k b n d h =
-    let e = each-turned (IsSmall n) (small-blind n) k (triple_of d) (triple_of d) (h.of_x, h.of_y, h.of_z) in
+    let e = each-turned (IsSmallNumber n) (small-blind n) k (triple_of d) (triple_of d) (h.of_x, h.of_y, h.of_z) in
     record { of_x = by _ e.0; of_y = by _ e.1; of_z = by _ e.2 }
   where
     by : (x : ℤ) → nat_abs x ≤ n → nat_abs (negated_if b x) ≤ n
@@ -54,8 +54,8 @@ lowest_vector-turned k b d h n (p, (q, (r, z))) = let e = divides-back k n b (tr
 pub lowest_form-turned : (k : ℕ) (b : Bool) (g : Form) → IsLowest (form_numbers g) → IsLowest (form_numbers (signed_form b (turned_plane k g)))
 lowest_form-turned k b g h n (p, (q, (r, (s, z)))) = let e = divides-back k n b (g.a, g.b, g.c) p q r in h n (e.0, (e.1, (e.2, (subst (λ (i : ℕ). n ∣ i) (size-sign b g.d) s, z))))
 
-pub lowest_place-turned : (k : ℕ) (p : Place) → IsLowest (place_numbers p) → IsLowest (place_numbers (turned_place k p))
-lowest_place-turned k p h n (x, (y, (z, (w, u)))) = let e = divides-back k n false (p.x, p.y, p.z) x y z in h n (e.0, (e.1, (e.2, (w, u))))
+pub lowest_point-turned : (k : ℕ) (p : SpacePoint) → IsLowest (point_numbers p) → IsLowest (point_numbers (turned_point k p))
+lowest_point-turned k p h n (x, (y, (z, (w, u)))) = let e = divides-back k n false (p.x, p.y, p.z) x y z in h n (e.0, (e.1, (e.2, (w, u))))
 
 -- ---- one normal form
 away-signed : (d : Vector) → away d ≡ signed true d

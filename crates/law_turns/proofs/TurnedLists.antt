@@ -1,15 +1,15 @@
 -- A map whose lists have another map's turned items, in order, is the turned map.
-use Rattle.law_turns.proofs.Prelude.{◌≡◌, ℕ, zero, suc, pos, neg_ℤ, Bool, true, false, refl, ap, sym, ◌∙◌, subst, arith, inl, inr, ⊎_elim, List, [], ◌∷◌, Option, Some, None, ints, cases_order, Vector, IsNormal, At, MapVertex, Arc, MapSloop, Item, arc_item, sloop_item, Map, items, items_then, InOrder, ArcBelow, arc-at, sloop-at, at-sloop, at-arc, turned_vector, signed, IsTurnedArc, IsTurnedItem, IsTurnedOption, IsTurnedMap, HasTurnedLists, is-at_none, is-at_first}
+use Rattle.law_turns.proofs.Prelude.{◌≡◌, ℕ, zero, suc, pos, neg_ℤ, Bool, true, false, refl, ap, sym, ◌∙◌, subst, arith, inl, inr, ⊎_elim, List, [], ◌∷◌, Option, Some, None, ints, cases_order, Vector, IsNormal, IsAt, MapVertex, Arc, MapSloop, Item, arc_item, sloop_item, Map, items, items_then, InOrder, ArcBelow, arc-at, sloop-at, at-sloop, at-arc, turned_vector, signed, IsTurnedArc, IsTurnedItem, IsTurnedOption, IsTurnedMap, HasTurnedLists, is-at_none, is-at_first}
 use Rattle.law_build.proofs.BuiltArcs.{arc-below_not}
 
 -- ---- what is chosen for each element, by its number
-abbrev pub chosen : {A B : Type 0} (xs : List A) → B → ((i : ℕ) (x : A) → At xs i x → B) → ℕ → B
+abbrev pub chosen : {A B : Type 0} (xs : List A) → B → ((i : ℕ) (x : A) → IsAt xs i x → B) → ℕ → B
 chosen [] b F i = b
 chosen (x ∷ xs) b F zero = F zero x refl
 chosen (x ∷ xs) b F (suc i) = chosen xs b (λ j y a. F (suc j) y a) i
 
-pub chosen-has : {A B : Type 0} (xs : List A) (b : B) (F : (i : ℕ) (x : A) → At xs i x → B) (Q : ℕ → A → B → Type 0) → ((i : ℕ) (x : A) (a : At xs i x) → Q i x (F i x a))
-    → (i : ℕ) (x : A) → At xs i x → Q i x (chosen xs b F i)
+pub chosen-has : {A B : Type 0} (xs : List A) (b : B) (F : (i : ℕ) (x : A) → IsAt xs i x → B) (Q : ℕ → A → B → Type 0) → ((i : ℕ) (x : A) (a : IsAt xs i x) → Q i x (F i x a))
+    → (i : ℕ) (x : A) → IsAt xs i x → Q i x (chosen xs b F i)
 chosen-has [] b F Q h i x a = absurd (is-at_none a)
 chosen-has {A} (y ∷ ys) b F Q h zero x e = subst (λ (r : A). Q zero r (F zero y refl)) (is-at_first e) (h zero y refl)
 chosen-has (y ∷ ys) b F Q h (suc i) x a = chosen-has ys b (λ j z c. F (suc j) z c) (λ j z c. Q (suc j) z c) (λ j z c. h (suc j) z c) i x a
@@ -34,13 +34,13 @@ one-normal false true v h i = absurd (both-normal v i h)
 one-normal false false v h i = refl
 
 -- ---- one place in an order
-one-place : (as' : List Arc) → InOrder ArcBelow as' → (i j : ℕ) (a b : Arc) → At as' i a → At as' j b → a.normal ≡ b.normal → a.source ≡ b.source → i ≡ j
+one-place : (as' : List Arc) → InOrder ArcBelow as' → (i j : ℕ) (a b : Arc) → IsAt as' i a → IsAt as' j b → a.normal ≡ b.normal → a.source ≡ b.source → i ≡ j
 one-place as' o i j a b h k e f = elim (cases_order i j) [
   | inl same ↦ same
   | inr apart ↦ ⊎_elim (λ l. absurd (arc-below_not a b e f (o i j a b l h k))) (λ l. absurd (arc-below_not b a (sym e) (sym f) (o j i b a l k h))) apart
 ]
 
-sloop-place : (as' : List Arc) (o : Option MapSloop) (i j : ℕ) (l m : MapSloop) → At (items_then as' o) i (sloop_item l) → At (items_then as' o) j (sloop_item m) → i ≡ j
+sloop-place : (as' : List Arc) (o : Option MapSloop) (i j : ℕ) (l m : MapSloop) → IsAt (items_then as' o) i (sloop_item l) → IsAt (items_then as' o) j (sloop_item m) → i ≡ j
 sloop-place [] None i j l m h k = absurd (is-at_none h)
 sloop-place [] (Some n) zero zero l m h k = refl
 sloop-place [] (Some n) zero (suc j) l m h k = absurd (is-at_none k)
@@ -54,12 +54,12 @@ module _ (k : ℕ) (M N : Map) (T : HasTurnedLists k M N) where
   Pair = ℕ × Bool
 
   abbrev HasImage : ℕ → Item → Pair → Type 0
-  HasImage i x p = (y : Item) × At (items N) p.0 y × IsTurnedItem k T.vertex p.1 x y
+  HasImage i x p = (y : Item) × IsAt (items N) p.0 y × IsTurnedItem k T.vertex p.1 x y
 
   abbrev HasOrigin : ℕ → Item → Type 0
-  HasOrigin j y = (i : ℕ) × (x : Item) × (flip : Bool) × At (items M) i x × IsTurnedItem k T.vertex flip x y
+  HasOrigin j y = (i : ℕ) × (x : Item) × (flip : Bool) × IsAt (items M) i x × IsTurnedItem k T.vertex flip x y
 
-  image-of : (i : ℕ) (x : Item) → At (items M) i x → (p : Pair) × HasImage i x p
+  image-of : (i : ℕ) (x : Item) → IsAt (items M) i x → (p : Pair) × HasImage i x p
   image-of i (arc_item a) h =
       let (j, b, flip, l, t) = T.arcs i a (arc-at M.arcs M.sloop i a h) in
       ((j, flip), (arc_item b, at-arc N.arcs N.sloop j b l, t))
@@ -72,7 +72,7 @@ module _ (k : ℕ) (M N : Map) (T : HasTurnedLists k M N) where
           let (j, b) = at-sloop N.arcs N.sloop m e in
           ((j, flip), (sloop_item m, b, s))
 
-  origin-of : (j : ℕ) (y : Item) → At (items N) j y → HasOrigin j y
+  origin-of : (j : ℕ) (y : Item) → IsAt (items N) j y → HasOrigin j y
   origin-of j (arc_item b) h =
       let (i, a, flip, l, t) = T.arcs_from j b (arc-at N.arcs N.sloop j b h) in
       (i, arc_item a, flip, at-arc M.arcs M.sloop i a l, t)
@@ -88,11 +88,11 @@ module _ (k : ℕ) (M N : Map) (T : HasTurnedLists k M N) where
   abbrev image : ℕ → Pair
   image = chosen (items M) (zero, false) (λ i x a. (image-of i x a).0)
 
-  image-has : (i : ℕ) (x : Item) → At (items M) i x → HasImage i x (image i)
+  image-has : (i : ℕ) (x : Item) → IsAt (items M) i x → HasImage i x (image i)
   image-has = chosen-has (items M) (zero, false) (λ i x a. (image-of i x a).0) HasImage (λ i x a. (image-of i x a).1)
 
   -- two images of one item stand in one place
-  one-image : (i j : ℕ) (b c : Bool) (x y z : Item) → At (items N) i y → At (items N) j z → IsTurnedItem k T.vertex b x y → IsTurnedItem k T.vertex c x z → i ≡ j
+  one-image : (i j : ℕ) (b c : Bool) (x y z : Item) → IsAt (items N) i y → IsAt (items N) j z → IsTurnedItem k T.vertex b x y → IsTurnedItem k T.vertex c x z → i ≡ j
   one-image i j b c (arc_item a) (arc_item y) (arc_item z) h l s t =
       let same = one-normal b c (turned_vector k a.normal) (subst IsNormal s.normal (T.normals i (arc_item y) h)) (subst IsNormal t.normal (T.normals j (arc_item z) l)) in
       let t' = subst (λ (r : Bool). IsTurnedArc k T.vertex r a z) (sym same) t in
@@ -107,9 +107,9 @@ module _ (k : ℕ) (M N : Map) (T : HasTurnedLists k M N) where
   back = chosen (items N) zero (λ j y a. (origin-of j y a).0)
 
   abbrev IsOrigin : ℕ → Item → ℕ → Type 0
-  IsOrigin j y i = (x : Item) × At (items M) i x × ((image i).0 ≡ j)
+  IsOrigin j y i = (x : Item) × IsAt (items M) i x × ((image i).0 ≡ j)
 
-  back-has : (j : ℕ) (y : Item) → At (items N) j y → IsOrigin j y (back j)
+  back-has : (j : ℕ) (y : Item) → IsAt (items N) j y → IsOrigin j y (back j)
   back-has = chosen-has (items N) zero (λ j y a. (origin-of j y a).0) IsOrigin
       (λ j y a.
       let (i, x, flip, b, t) = origin-of j y a in
@@ -120,9 +120,9 @@ module _ (k : ℕ) (M N : Map) (T : HasTurnedLists k M N) where
   vertex_back = chosen N.svertices zero (λ j u a. (T.svertices_from j u a).0)
 
   abbrev IsVertexOrigin : ℕ → MapVertex → ℕ → Type 0
-  IsVertexOrigin j u i = (v : MapVertex) × At M.svertices i v × (T.vertex i ≡ j)
+  IsVertexOrigin j u i = (v : MapVertex) × IsAt M.svertices i v × (T.vertex i ≡ j)
 
-  vertex_back-has : (j : ℕ) (u : MapVertex) → At N.svertices j u → IsVertexOrigin j u (vertex_back j)
+  vertex_back-has : (j : ℕ) (u : MapVertex) → IsAt N.svertices j u → IsVertexOrigin j u (vertex_back j)
   vertex_back-has = chosen-has N.svertices zero (λ j u a. (T.svertices_from j u a).0) IsVertexOrigin (λ j u a. let r = T.svertices_from j u a in (r.1, r.2, r.3))
 
   pub lists-turned : IsTurnedMap k M N

@@ -1,5 +1,5 @@
 -- The turned image of a valid map is valid, of a least one least, and shows the turned set at the turned point.
-use Rattle.law_turns.proofs.Prelude.{◌≡◌, ℕ, pos, Bool, true, false, cond, refl, ap, sym, ◌∙◌, subst, ◌↔◌, ◌⊎◌, inl, inr, ⊎_elim, List, [], ◌∷◌, Option, Some, None, Vector, dot, IsDirection, SameDirection, blend, Place, Set, HasLabel, Germ, Label, IsOnCircle, IsStrictlyOn, At, MapVertex, Arc, MapSloop, Item, arc_item, sloop_item, Map, items, item_normal, item_pos, item_mark, item_neg, dir_of, OnItem, HasSide, Side, MapLabel, NearLabel, HasArc, ArcBetween, Shaped, Valid, Least, Cone, NearPlain, NearStraight, at-one, dir-at, arc-at, ends-of, sloop-at, at-sloop, at-arc, normal-is, turned_vector, unturned_vector, turned_place, turned_set, differ, is_odd, signed, turned_svertex, IsTurnedArc, IsTurnedSloop, IsTurnedItem, IsTurnedMap, dir-self, is-at_none}
+use Rattle.law_turns.proofs.Prelude.{◌≡◌, ℕ, pos, Bool, true, false, cond, refl, ap, sym, ◌∙◌, subst, ◌↔◌, ◌⊎◌, inl, inr, ⊎_elim, List, [], ◌∷◌, Option, Some, None, Vector, dot, IsDirection, SameDirection, blend, SpacePoint, Set, HasLabel, Germ, Label, IsOnCircle, IsStrictlyOn, IsAt, MapVertex, Arc, MapSloop, Item, arc_item, sloop_item, Map, items, item_normal, item_pos, item_mark, item_neg, dir_of, OnItem, HasSide, Side, MapLabel, NearLabel, HasArc, ArcBetween, Shaped, Valid, Least, Cone, NearPlain, NearStraight, at-one, dir-at, arc-at, ends-of, sloop-at, at-sloop, at-arc, normal-is, turned_vector, unturned_vector, turned_point, turned_set, differ, is_odd, signed, turned_svertex, IsTurnedArc, IsTurnedSloop, IsTurnedItem, IsTurnedMap, dir-self, is-at_none}
 use Rattle.law_turns.proofs.Turning.{dir-there as way-sense, circle-there, level-there, direction-there, same_direction-there}
 use Rattle.law_turns.proofs.Vectors.{turning, turning-back, blend-turned, vector-back, back-vector, every-vector, signed-turned, signed-twice}
 use Rattle.law_turns.proofs.Meaning.{label-turned, germ-turned}
@@ -16,28 +16,28 @@ module _ (k : ℕ) (M N : Map) (V : Shaped M) (R : IsTurnedMap k M N) where
   odd = is_odd k
 
   -- ---- svertices
-  dir-there : (i : ℕ) (v : MapVertex) → At M.svertices i v → dir_of N.svertices (R.vertex i) ≡ f (dir_of M.svertices i)
+  dir-there : (i : ℕ) (v : MapVertex) → IsAt M.svertices i v → dir_of N.svertices (R.vertex i) ≡ f (dir_of M.svertices i)
   dir-there i v a = dir-at N.svertices (R.vertex i) (turned_svertex k v) (R.svertices i v a) ∙ ap f (sym (dir-at M.svertices i v a))
 
-  pub svertex-from : (j : ℕ) (u : MapVertex) → At N.svertices j u → (v : MapVertex) × At M.svertices (R.vertex_back j) v × (u ≡ turned_svertex k v) × (R.vertex (R.vertex_back j) ≡ j)
+  pub svertex-from : (j : ℕ) (u : MapVertex) → IsAt N.svertices j u → (v : MapVertex) × IsAt M.svertices (R.vertex_back j) v × (u ≡ turned_svertex k v) × (R.vertex (R.vertex_back j) ≡ j)
   svertex-from j u a =
       let (v, b, e) = R.svertices_from j u a in
-      (v, b, at-one N.svertices j u (turned_svertex k v) a (subst (λ (i : ℕ). At N.svertices i (turned_svertex k v)) e (R.svertices (R.vertex_back j) v b)), e)
+      (v, b, at-one N.svertices j u (turned_svertex k v) a (subst (λ (i : ℕ). IsAt N.svertices i (turned_svertex k v)) e (R.svertices (R.vertex_back j) v b)), e)
 
   -- ---- items
-  pub item-from : (j : ℕ) (y : Item) → At (items N) j y → (x : Item) × At (items M) (R.item_back j) x × IsTurnedItem k R.vertex (R.flip (R.item_back j)) x y × (R.item (R.item_back j) ≡ j)
+  pub item-from : (j : ℕ) (y : Item) → IsAt (items N) j y → (x : Item) × IsAt (items M) (R.item_back j) x × IsTurnedItem k R.vertex (R.flip (R.item_back j)) x y × (R.item (R.item_back j) ≡ j)
   item-from j y a =
       let (x, b, e) = R.items_from j y a in
       let (z, c, t) = R.items_there (R.item_back j) x b in
-      let same = at-one (items N) j z y (subst (λ (i : ℕ). At (items N) i z) e c) a in
+      let same = at-one (items N) j z y (subst (λ (i : ℕ). IsAt (items N) i z) e c) a in
       (x, b, subst (λ (r : Item). IsTurnedItem k R.vertex (R.flip (R.item_back j)) x r) same t, e)
 
   -- the ends that an arc has after the turn, by numbers and by ways
-  ends-there : (w : Bool) (i j : ℕ) (u v : MapVertex) → At M.svertices i u → At M.svertices j v → dir_of N.svertices (R.vertex (cond w j i)) ≡ cond w (f (dir_of M.svertices j)) (f (dir_of M.svertices i))
+  ends-there : (w : Bool) (i j : ℕ) (u v : MapVertex) → IsAt M.svertices i u → IsAt M.svertices j v → dir_of N.svertices (R.vertex (cond w j i)) ≡ cond w (f (dir_of M.svertices j)) (f (dir_of M.svertices i))
   ends-there true i j u v a b = dir-there j v b
   ends-there false i j u v a b = dir-there i u a
 
-  arc-on : (i : ℕ) (flip : Bool) (a b : Arc) → At (items M) i (arc_item a) → IsTurnedArc k R.vertex flip a b → (d : Vector) → OnItem N (arc_item b) (f d) ↔ OnItem M (arc_item a) d
+  arc-on : (i : ℕ) (flip : Bool) (a b : Arc) → IsAt (items M) i (arc_item a) → IsTurnedArc k R.vertex flip a b → (d : Vector) → OnItem N (arc_item b) (f d) ↔ OnItem M (arc_item a) d
   arc-on i flip a b l t d =
       let e = ends-of M V i a (arc-at M.arcs M.sloop i a l) in
       let s = dir_of M.svertices a.source in
@@ -62,7 +62,7 @@ module _ (k : ℕ) (M N : Map) (V : Shaped M) (R : IsTurnedMap k M N) where
         λ h. subst (λ (n : Vector). IsOnCircle n (f d)) (sym t.normal) (base.1 h),
       )
 
-  pub item-on : (i : ℕ) (flip : Bool) (x y : Item) → At (items M) i x → IsTurnedItem k R.vertex flip x y → (d : Vector) → OnItem N y (f d) ↔ OnItem M x d
+  pub item-on : (i : ℕ) (flip : Bool) (x y : Item) → IsAt (items M) i x → IsTurnedItem k R.vertex flip x y → (d : Vector) → OnItem N y (f d) ↔ OnItem M x d
   item-on i flip (arc_item a) (arc_item b) l t d = arc-on i flip a b l t d
   item-on i flip (arc_item a) (sloop_item m) l t d = absurd t
   item-on i flip (sloop_item c) (arc_item b) l t d = absurd t
@@ -153,7 +153,7 @@ module _ (k : ℕ) (M N : Map) (V : Shaped M) (R : IsTurnedMap k M N) where
       let (y, c, t) = R.items_there n (arc_item a) b in
       by (R.flip n) y c t
     where
-      by : (flip : Bool) (y : Item) → At (items N) (R.item n) y → IsTurnedItem k R.vertex flip (arc_item a) y → HasArc N (R.vertex i)
+      by : (flip : Bool) (y : Item) → IsAt (items N) (R.item n) y → IsTurnedItem k R.vertex flip (arc_item a) y → HasArc N (R.vertex i)
       by flip (arc_item b) c t = (R.item n, b, arc-at N.arcs N.sloop (R.item n) b c, ends (differ odd flip) t.source t.target)
         where
           ends : (w : Bool) → b.source ≡ R.vertex (cond w a.target a.source) → b.target ≡ R.vertex (cond w a.source a.target) → (b.source ≡ R.vertex i) ⊎ (b.target ≡ R.vertex i)
@@ -161,21 +161,21 @@ module _ (k : ℕ) (M N : Map) (V : Shaped M) (R : IsTurnedMap k M N) where
           ends false p q = ⊎_elim (λ r. inl (p ∙ ap R.vertex r)) (λ r. inr (q ∙ ap R.vertex r)) e
       by flip (sloop_item m) c t = absurd t
 
-  has_arc-from : (j : ℕ) (u : MapVertex) → At N.svertices j u → HasArc N j → HasArc M (R.vertex_back j)
+  has_arc-from : (j : ℕ) (u : MapVertex) → IsAt N.svertices j u → HasArc N j → HasArc M (R.vertex_back j)
   has_arc-from j u at (n, b, l, e) =
       let c = at-arc N.arcs N.sloop n b l in
       let (x, d, t, same) = item-from n (arc_item b) c in
       by (R.flip (R.item_back n)) x d t
     where
       -- the svertex that becomes number j
-      from : (i : ℕ) (v : MapVertex) → At M.svertices i v → R.vertex i ≡ j → i ≡ R.vertex_back j
+      from : (i : ℕ) (v : MapVertex) → IsAt M.svertices i v → R.vertex i ≡ j → i ≡ R.vertex_back j
       from i v a r =
           let (w, m, s, q) = svertex-from j u at in
-          let h = sym (at-one N.svertices j u (turned_svertex k v) at (subst (λ (n : ℕ). At N.svertices n (turned_svertex k v)) r (R.svertices i v a))) ∙ s in
+          let h = sym (at-one N.svertices j u (turned_svertex k v) at (subst (λ (n : ℕ). IsAt N.svertices n (turned_svertex k v)) r (R.svertices i v a))) ∙ s in
           let same = sym (back-vector k v.dir) ∙ ap (λ (r : MapVertex). g r.dir) h ∙ back-vector k w.dir in
           V.svertices_apart i (R.vertex_back j) v w a m (subst (λ (r : Vector). SameDirection v.dir r) same (dir-self v.dir (V.svertex_dirs i v a)))
 
-      by : (flip : Bool) (x : Item) → At (items M) (R.item_back n) x → IsTurnedItem k R.vertex flip x (arc_item b) → HasArc M (R.vertex_back j)
+      by : (flip : Bool) (x : Item) → IsAt (items M) (R.item_back n) x → IsTurnedItem k R.vertex flip x (arc_item b) → HasArc M (R.vertex_back j)
       by flip (arc_item a) d t =
           let q = arc-at M.arcs M.sloop (R.item_back n) a d in
           let ends = ends-of M V (R.item_back n) a q in
@@ -187,12 +187,12 @@ module _ (k : ℕ) (M N : Map) (V : Shaped M) (R : IsTurnedMap k M N) where
           at_ends false p q f h = ⊎_elim (λ r. inl (f (sym p ∙ r))) (λ r. inr (h (sym q ∙ r))) e
       by flip (sloop_item m) d t = absurd t
 
-  arc_between-from : (j : ℕ) (b : Arc) → At N.arcs j b → ArcBetween N b
+  arc_between-from : (j : ℕ) (b : Arc) → IsAt N.arcs j b → ArcBetween N b
   arc_between-from j b l =
       let (x, d, t, same) = item-from j (arc_item b) (at-arc N.arcs N.sloop j b l) in
       by (R.flip (R.item_back j)) x d t
     where
-      by : (flip : Bool) (x : Item) → At (items M) (R.item_back j) x → IsTurnedItem k R.vertex flip x (arc_item b) → ArcBetween N b
+      by : (flip : Bool) (x : Item) → IsAt (items M) (R.item_back j) x → IsTurnedItem k R.vertex flip x (arc_item b) → ArcBetween N b
       by flip (arc_item a) d t =
           let e = V.arcs_between (R.item_back j) a (arc-at M.arcs M.sloop (R.item_back j) a d) in
           ends (differ odd flip) t.source t.target e
@@ -200,8 +200,8 @@ module _ (k : ℕ) (M N : Map) (V : Shaped M) (R : IsTurnedMap k M N) where
           level : (v : MapVertex) → dot a.normal v.dir ≡ pos 0 → dot b.normal (f v.dir) ≡ pos 0
           level v z = ap (λ (r : Vector). dot r (f v.dir)) t.normal ∙ (level-there f odd (turning k) flip a.normal v.dir).1 z
 
-          listed : (i m : ℕ) (v : MapVertex) → m ≡ R.vertex i → At M.svertices i v → At N.svertices m (turned_svertex k v)
-          listed i m v p h = subst (λ (n : ℕ). At N.svertices n (turned_svertex k v)) (sym p) (R.svertices i v h)
+          listed : (i m : ℕ) (v : MapVertex) → m ≡ R.vertex i → IsAt M.svertices i v → IsAt N.svertices m (turned_svertex k v)
+          listed i m v p h = subst (λ (n : ℕ). IsAt N.svertices n (turned_svertex k v)) (sym p) (R.svertices i v h)
 
           ends : (w : Bool) → b.source ≡ R.vertex (cond w a.target a.source) → b.target ≡ R.vertex (cond w a.source a.target) → ArcBetween M a → ArcBetween N b
           ends true p q e = record {
@@ -228,19 +228,19 @@ module _ (k : ℕ) (M N : Map) (V : Shaped M) (R : IsTurnedMap k M N) where
     where
       by : (vs : List MapVertex) → M.svertices ≡ vs → M.svertices ≡ []
       by [] h = h
-      by (v ∷ vs) h = absurd (is-at_none (subst (λ (us : List MapVertex). At us (R.vertex 0) (turned_svertex k v)) e (R.svertices 0 v (subst (λ (us : List MapVertex). At us 0 v) (sym h) refl))))
+      by (v ∷ vs) h = absurd (is-at_none (subst (λ (us : List MapVertex). IsAt us (R.vertex 0) (turned_svertex k v)) e (R.svertices 0 v (subst (λ (us : List MapVertex). IsAt us 0 v) (sym h) refl))))
 
   no_svertices_there : M.svertices ≡ [] → N.svertices ≡ []
   no_svertices_there e = by N.svertices refl
     where
       by : (vs : List MapVertex) → N.svertices ≡ vs → N.svertices ≡ []
       by [] h = h
-      by (v ∷ vs) h = let (u, b, r) = R.svertices_from 0 v (subst (λ (us : List MapVertex). At us 0 v) (sym h) refl) in absurd (is-at_none (subst (λ (us : List MapVertex). At us (R.vertex_back 0) u) e b))
+      by (v ∷ vs) h = let (u, b, r) = R.svertices_from 0 v (subst (λ (us : List MapVertex). IsAt us 0 v) (sym h) refl) in absurd (is-at_none (subst (λ (us : List MapVertex). IsAt us (R.vertex_back 0) u) e b))
 
   no_sloop : N.sloop ≡ None → M.sloop ≡ None
   no_sloop e = by M.sloop refl
     where
-      sloop_of : (flip : Bool) (l : MapSloop) (n : ℕ) (y : Item) → At (items N) n y → IsTurnedItem k R.vertex flip (sloop_item l) y → ⊥
+      sloop_of : (flip : Bool) (l : MapSloop) (n : ℕ) (y : Item) → IsAt (items N) n y → IsTurnedItem k R.vertex flip (sloop_item l) y → ⊥
       sloop_of flip l n (arc_item b) c t = t
       sloop_of flip l n (sloop_item m) c t = let h = sym e ∙ sloop-at N.arcs N.sloop n m c in cc
 
@@ -254,7 +254,7 @@ module _ (k : ℕ) (M N : Map) (V : Shaped M) (R : IsTurnedMap k M N) where
   no_sloop_there : M.sloop ≡ None → N.sloop ≡ None
   no_sloop_there e = by N.sloop refl
     where
-      sloop_of : (flip : Bool) (m : MapSloop) (n : ℕ) (x : Item) → At (items M) n x → IsTurnedItem k R.vertex flip x (sloop_item m) → ⊥
+      sloop_of : (flip : Bool) (m : MapSloop) (n : ℕ) (x : Item) → IsAt (items M) n x → IsTurnedItem k R.vertex flip x (sloop_item m) → ⊥
       sloop_of flip m n (arc_item b) c t = t
       sloop_of flip m n (sloop_item l) c t = let h = sym e ∙ sloop-at M.arcs M.sloop n l c in cc
 
@@ -361,10 +361,10 @@ module _ (k : ℕ) (M N : Map) (R : IsTurnedMap k M N) where
       differs true x y i p q h = h (i.pos ∙ q ∙ sym i.mark) (i.neg ∙ p ∙ sym i.mark)
       differs false x y i p q h = h (i.pos ∙ p ∙ sym i.mark) (i.neg ∙ q ∙ sym i.mark)
 
-  pub cone-turned : (s : Set) (p : Place) → Cone M s p → Cone N (turned_set k s) (turned_place k p)
+  pub cone-turned : (s : Set) (p : SpacePoint) → Cone M s p → Cone N (turned_set k s) (turned_point k p)
   cone-turned s p C = record {
     valid = valid-turned C.valid;
-    mark = subst (λ (l : Label). HasLabel (turned_set k s) (turned_place k p) l) (sym R.mark) ((label-turned k s p M.mark).1 C.mark);
-    labels = every-vector k (λ (d : Vector). IsDirection d → (m : Label) × MapLabel N d m × Germ (turned_set k s) (turned_place k p) d m)
+    mark = subst (λ (l : Label). HasLabel (turned_set k s) (turned_point k p) l) (sym R.mark) ((label-turned k s p M.mark).1 C.mark);
+    labels = every-vector k (λ (d : Vector). IsDirection d → (m : Label) × MapLabel N d m × Germ (turned_set k s) (turned_point k p) d m)
         (λ d h. let (m, a, b) = C.labels d ((direction-there f' (is_odd k) (turning k) d).0 h) in (m, map_label-turned C.valid.shaped d m a, (germ-turned k s p d m).1 b));
   }

@@ -1,5 +1,5 @@
 -- Turned vectors: their products, and how they lie to one another.
-use Rattle.law_turns.proofs.Prelude.{◌≡◌, ℕ, ℤ, pos, ◌+ℤ◌, ◌*ℤ◌, neg_ℤ, Bool, true, false, refl, ap, sym, ◌∙◌, subst, ◌↔◌, [], ◌∷◌, ring, at, neg, ◌⊕◌, ◌⊗◌, Vector, vector, dot, cross, triple, IsZero, IsDirection, SameDirection, IsOpposite, opposite, blend, negated_if, vector_of, triple_of, turned_vector, unturned_vector, is_odd, signed}
+use Rattle.law_turns.proofs.Prelude.{◌≡◌, ℕ, ℤ, pos, ◌+ℤ◌, ◌*ℤ◌, neg_ℤ, Bool, true, false, refl, ap, sym, ◌∙◌, subst, ◌↔◌, [], ◌∷◌, ring, at, neg, ◌⊕◌, ◌⊗◌, Vector, vector, dot, cross, triple, IsZero, IsDirection, SameDirection, IsOpposite, opposite, blend, negated_if, vector_of_triple, triple_of, turned_vector, unturned_vector, is_odd, signed}
 use Rattle.law_turns.proofs.Turning.{Turning, triple-there, direction-there, direction_cross-there, same_direction-there, opposite-there, zero_triple-there}
 use Rattle.law_turns.proofs.Coordinates.{same-vector, zip-turned, IsOddFunction, SignBlind, each-turned, each-back, dots-turned, crosses-turned, turned-back, back-turned, sign-twice}
 
@@ -7,34 +7,34 @@ pub dot-turned : (k : ℕ) (a b : Vector) → dot (turned_vector k a) (turned_ve
 dot-turned k a b = dots-turned k (triple_of a) (triple_of b)
 
 pub cross-turned : (k : ℕ) (a b : Vector) → cross (turned_vector k a) (turned_vector k b) ≡ signed (is_odd k) (turned_vector k (cross a b))
-cross-turned k a b = ap vector_of (crosses-turned k (triple_of a) (triple_of b))
+cross-turned k a b = ap vector_of_triple (crosses-turned k (triple_of a) (triple_of b))
 
 -- ---- every vector is the image of one
 pub vector-back : (k : ℕ) (d : Vector) → turned_vector k (unturned_vector k d) ≡ d
-vector-back k d = ap vector_of (turned-back k (triple_of d))
+vector-back k d = ap vector_of_triple (turned-back k (triple_of d))
 
 pub back-vector : (k : ℕ) (d : Vector) → unturned_vector k (turned_vector k d) ≡ d
-back-vector k d = ap vector_of (back-turned k (triple_of d))
+back-vector k d = ap vector_of_triple (back-turned k (triple_of d))
 
 pub every-vector : (k : ℕ) (P : Vector → Type 0) → ((d : Vector) → P (turned_vector k d)) → (e : Vector) → P e
 every-vector k P f e = subst P (vector-back k e) (f (unturned_vector k e))
 
 -- ---- zero vectors
-abbrev pub IsNought : ℤ → ℤ → Type 0
-IsNought x y = x ≡ pos 0
+abbrev pub FirstIsNought : ℤ → ℤ → Type 0
+FirstIsNought x y = x ≡ pos 0
 
-nought-blind : SignBlind IsNought
+nought-blind : SignBlind FirstIsNought
 nought-blind x y e = ap neg_ℤ e
 
 pub zero-turned : (k : ℕ) (d : Vector) → IsZero (turned_vector k d) ↔ IsZero d
-zero-turned k d = (each-back IsNought nought-blind k (triple_of d) (triple_of d), each-turned IsNought nought-blind k (triple_of d) (triple_of d))
+zero-turned k d = (each-back FirstIsNought nought-blind k (triple_of d) (triple_of d), each-turned FirstIsNought nought-blind k (triple_of d) (triple_of d))
 
 -- ---- sums
 sum-odd : (i j : ℤ) → IsOddFunction (λ x y. i *ℤ x +ℤ j *ℤ y)
 sum-odd i j x y = ring (i ∷ j ∷ x ∷ y ∷ []) (at 0 ⊗ neg (at 2) ⊕ at 1 ⊗ neg (at 3)) (neg (at 0 ⊗ at 2 ⊕ at 1 ⊗ at 3)) tt
 
 pub comb-turned : (k : ℕ) (i : ℤ) (a : Vector) (j : ℤ) (b : Vector) → vector (i *ℤ (turned_vector k a).x +ℤ j *ℤ (turned_vector k b).x) (i *ℤ (turned_vector k a).y +ℤ j *ℤ (turned_vector k b).y) (i *ℤ (turned_vector k a).z +ℤ j *ℤ (turned_vector k b).z) ≡ turned_vector k (vector (i *ℤ a.x +ℤ j *ℤ b.x) (i *ℤ a.y +ℤ j *ℤ b.y) (i *ℤ a.z +ℤ j *ℤ b.z))
-comb-turned k i a j b = ap vector_of (zip-turned (λ x y. i *ℤ x +ℤ j *ℤ y) (sum-odd i j) k (triple_of a) (triple_of b))
+comb-turned k i a j b = ap vector_of_triple (zip-turned (λ x y. i *ℤ x +ℤ j *ℤ y) (sum-odd i j) k (triple_of a) (triple_of b))
 
 pub blend-turned : (k : ℕ) (i : ℕ) (a : Vector) (j : ℕ) (b : Vector) → blend i (turned_vector k a) j (turned_vector k b) ≡ turned_vector k (blend i a j b)
 blend-turned k i a j b = comb-turned k (pos i) a (pos j) b
@@ -43,7 +43,7 @@ negation-odd : IsOddFunction (λ x y. neg_ℤ x)
 negation-odd x y = refl
 
 pub opposite-vector : (k : ℕ) (a : Vector) → opposite (turned_vector k a) ≡ turned_vector k (opposite a)
-opposite-vector k a = ap vector_of (zip-turned (λ x y. neg_ℤ x) negation-odd k (triple_of a) (triple_of a))
+opposite-vector k a = ap vector_of_triple (zip-turned (λ x y. neg_ℤ x) negation-odd k (triple_of a) (triple_of a))
 
 -- ---- a turn and its way back
 pub turning : (k : ℕ) → Turning (turned_vector k) (is_odd k)

@@ -1,16 +1,16 @@
 -- The laws of turns; clauses of public functions cite each law. Any number k is the number of a turn.
 use Rattle.std.specs.Prelude.{◌≡◌, ◌↔◌}
-use Rattle.nef_space.specs.Prelude.{ℕ, List, Bool, Lies, Vector, dot, cross, triple, IsDirection, SameDirection, IsOpposite, IsAtMost, IsNormal, triple_of as vector_numbers, IsLowest, Place, Form, form_numbers, normal_of, form_at, slope, Ratio, step, toward, Within, SamePlace, InFrame, IsAhead, IsBetween, Set, Holds, HasLabel, SameSet, Germ, Flat, FlatDim, IsVertex, Joined}
+use Rattle.nef_space.specs.Prelude.{ℕ, List, Bool, Lies, Vector, dot, cross, triple, IsDirection, SameDirection, IsOpposite, IsAtMost, IsNormal, direction_numbers as vector_numbers, IsLowest, SpacePoint, Form, form_numbers, normal_of, form_at, slope, Ratio, step, toward, Within, SamePoint, InFrame, IsAhead, IsBetween, Set, Holds, HasLabel, SameSet, Germ, Flat, FlatDim, IsVertex, Joined}
 use Rattle.nef_case.specs.Turns.{negated_if, Undoes, IsComposition}
 use Rattle.nef_space.specs.declared.label.Label.{Label}
 use Rattle.law_near.specs.Cells.{carriers}
 use Rattle.law_near.specs.Cones.{NearGerm}
 use Rattle.law_cyclic.specs.Arcs.{IsStrictlyOn}
-use Rattle.law_sphere.specs.Prelude.{At, Arc, Map, MapLabel, NearLabel, Shaped, Valid, Least, Ordered, Cone}
+use Rattle.law_sphere.specs.Prelude.{IsAt, Arc, Map, MapLabel, NearLabel, Shaped, Valid, Least, Ordered, Cone}
 use Rattle.law_sphere.specs.Vectors.{IsPrimitive}
 use Rattle.law_complex.specs.Complexes.{Vertex, Complex}
 use Rattle.law_complex.specs.Shows.{SamePlane, Carriers, Shows}
-use Rattle.law_turns.specs.Turned.{turned_vector, turned_plane, turned_place, turned_set, place_numbers, is_odd, signed}
+use Rattle.law_turns.specs.Turned.{turned_vector, turned_plane, turned_point, turned_set, point_numbers, is_odd, signed}
 use Rattle.law_turns.specs.Maps.{IsTurnedMap, HasTurnedLists}
 use Rattle.law_turns.specs.Complexes.{AreTurnedPlanes, AreTurnedVertices, IsTurnedComplex, ShowsVertices, signed_form}
 
@@ -57,8 +57,8 @@ LowestVectorTurned = (k : ℕ) (b : Bool) (d : Vector) → IsLowest (vector_numb
 abbrev pub LowestFormTurned : Type 0
 LowestFormTurned = (k : ℕ) (b : Bool) (h : Form) → IsLowest (form_numbers h) → IsLowest (form_numbers (signed_form b (turned_plane k h)))
 
-abbrev pub LowestPlaceTurned : Type 0
-LowestPlaceTurned = (k : ℕ) (p : Place) → IsLowest (place_numbers p) → IsLowest (place_numbers (turned_place k p))
+abbrev pub LowestPointTurned : Type 0
+LowestPointTurned = (k : ℕ) (p : SpacePoint) → IsLowest (point_numbers p) → IsLowest (point_numbers (turned_point k p))
 
 -- exactly one of a direction and its opposite is in normal form
 abbrev pub NormalExists : Type 0
@@ -80,64 +80,64 @@ PlanesDiffer = (k : ℕ) (b c : Bool) (g h : Form) → IsNormal (normal_of g) �
 -- ---- points
 -- a turned form has at a turned point the value of the form at the point
 abbrev pub FormTurned : Type 0
-FormTurned = (k : ℕ) (h : Form) (p : Place) → form_at (turned_plane k h) (turned_place k p) ≡ form_at h p
+FormTurned = (k : ℕ) (h : Form) (p : SpacePoint) → form_at (turned_plane k h) (turned_point k p) ≡ form_at h p
 
 abbrev pub SlopeTurned : Type 0
 SlopeTurned = (k : ℕ) (h : Form) (d : Vector) → slope (turned_plane k h) (turned_vector k d) ≡ slope h d
 
 abbrev pub StepTurned : Type 0
-StepTurned = (k : ℕ) (p : Place) (t : Ratio) (d : Vector) → step (turned_place k p) t (turned_vector k d) ≡ turned_place k (step p t d)
+StepTurned = (k : ℕ) (p : SpacePoint) (t : Ratio) (d : Vector) → step (turned_point k p) t (turned_vector k d) ≡ turned_point k (step p t d)
 
 abbrev pub TowardTurned : Type 0
-TowardTurned = (k : ℕ) (p q : Place) → toward (turned_place k p) (turned_place k q) ≡ turned_vector k (toward p q)
+TowardTurned = (k : ℕ) (p q : SpacePoint) → toward (turned_point k p) (turned_point k q) ≡ turned_vector k (toward p q)
 
 abbrev pub AheadTurned : Type 0
-AheadTurned = (k : ℕ) (p : Place) (d : Vector) (q : Place) → IsAhead (turned_place k p) (turned_vector k d) (turned_place k q) ↔ IsAhead p d q
+AheadTurned = (k : ℕ) (p : SpacePoint) (d : Vector) (q : SpacePoint) → IsAhead (turned_point k p) (turned_vector k d) (turned_point k q) ↔ IsAhead p d q
 
 abbrev pub BetweenTurned : Type 0
-BetweenTurned = (k : ℕ) (p r q : Place) → IsBetween (turned_place k p) (turned_place k r) (turned_place k q) ↔ IsBetween p r q
+BetweenTurned = (k : ℕ) (p r q : SpacePoint) → IsBetween (turned_point k p) (turned_point k r) (turned_point k q) ↔ IsBetween p r q
 
-abbrev pub SamePlaceTurned : Type 0
-SamePlaceTurned = (k : ℕ) (p q : Place) → SamePlace (turned_place k p) (turned_place k q) ↔ SamePlace p q
+abbrev pub SamePointTurned : Type 0
+SamePointTurned = (k : ℕ) (p q : SpacePoint) → SamePoint (turned_point k p) (turned_point k q) ↔ SamePoint p q
 
 abbrev pub WithinTurned : Type 0
-WithinTurned = (k : ℕ) (n : ℕ) (p q : Place) → Within n (turned_place k p) (turned_place k q) ↔ Within n p q
+WithinTurned = (k : ℕ) (n : ℕ) (p q : SpacePoint) → Within n (turned_point k p) (turned_point k q) ↔ Within n p q
 
 abbrev pub FrameTurned : Type 0
-FrameTurned = (k : ℕ) (p : Place) → InFrame (turned_place k p) ↔ InFrame p
+FrameTurned = (k : ℕ) (p : SpacePoint) → InFrame (turned_point k p) ↔ InFrame p
 
 -- each point is the turned image of a point
-abbrev pub EachPlaceIsTurned : Type 0
-EachPlaceIsTurned = (k : ℕ) (q : Place) → (p : Place) × (turned_place k p ≡ q)
+abbrev pub EachPointIsTurned : Type 0
+EachPointIsTurned = (k : ℕ) (q : SpacePoint) → (p : SpacePoint) × (turned_point k p ≡ q)
 
 -- ---- sets
 -- a turned set holds at a turned point exactly where the set holds at the point
 abbrev pub HoldsTurned : Type 0
-HoldsTurned = (k : ℕ) (s : Set) (p : Place) → Holds (turned_set k s) (turned_place k p) ↔ Holds s p
+HoldsTurned = (k : ℕ) (s : Set) (p : SpacePoint) → Holds (turned_set k s) (turned_point k p) ↔ Holds s p
 
 abbrev pub LabelTurned : Type 0
-LabelTurned = (k : ℕ) (s : Set) (p : Place) (l : Label) → HasLabel (turned_set k s) (turned_place k p) l ↔ HasLabel s p l
+LabelTurned = (k : ℕ) (s : Set) (p : SpacePoint) (l : Label) → HasLabel (turned_set k s) (turned_point k p) l ↔ HasLabel s p l
 
 abbrev pub SameSetTurned : Type 0
 SameSetTurned = (k : ℕ) (s t : Set) → SameSet (turned_set k s) (turned_set k t) ↔ SameSet s t
 
 abbrev pub GermTurned : Type 0
-GermTurned = (k : ℕ) (s : Set) (p : Place) (d : Vector) (l : Label) → Germ (turned_set k s) (turned_place k p) (turned_vector k d) l ↔ Germ s p d l
+GermTurned = (k : ℕ) (s : Set) (p : SpacePoint) (d : Vector) (l : Label) → Germ (turned_set k s) (turned_point k p) (turned_vector k d) l ↔ Germ s p d l
 
 abbrev pub NearGermTurned : Type 0
-NearGermTurned = (k : ℕ) (s : Set) (p : Place) (d e : Vector) (l : Label) → NearGerm (turned_set k s) (turned_place k p) (turned_vector k d) (turned_vector k e) l ↔ NearGerm s p d e l
+NearGermTurned = (k : ℕ) (s : Set) (p : SpacePoint) (d e : Vector) (l : Label) → NearGerm (turned_set k s) (turned_point k p) (turned_vector k d) (turned_vector k e) l ↔ NearGerm s p d e l
 
 abbrev pub FlatTurned : Type 0
-FlatTurned = (k : ℕ) (s : Set) (p : Place) (d : Vector) → Flat (turned_set k s) (turned_place k p) (turned_vector k d) ↔ Flat s p d
+FlatTurned = (k : ℕ) (s : Set) (p : SpacePoint) (d : Vector) → Flat (turned_set k s) (turned_point k p) (turned_vector k d) ↔ Flat s p d
 
 abbrev pub FlatDimTurned : Type 0
-FlatDimTurned = (k : ℕ) (s : Set) (p : Place) (j : ℕ) → FlatDim (turned_set k s) (turned_place k p) j ↔ FlatDim s p j
+FlatDimTurned = (k : ℕ) (s : Set) (p : SpacePoint) (j : ℕ) → FlatDim (turned_set k s) (turned_point k p) j ↔ FlatDim s p j
 
 abbrev pub VertexTurned : Type 0
-VertexTurned = (k : ℕ) (s : Set) (p : Place) → IsVertex (turned_set k s) (turned_place k p) ↔ IsVertex s p
+VertexTurned = (k : ℕ) (s : Set) (p : SpacePoint) → IsVertex (turned_set k s) (turned_point k p) ↔ IsVertex s p
 
 abbrev pub JoinedTurned : Type 0
-JoinedTurned = (k : ℕ) (s : Set) (p q : Place) → Joined (turned_set k s) (turned_place k p) (turned_place k q) ↔ Joined s p q
+JoinedTurned = (k : ℕ) (s : Set) (p q : SpacePoint) → Joined (turned_set k s) (turned_point k p) (turned_point k q) ↔ Joined s p q
 
 -- a set that is turned, and then turned by the turn that undoes the first, is the set
 abbrev pub SetTurnedBack : Type 0
@@ -164,7 +164,7 @@ LeastTurned = (k : ℕ) (M N : Map) → IsTurnedMap k M N → Shaped M → Least
 
 -- a turned map shows the turned set at the turned point
 abbrev pub ConeTurned : Type 0
-ConeTurned = (k : ℕ) (M N : Map) (s : Set) (p : Place) → IsTurnedMap k M N → Cone M s p → Cone N (turned_set k s) (turned_place k p)
+ConeTurned = (k : ℕ) (M N : Map) (s : Set) (p : SpacePoint) → IsTurnedMap k M N → Cone M s p → Cone N (turned_set k s) (turned_point k p)
 
 -- a map whose ordered lists have the turned items of M is a turned map of M
 abbrev pub ListsTurned : Type 0
@@ -176,10 +176,10 @@ TurnedExists = (k : ℕ) (M : Map) → Shaped M → Ordered M → (N : Map) × H
 
 -- arcs with one normal that begin, or that end, at one svertex are equal, so exchanging ends keeps the order strict
 abbrev pub ArcsBegin : Type 0
-ArcsBegin = (M : Map) → Shaped M → (i j : ℕ) (a b : Arc) → At M.arcs i a → At M.arcs j b → a.normal ≡ b.normal → a.source ≡ b.source → i ≡ j
+ArcsBegin = (M : Map) → Shaped M → (i j : ℕ) (a b : Arc) → IsAt M.arcs i a → IsAt M.arcs j b → a.normal ≡ b.normal → a.source ≡ b.source → i ≡ j
 
 abbrev pub ArcsEnd : Type 0
-ArcsEnd = (M : Map) → Shaped M → (i j : ℕ) (a b : Arc) → At M.arcs i a → At M.arcs j b → a.normal ≡ b.normal → a.target ≡ b.target → i ≡ j
+ArcsEnd = (M : Map) → Shaped M → (i j : ℕ) (a b : Arc) → IsAt M.arcs i a → IsAt M.arcs j b → a.normal ≡ b.normal → a.target ≡ b.target → i ≡ j
 
 -- ---- complexes
 -- the carriers of a turned set are the turned carriers

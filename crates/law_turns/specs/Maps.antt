@@ -1,7 +1,7 @@
 -- Sphere maps that are the turned images of others.
 use Rattle.std.specs.Prelude.{◌≡◌, ℕ, Bool, cond, Option, Some, None}
 use Rattle.nef_space.specs.Vectors.{IsNormal}
-use Rattle.law_sphere.specs.Prelude.{At, MapVertex, Arc, MapSloop, Item, arc_item, sloop_item, Map, items, item_normal, InOrder, ArcBelow}
+use Rattle.law_sphere.specs.Prelude.{IsAt, MapVertex, Arc, MapSloop, Item, arc_item, sloop_item, Map, items, item_normal, InOrder, ArcBelow}
 use Rattle.law_turns.specs.Turned.{turned_vector, differ, is_odd, signed}
 
 abbrev pub turned_svertex : ℕ → MapVertex → MapVertex
@@ -38,11 +38,11 @@ pub record IsTurnedMap (k : ℕ) (M N : Map) : Type 0 where
   pub item_back : ℕ → ℕ
   -- whether the normal of an item is opposite to its turned normal, by the item's number in M
   pub flip : ℕ → Bool
-  pub svertices : (i : ℕ) (v : MapVertex) → At M.svertices i v → At N.svertices (vertex i) (turned_svertex k v)
-  pub svertices_from : (j : ℕ) (u : MapVertex) → At N.svertices j u → (v : MapVertex) × At M.svertices (vertex_back j) v × (vertex (vertex_back j) ≡ j)
-  pub items_there : (i : ℕ) (x : Item) → At (items M) i x → (y : Item) × At (items N) (item i) y × IsTurnedItem k vertex (flip i) x y
-  pub items_from : (j : ℕ) (y : Item) → At (items N) j y → (x : Item) × At (items M) (item_back j) x × (item (item_back j) ≡ j)
-  pub normals : (j : ℕ) (y : Item) → At (items N) j y → IsNormal (item_normal y)
+  pub svertices : (i : ℕ) (v : MapVertex) → IsAt M.svertices i v → IsAt N.svertices (vertex i) (turned_svertex k v)
+  pub svertices_from : (j : ℕ) (u : MapVertex) → IsAt N.svertices j u → (v : MapVertex) × IsAt M.svertices (vertex_back j) v × (vertex (vertex_back j) ≡ j)
+  pub items_there : (i : ℕ) (x : Item) → IsAt (items M) i x → (y : Item) × IsAt (items N) (item i) y × IsTurnedItem k vertex (flip i) x y
+  pub items_from : (j : ℕ) (y : Item) → IsAt (items N) j y → (x : Item) × IsAt (items M) (item_back j) x × (item (item_back j) ≡ j)
+  pub normals : (j : ℕ) (y : Item) → IsAt (items N) j y → IsNormal (item_normal y)
   pub mark : N.mark ≡ M.mark
   pub same_ground : N.ground ≡ M.ground
 
@@ -57,12 +57,12 @@ IsTurnedOption k (Some l) (Some m) = (flip : Bool) × IsTurnedSloop k flip l m
 pub record HasTurnedLists (k : ℕ) (M N : Map) : Type 0 where
   -- the number in N of each svertex of M
   pub vertex : ℕ → ℕ
-  pub svertices : (i : ℕ) (v : MapVertex) → At M.svertices i v → At N.svertices (vertex i) (turned_svertex k v)
-  pub svertices_from : (j : ℕ) (u : MapVertex) → At N.svertices j u → (i : ℕ) × (v : MapVertex) × At M.svertices i v × (vertex i ≡ j)
-  pub arcs : (i : ℕ) (a : Arc) → At M.arcs i a → (j : ℕ) × (b : Arc) × (flip : Bool) × At N.arcs j b × IsTurnedArc k vertex flip a b
-  pub arcs_from : (j : ℕ) (b : Arc) → At N.arcs j b → (i : ℕ) × (a : Arc) × (flip : Bool) × At M.arcs i a × IsTurnedArc k vertex flip a b
+  pub svertices : (i : ℕ) (v : MapVertex) → IsAt M.svertices i v → IsAt N.svertices (vertex i) (turned_svertex k v)
+  pub svertices_from : (j : ℕ) (u : MapVertex) → IsAt N.svertices j u → (i : ℕ) × (v : MapVertex) × IsAt M.svertices i v × (vertex i ≡ j)
+  pub arcs : (i : ℕ) (a : Arc) → IsAt M.arcs i a → (j : ℕ) × (b : Arc) × (flip : Bool) × IsAt N.arcs j b × IsTurnedArc k vertex flip a b
+  pub arcs_from : (j : ℕ) (b : Arc) → IsAt N.arcs j b → (i : ℕ) × (a : Arc) × (flip : Bool) × IsAt M.arcs i a × IsTurnedArc k vertex flip a b
   pub sloop : IsTurnedOption k M.sloop N.sloop
-  pub normals : (j : ℕ) (y : Item) → At (items N) j y → IsNormal (item_normal y)
+  pub normals : (j : ℕ) (y : Item) → IsAt (items N) j y → IsNormal (item_normal y)
   pub arcs_ordered : InOrder ArcBelow N.arcs
   pub mark : N.mark ≡ M.mark
   pub same_ground : N.ground ≡ M.ground

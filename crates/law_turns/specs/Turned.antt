@@ -1,25 +1,25 @@
 -- What a turn makes of vectors, forms, points and sets.
 use Rattle.std.specs.Prelude.{◌/◌, ◌%◌, ◌∷◌, ℕ, zero, suc, ℤ, pos, List, [], Bool, true, false}
-use Rattle.nef_space.specs.Prelude.{Vector, vector, Place, Form, form, Set}
+use Rattle.nef_space.specs.Prelude.{Vector, vector, SpacePoint, Form, form, Set}
 use Rattle.nef_case.specs.Turns.{Triple, has_bit, negated_if, negated, turned}
 
-abbrev pub vector_of : Triple → Vector
-vector_of t = vector t.0 t.1 t.2
+abbrev pub vector_of_triple : Triple → Vector
+vector_of_triple t = vector t.0 t.1 t.2
 
 abbrev pub triple_of : Vector → Triple
 triple_of d = (d.x, d.y, d.z)
 
 -- the vector whose numbers the turn makes of the numbers of d
 abbrev pub turned_vector : ℕ → Vector → Vector
-turned_vector k d = vector_of (turned k (triple_of d))
+turned_vector k d = vector_of_triple (turned k (triple_of d))
 
 -- the form with the turned normal and the same offset
 abbrev pub turned_plane : ℕ → Form → Form
 turned_plane k h = let t = turned k (h.a, h.b, h.c) in form t.0 t.1 t.2 h.d
 
 -- the point with turned numbers and the same weight
-abbrev pub turned_place : ℕ → Place → Place
-turned_place k p = record {
+abbrev pub turned_point : ℕ → SpacePoint → SpacePoint
+turned_point k p = record {
   x = (turned k (p.x, p.y, p.z)).0;
   y = (turned k (p.x, p.y, p.z)).1;
   z = (turned k (p.x, p.y, p.z)).2;
@@ -27,8 +27,8 @@ turned_place k p = record {
   proper = p.proper;
 }
 
-abbrev pub place_numbers : Place → List ℤ
-place_numbers p = p.x ∷ p.y ∷ p.z ∷ pos p.w ∷ []
+abbrev pub point_numbers : SpacePoint → List ℤ
+point_numbers p = p.x ∷ p.y ∷ p.z ∷ pos p.w ∷ []
 
 -- the set whose halves have the turned forms
 abbrev pub turned_set : ℕ → Set → Set
@@ -60,10 +60,10 @@ abbrev pub unturned : ℕ → Triple → Triple
 unturned k v = disordered (k / 8) (negated (k % 8) v)
 
 abbrev pub unturned_vector : ℕ → Vector → Vector
-unturned_vector k d = vector_of (unturned k (triple_of d))
+unturned_vector k d = vector_of_triple (unturned k (triple_of d))
 
-abbrev pub unturned_place : ℕ → Place → Place
-unturned_place k p = record {
+abbrev pub unturned_point : ℕ → SpacePoint → SpacePoint
+unturned_point k p = record {
   x = (unturned k (p.x, p.y, p.z)).0;
   y = (unturned k (p.x, p.y, p.z)).1;
   z = (unturned k (p.x, p.y, p.z)).2;

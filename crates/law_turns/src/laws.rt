@@ -1,6 +1,6 @@
 //! Laws of turns, on vectors, numbers, points, sets, sphere maps and complexes.
 
-ghost use Rattle.law_turns.specs.Laws.{DotTurned, CrossTurned, TripleTurned, DirectionTurned, SameDirectionTurned, OppositeTurned, ArcTurned, EachVectorIsTurned, AtMostTurned, PrimitiveTurned, LowestVectorTurned, LowestFormTurned, LowestPlaceTurned, NormalExists, NormalIsOne, VectorsDiffer, NormalsDiffer, PlanesDiffer, FormTurned, SlopeTurned, StepTurned, TowardTurned, AheadTurned, BetweenTurned, SamePlaceTurned, WithinTurned, FrameTurned, EachPlaceIsTurned, HoldsTurned, LabelTurned, SameSetTurned, GermTurned, NearGermTurned, FlatTurned, FlatDimTurned, VertexTurned, JoinedTurned, SetTurnedBack, SetTurnedTwice, MapLabelTurned, NearLabelTurned, MapTurned, LeastTurned, ConeTurned, ListsTurned, TurnedExists, ArcsBegin, ArcsEnd, CarrierTurned, CarrierIsTurned, SamePlaneTurned, CarriersTurned, VerticesTurned, ShowsTurned, TurnedPlanesExist, TurnedVerticesExist};
+ghost use Rattle.law_turns.specs.Laws.{DotTurned, CrossTurned, TripleTurned, DirectionTurned, SameDirectionTurned, OppositeTurned, ArcTurned, EachVectorIsTurned, AtMostTurned, PrimitiveTurned, LowestVectorTurned, LowestFormTurned, LowestPointTurned, NormalExists, NormalIsOne, VectorsDiffer, NormalsDiffer, PlanesDiffer, FormTurned, SlopeTurned, StepTurned, TowardTurned, AheadTurned, BetweenTurned, SamePointTurned, WithinTurned, FrameTurned, EachPointIsTurned, HoldsTurned, LabelTurned, SameSetTurned, GermTurned, NearGermTurned, FlatTurned, FlatDimTurned, VertexTurned, JoinedTurned, SetTurnedBack, SetTurnedTwice, MapLabelTurned, NearLabelTurned, MapTurned, LeastTurned, ConeTurned, ListsTurned, TurnedExists, ArcsBegin, ArcsEnd, CarrierTurned, CarrierIsTurned, SamePlaneTurned, CarriersTurned, VerticesTurned, ShowsTurned, TurnedPlanesExist, TurnedVerticesExist};
 
 /// Turned vectors have the dot products of the vectors, and the cross and triple products up to the sign of the turn.
 /// About a turned normal, a way keeps its sense up to this sign.
@@ -22,7 +22,7 @@ pub fn number_laws()
     ensures primitive { PrimitiveTurned }
     ensures lowest_vectors { LowestVectorTurned }
     ensures lowest_forms { LowestFormTurned }
-    ensures lowest_places { LowestPlaceTurned }
+    ensures lowest_places { LowestPointTurned }
     ensures normal { NormalExists }
     ensures one_normal { NormalIsOne }
     ensures vectors_differ { VectorsDiffer }
@@ -38,10 +38,10 @@ pub fn place_laws()
     ensures ways { TowardTurned }
     ensures ahead { AheadTurned }
     ensures between { BetweenTurned }
-    ensures same_places { SamePlaceTurned }
+    ensures same_places { SamePointTurned }
     ensures nearby { WithinTurned }
     ensures frame { FrameTurned }
-    ensures all { EachPlaceIsTurned }
+    ensures all { EachPointIsTurned }
 {}
 
 /// A turned set holds at a turned point exactly where the set holds at the point, and has the set's labels, germs, flat

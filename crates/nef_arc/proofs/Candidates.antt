@@ -1,5 +1,5 @@
 -- The directions on two arcs: two opposite candidates, and what is left where each is tried.
-use Rattle.nef_arc.proofs.Prelude.{◌≡◌, ◌⊎◌, inl, inr, sym, subst, Vector, cross, opposite, IsParallel, SameDirection, triple_of, IsBelow, arcs_are_of_directions, two_meets_at, Arc, normal_vector, source_vector, target_vector, IsOnBoth, IsOneCrossing, IsTwoCrossings, SameDirection-turned}
+use Rattle.nef_arc.proofs.Prelude.{◌≡◌, ◌⊎◌, inl, inr, sym, subst, Vector, cross, opposite, IsParallel, SameDirection, direction_numbers, IsBelow, arcs_are_of_directions, two_meets_at, Arc, normal_vector, source_vector, target_vector, IsOnBoth, IsOneCrossing, IsTwoCrossings, SameDirection-turned}
 use Rattle.nef_arc.proofs.Ends.{source_on, target_on}
 
 -- x and y are opposite, and x is that of the cross product of the normals
@@ -40,10 +40,10 @@ second_on a b x y c n m = record { on = m; alone = λ d on. from d on (one_of_tw
     from d on (inr h) = h
     from d on (inl h) = absurd (n (same_on_both a b d x (SameDirection-turned x d h) on))
 
-pub both_on : (a b : Arc) (x y : Vector) → Candidates a b x y → IsOnBoth a b x → IsOnBoth a b y → IsBelow (triple_of x) (triple_of y) → IsTwoCrossings a b x y
+pub both_on : (a b : Arc) (x y : Vector) → Candidates a b x y → IsOnBoth a b x → IsOnBoth a b y → IsBelow (direction_numbers x) (direction_numbers y) → IsTwoCrossings a b x y
 both_on a b x y c n m below = record { first_on = n; second_on = m; in_order = below; alone = λ d on. one_of_two a b x y d c on }
 
-pub both_on_turned : (a b : Arc) (x y : Vector) → Candidates a b x y → IsOnBoth a b x → IsOnBoth a b y → IsBelow (triple_of y) (triple_of x) → IsTwoCrossings a b y x
+pub both_on_turned : (a b : Arc) (x y : Vector) → Candidates a b x y → IsOnBoth a b x → IsOnBoth a b y → IsBelow (direction_numbers y) (direction_numbers x) → IsTwoCrossings a b y x
 both_on_turned a b x y c n m below = record { first_on = m; second_on = n; in_order = below; alone = λ d on. turned (one_of_two a b x y d c on) }
   where
     turned : {P Q : Type 0} → P ⊎ Q → Q ⊎ P

@@ -1,5 +1,5 @@
 -- What the turn from an arc's source to its target says of the directions on it.
-use Rattle.nef_arc.proofs.Prelude.{◌≡◌, zero, suc, ℤ, pos, negsuc, ◌<ℤ◌, ◌⊎◌, inl, inr, arith, refl, ◌↔◌, ints, Vector, dot, triple, sign_of, IsOnCircle, Arc, normal_vector, source_vector, target_vector, IsOn, IsEnd, OnWay, IsPastSource, IsBeforeTarget, IsPassed, self-pos}
+use Rattle.nef_arc.proofs.Prelude.{◌≡◌, zero, suc, ℤ, pos, negsuc, ◌<ℤ◌, ◌⊎◌, inl, inr, arith, refl, ◌↔◌, ints, Vector, dot, triple, sign_of, IsOnCircle, Arc, normal_vector, source_vector, target_vector, IsOn, IsEndOfArc, PastAndBefore, IsPastSource, IsBeforeTarget, IsPassedByArc, self-pos}
 use Rattle.law_cyclic.proofs.Planar.{parallel_from_turn, turn_from_parallel, turn_or_dot}
 
 by_sign : {R : Type 0} (z : ℤ) → (z <ℤ pos 0 → R) → (z ≡ pos 0 → R) → (pos 0 <ℤ z → R) → R
@@ -13,12 +13,12 @@ record Told (z : ℤ) (P Q : Type 0) : Type 0 where
   pub more : z <ℤ pos 0 → P ⊎ Q
   pub half : z ≡ pos 0 → P
 
-told_by : (z : ℤ) (P Q : Type 0) → OnWay (sign_of z) P Q → Told z P Q
+told_by : (z : ℤ) (P Q : Type 0) → PastAndBefore (sign_of z) P Q → Told z P Q
 told_by (pos zero) P Q h = record { less = λ k. absurd (omega (arith, ints)); more = λ k. absurd (omega (arith, ints)); half = λ k. h }
 told_by (pos (suc n)) P Q h = record { less = λ k. h; more = λ k. absurd (omega (arith, ints)); half = λ k. h.0 }
 told_by (negsuc n) P Q h = record { less = λ k. absurd (omega (arith, ints)); more = λ k. h; half = λ k. absurd (omega (arith, ints)) }
 
-by_told : (z : ℤ) (P Q : Type 0) → Told z P Q → OnWay (sign_of z) P Q
+by_told : (z : ℤ) (P Q : Type 0) → Told z P Q → PastAndBefore (sign_of z) P Q
 by_told (pos zero) P Q h = h.half refl
 by_told (pos (suc n)) P Q h = h.less (omega (arith, ints))
 by_told (negsuc n) P Q h = h.more (omega (arith, ints))
@@ -28,7 +28,7 @@ abbrev turn_of : Arc → ℤ
 turn_of a = triple (normal_vector a) (source_vector a) (target_vector a)
 
 -- the turn says of each direction on the arc that it is passed
-told : (a : Arc) (d : Vector) → IsOn a d → (dot (source_vector a) (target_vector a) <ℤ pos 0 ⊎ (turn_of a ≡ pos 0 → ⊥)) → OnWay (sign_of (turn_of a)) (IsPastSource a d) (IsBeforeTarget a d)
+told : (a : Arc) (d : Vector) → IsOn a d → (dot (source_vector a) (target_vector a) <ℤ pos 0 ⊎ (turn_of a ≡ pos 0 → ⊥)) → PastAndBefore (sign_of (turn_of a)) (IsPastSource a d) (IsBeforeTarget a d)
 told a d h k = by_told (turn_of a) _ _ (record { less = h.less_than_half; more = h.more_than_half; half = opposite k })
   where
     opposite : (dot (source_vector a) (target_vector a) <ℤ pos 0 ⊎ (turn_of a ≡ pos 0 → ⊥)) → turn_of a ≡ pos 0 → IsPastSource a d
@@ -38,7 +38,7 @@ told a d h k = by_told (turn_of a) _ _ (record { less = h.less_than_half; more =
     })
     opposite (inr turned) e = absurd (turned e)
 
-passed_on : (a : Arc) (d : Vector) → IsOn a d → IsPassed a d
+passed_on : (a : Arc) (d : Vector) → IsOn a d → IsPassedByArc a d
 passed_on a d h =
     let s = source_vector a in let t = target_vector a in let n = normal_vector a in
     let hn = self-pos n a.normal.some in
@@ -50,7 +50,7 @@ passed_on a d h =
     (λ k. inl (record { parallel = parallel_from_turn n s t hn a.source_level a.target_level e; forward = k })))
     (λ k. inr (told a d h (inr (λ e. absurd (omega (arith, ints))))))
 
-on_passed : (a : Arc) (d : Vector) → IsOnCircle (normal_vector a) d → (IsEnd a d → ⊥) → IsPassed a d → IsOn a d
+on_passed : (a : Arc) (d : Vector) → IsOnCircle (normal_vector a) d → (IsEndOfArc a d → ⊥) → IsPassedByArc a d → IsOn a d
 on_passed a d on f (inl same) =
     let e = turn_from_parallel (normal_vector a) (source_vector a) (target_vector a) same.parallel in let ahead = same.forward in
     record {
@@ -72,10 +72,10 @@ on_passed a d on f (inr way) =
       just_half = λ k. w.half (turn_from_parallel (normal_vector a) (source_vector a) (target_vector a) k.parallel);
     }
 
-not_end : (a : Arc) (d : Vector) → IsOn a d → IsEnd a d → ⊥
+not_end : (a : Arc) (d : Vector) → IsOn a d → IsEndOfArc a d → ⊥
 not_end a d h (inl k) = h.not_source k
 not_end a d h (inr k) = h.not_target k
 
 -- a direction on the arc's circle is on the arc where it is passed and is neither end
-pub passed_is_on : (a : Arc) (d : Vector) → IsOnCircle (normal_vector a) d → ((IsEnd a d → ⊥) × IsPassed a d) ↔ IsOn a d
+pub passed_is_on : (a : Arc) (d : Vector) → IsOnCircle (normal_vector a) d → ((IsEndOfArc a d → ⊥) × IsPassedByArc a d) ↔ IsOn a d
 passed_is_on a d on = (λ h. on_passed a d on h.0 h.1, λ h. (not_end a d h, passed_on a d h))

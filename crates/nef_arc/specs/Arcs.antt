@@ -1,6 +1,6 @@
 -- The directions on an arc and on two arcs, and the order along an arc.
 use Rattle.std.specs.Prelude.{◌<ℤ◌, ◌⊎◌}
-use Rattle.nef_geo.specs.Prelude.{pos, IsBelow, Vector, SameDirection, triple, triple_of, vector_of, sign_of}
+use Rattle.nef_geo.specs.Prelude.{pos, IsBelow, Vector, SameDirection, triple, direction_numbers, vector_of, sign_of}
 use Rattle.nef_geo.specs.declared.sign.Sign.{Sign}
 use Rattle.nef_geo.specs.declared.sign.Sign.TheVariants.{Minus, Zero, Plus}
 use Rattle.law_cyclic.specs.Arcs.{IsStrictlyOn}
@@ -31,18 +31,18 @@ IsBeforeTarget a d = pos 0 <ℤ triple (normal_vector a) d (target_vector a)
 
 -- whether a direction is passed that is neither end: by the turn from source to target, being past one, before the
 -- other
-abbrev pub OnWay : Sign → Type 0 → Type 0 → Type 0
-OnWay Plus Past Before = Past × Before
-OnWay Minus Past Before = Past ⊎ Before
-OnWay Zero Past Before = Past
+abbrev pub PastAndBefore : Sign → Type 0 → Type 0 → Type 0
+PastAndBefore Plus Past Before = Past × Before
+PastAndBefore Minus Past Before = Past ⊎ Before
+PastAndBefore Zero Past Before = Past
 
 -- the direction, if it is neither end, is passed
-abbrev pub IsPassed : Arc → Vector → Type 0
-IsPassed a d = SameDirection (source_vector a) (target_vector a) ⊎ OnWay (sign_of (triple (normal_vector a) (source_vector a) (target_vector a))) (IsPastSource a d) (IsBeforeTarget a d)
+abbrev pub IsPassedByArc : Arc → Vector → Type 0
+IsPassedByArc a d = SameDirection (source_vector a) (target_vector a) ⊎ PastAndBefore (sign_of (triple (normal_vector a) (source_vector a) (target_vector a))) (IsPastSource a d) (IsBeforeTarget a d)
 
 -- the direction is an end of the arc
-abbrev pub IsEnd : Arc → Vector → Type 0
-IsEnd a d = SameDirection (source_vector a) d ⊎ SameDirection (target_vector a) d
+abbrev pub IsEndOfArc : Arc → Vector → Type 0
+IsEndOfArc a d = SameDirection (source_vector a) d ⊎ SameDirection (target_vector a) d
 
 -- d lies strictly on the way along the arc from its source to the direction e
 abbrev pub IsOnBefore : Arc → Vector → Vector → Type 0
@@ -61,11 +61,11 @@ pub record IsOneCrossing (a b : Arc) (e : Vector) : Type 0 where
 pub record IsTwoCrossings (a b : Arc) (e f : Vector) : Type 0 where
   pub first_on : IsOnBoth a b e
   pub second_on : IsOnBoth a b f
-  pub in_order : IsBelow (triple_of e) (triple_of f)
+  pub in_order : IsBelow (direction_numbers e) (direction_numbers f)
   pub alone : (d : Vector) → IsOnBoth a b d → SameDirection e d ⊎ SameDirection f d
 
 -- the crossing has the directions strictly on both arcs
-abbrev pub IsCrossing : Arc → Arc → Crossing → Type 0
-IsCrossing a b Nowhere = (d : Vector) → IsOnBoth a b d → ⊥
-IsCrossing a b (One e) = IsOneCrossing a b (vector_of e)
-IsCrossing a b (Two e f) = IsTwoCrossings a b (vector_of e) (vector_of f)
+abbrev pub IsArcCrossing : Arc → Arc → Crossing → Type 0
+IsArcCrossing a b Nowhere = (d : Vector) → IsOnBoth a b d → ⊥
+IsArcCrossing a b (One e) = IsOneCrossing a b (vector_of e)
+IsArcCrossing a b (Two e f) = IsTwoCrossings a b (vector_of e) (vector_of f)

@@ -1,8 +1,8 @@
 //! Directions on one arc and on two, the way along an arc and the way back.
 
 ghost use Rattle.std.specs.Prelude.{◌≡◌, ◌≢◌, ◌↔◌, ◌⊎◌};
-ghost use Rattle.nef_geo.specs.Prelude.{IsTrue, normal_limit, IsBelow, Vector, opposite, IsAtMost, IsParallel, SameDirection, triple_of, vector_of};
-ghost use Rattle.nef_arc.specs.Arcs.{normal_vector, source_vector, target_vector, IsOn, IsOnBefore, IsEnd, OnWay, IsPastSource, IsBeforeTarget, IsPassed, IsOnBoth, IsCrossing};
+ghost use Rattle.nef_geo.specs.Prelude.{IsTrue, normal_limit, IsBelow, Vector, opposite, IsAtMost, IsParallel, SameDirection, direction_numbers, vector_of};
+ghost use Rattle.nef_arc.specs.Arcs.{normal_vector, source_vector, target_vector, IsOn, IsOnBefore, IsEndOfArc, PastAndBefore, IsPastSource, IsBeforeTarget, IsPassedByArc, IsOnBoth, IsArcCrossing};
 ghost use Rattle.nef_arc.specs.declared.arc.Crossing.TheVariants.{Two};
 
 use crate::arc::{Arc, Crossing};
@@ -25,7 +25,7 @@ fn is_before_target(arc: &Arc, d: &Dir) -> bool
 
 // Whether a direction on the arc's circle, neither of two different ends, is passed. `turn` is from source to target.
 fn is_on_way(turn: Sign, arc: &Arc, d: &Dir) -> bool
-    ensures way { IsTrue result ↔ OnWay turn (IsPastSource arc.now (vector_of d.now)) (IsBeforeTarget arc.now (vector_of d.now)) }
+    ensures way { IsTrue result ↔ PastAndBefore turn (IsPastSource arc.now (vector_of d.now)) (IsBeforeTarget arc.now (vector_of d.now)) }
 {
     match turn {
         Sign::Plus => is_past_source(arc, d) && is_before_target(arc, d),
@@ -35,14 +35,14 @@ fn is_on_way(turn: Sign, arc: &Arc, d: &Dir) -> bool
 }
 
 fn is_end(arc: &Arc, d: &Dir) -> bool
-    ensures end { IsTrue result ↔ IsEnd arc.now (vector_of d.now) }
+    ensures end { IsTrue result ↔ IsEndOfArc arc.now (vector_of d.now) }
 {
     arc.source.is_same(d) || arc.target.is_same(d)
 }
 
 // Whether a direction on the arc's circle is strictly on the arc. Where both ends are one, every other direction is.
 fn is_inside(arc: &Arc, d: &Dir) -> bool
-    ensures inside { IsTrue result ↔ ((IsEnd arc.now (vector_of d.now) → ⊥) × IsPassed arc.now (vector_of d.now)) }
+    ensures inside { IsTrue result ↔ ((IsEndOfArc arc.now (vector_of d.now) → ⊥) × IsPassedByArc arc.now (vector_of d.now)) }
 {
     if is_end(arc, d) {
         return false;
@@ -69,7 +69,7 @@ fn on_both(a: &Arc, b: &Arc, d: &Dir) -> bool
 
 fn in_order(d: Dir, e: Dir) -> Crossing
     requires apart { vector_of d ≢ vector_of e }
-    ensures in_order { ((result ≡ Two d e) × IsBelow (triple_of (vector_of d)) (triple_of (vector_of e))) ⊎ ((result ≡ Two e d) × IsBelow (triple_of (vector_of e)) (triple_of (vector_of d))) }
+    ensures in_order { ((result ≡ Two d e) × IsBelow (direction_numbers (vector_of d)) (direction_numbers (vector_of e))) ⊎ ((result ≡ Two e d) × IsBelow (direction_numbers (vector_of e)) (direction_numbers (vector_of d))) }
 {
     if d < e {
         Crossing::Two(d, e)
@@ -84,7 +84,7 @@ pub fn crossing(a: &Arc, b: &Arc) -> Crossing
     requires apart { IsParallel (normal_vector a.now) (normal_vector b.now) → ⊥ }
     requires first_small { IsAtMost normal_limit (normal_vector a.now) }
     requires second_small { IsAtMost normal_limit (normal_vector b.now) }
-    ensures crossing { IsCrossing a.now b.now result }
+    ensures crossing { IsArcCrossing a.now b.now result }
 {
     let ahead = common_perpendicular(&a.normal, &b.normal);
     let behind = ahead.back();

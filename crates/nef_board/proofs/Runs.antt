@@ -1,5 +1,5 @@
 -- The board shows the replay of the history that it keeps.
-use Rattle.nef_board.proofs.Prelude.{◌≡◌, ℕ, length, ap, sym, ◌∙◌, Option, Some, None, slice_get, slice_set, arith, subst, IfSome, set-get_or, set_else, set_again, State as Machine, start, after, replay, IsLegal, AllDone, ResultsFit, InHand, Claim, Deposit, GiveBack, claim_answers, past_answers, past_is_same, held_in, BoardState, LockView, IsPlaced, Shows, seeing, taken_in}
+use Rattle.nef_board.proofs.Prelude.{◌≡◌, ℕ, length, ap, sym, ◌∙◌, Option, Some, None, slice_get, slice_set, arith, subst, IfSome, set-get_or, set_else, set_again, State as Machine, start, after, replay, IsLegal, AllDone, ResultsFit, InHand, Claim, Deposit, GiveBack, claim_answers, past_answers, past_is_same, held_in, BoardState, LockView, IsStateAt, ShowsMachine, seeing, taken_in}
 use mathlib.Core.Option.{some, none, some-injective, some-ne-none}
 use lib.ListN.{get_elem?}
 use Rattle.atomic_table.specs.Table.{State}
@@ -9,7 +9,7 @@ use Rattle.nef_board.specs.Laws.{IsSeat, SplitIsNothing, JoinIsNothing, TakingIs
 use Rattle.nef_board.proofs.Turns.{split_shown, join_shown, takes_turn, claim_freed, end_freed, deposit_freed, back_freed}
 
 -- a state that is home is the board's
-home_is : {Out : Type 0} (turn : Option ℕ) (a b : BoardState Out) (s : State (BoardState Out) (LockView Out)) → IsPlaced turn a s → get_elem? s.homes 0 ≡ some (some b) → a ≡ b
+home_is : {Out : Type 0} (turn : Option ℕ) (a b : BoardState Out) (s : State (BoardState Out) (LockView Out)) → IsStateAt turn a s → get_elem? s.homes 0 ≡ some (some b) → a ≡ b
 home_is None a b s p home = some-injective a b (some-injective (some a) (some b) (sym p.1 ∙ home))
 home_is (Some k) a b s p home = absurd (some-ne-none b (sym (some-injective none (some b) (sym p.1 ∙ home))))
 
@@ -34,10 +34,10 @@ module _ {Out : Type 0} (right : ℕ → Out → Type 0) where
   pub turn_is_away : TurnIsAway right
   turn_is_away jobs seats k b s sh = sh.placed.1
 
-  number_is : (jobs seats : ℕ) (turn : Option ℕ) (b : BoardState Out) (s : State (BoardState Out) (LockView Out)) (k : ℕ) (v : LockView Out) → Shows right jobs seats turn b s → IsSeat s k (seeing v b) → k ≡ v.known.number
+  number_is : (jobs seats : ℕ) (turn : Option ℕ) (b : BoardState Out) (s : State (BoardState Out) (LockView Out)) (k : ℕ) (v : LockView Out) → ShowsMachine right jobs seats turn b s → IsSeat s k (seeing v b) → k ≡ v.known.number
   number_is jobs seats turn b s k v sh seat = sym (sh.views k (seeing v b) seat.0 seat.1).0.number
 
-  in_hand : (jobs seats : ℕ) (turn : Option ℕ) (b : BoardState Out) (s : State (BoardState Out) (LockView Out)) (k : ℕ) (v : LockView Out) (job : ℕ) → Shows right jobs seats turn b s → IsSeat s k (seeing v b) → v.known.hand ≡ Some job → slice_get b.machine.slots job ≡ Some (InHand k)
+  in_hand : (jobs seats : ℕ) (turn : Option ℕ) (b : BoardState Out) (s : State (BoardState Out) (LockView Out)) (k : ℕ) (v : LockView Out) (job : ℕ) → ShowsMachine right jobs seats turn b s → IsSeat s k (seeing v b) → v.known.hand ≡ Some job → slice_get b.machine.slots job ≡ Some (InHand k)
   in_hand jobs seats turn b s k v job sh seat hand = held_in jobs seats b.machine (length s.views) k v.known job hand (sh.views k (seeing v b) seat.0 seat.1).0
 
   pub freeing_is_claim : FreeingIsClaim right
@@ -69,7 +69,7 @@ module _ {Out : Type 0} (right : ℕ → Out → Type 0) where
   )
 
   -- the same for the state that the rule has
-  runs_at : (jobs seats : ℕ) (turn : Option ℕ) (b : BoardState Out) (s : State (BoardState Out) (LockView Out)) → Shows right jobs seats turn b s
+  runs_at : (jobs seats : ℕ) (turn : Option ℕ) (b : BoardState Out) (s : State (BoardState Out) (LockView Out)) → ShowsMachine right jobs seats turn b s
       → (b.machine ≡ replay (start jobs) b.history.items) × IsLegal (start jobs) b.history.items × ResultsFit b.machine.slots b.results.items
       × ((job : ℕ) (out : Out) → slice_get b.results.items job ≡ Some (Some out) → right job out)
       × ((w : ℕ) (v : LockView Out) → IsSeat s w v → IsAccounted jobs b.history.items w v.known.hand v.known.ended v.known.deposits)
@@ -96,4 +96,4 @@ module _ {Out : Type 0} (right : ℕ → Out → Type 0) where
   pub runs : BoardRuns right
   runs jobs seats s b kept home =
       let same : kept.1 ≡ b = home_is kept.0 kept.1 b s kept.2.placed home in
-      runs_at jobs seats kept.0 b s (subst (λ (z : BoardState Out). Shows right jobs seats kept.0 z s) same kept.2)
+      runs_at jobs seats kept.0 b s (subst (λ (z : BoardState Out). ShowsMachine right jobs seats kept.0 z s) same kept.2)

@@ -1,5 +1,5 @@
 -- One event keeps the state sound.
-use Rattle.nef_board.proofs.Prelude.{◌≡◌, ℕ, zero, suc, ◌+◌, ◌<◌, ◌≢◌, List, [], ◌∷◌, ◌++◌, length, refl, ap, sym, ◌∙◌, Option, Some, None, slice_get, slice_set, arith, inl, inr, subst, set, length-append, add-one, lt_of_not-le, length-set, slice_get_within, State as Machine, start, after, replay, IsLegal, Slot, Open, InHand, Done, Event, Claim, Deposit, GiveBack, get_set_here, get_set_other, same_or_not, claimed, replay_append, fresh, fresh_start, IsFresh, legal_more, open_not_held, same_slot, HasResult, weight, owed, Sound}
+use Rattle.nef_board.proofs.Prelude.{◌≡◌, ℕ, zero, suc, ◌+◌, ◌<◌, ◌≢◌, List, [], ◌∷◌, ◌++◌, length, refl, ap, sym, ◌∙◌, Option, Some, None, slice_get, slice_set, arith, inl, inr, subst, set, length-append, add-one, lt_of_not-le, length-set, slice_get_within, State as Machine, start, after, replay, IsLegal, Slot, Open, InHand, Done, Event, Claim, Deposit, GiveBack, get_set_here, get_set_other, same_or_not, claimed, replay_append, fresh, fresh_start, RestIsOpen, legal_more, open_not_held, same_slot, HasResult, events_left, owed, Sound}
 
 no_slot : (w : ℕ) → None ≡ Some (InHand w) → ⊥
 no_slot w e = cc
@@ -9,18 +9,18 @@ owed_claim next w [] h = absurd (omega arith)
 owed_claim zero w (x ∷ xs) h = omega arith
 owed_claim (suc n) w (x ∷ xs) h = let k = owed_claim n w xs (omega arith) in omega arith
 
-owed_settle : (next job w : ℕ) (x : Slot) (slots : List Slot) → slice_get slots job ≡ Some (InHand w) → job < next → weight x ≡ 0 → owed next (set slots job x) + 1 ≡ owed next slots
+owed_settle : (next job w : ℕ) (x : Slot) (slots : List Slot) → slice_get slots job ≡ Some (InHand w) → job < next → events_left x ≡ 0 → owed next (set slots job x) + 1 ≡ owed next slots
 owed_settle next job w x [] e h z = absurd (no_slot w e)
 owed_settle zero job w x (y ∷ ys) e h z = absurd (omega arith)
-owed_settle (suc n) zero w x (y ∷ ys) e h z = let q : weight y ≡ 1 = ap weight (same_slot y (InHand w) e) in omega arith
+owed_settle (suc n) zero w x (y ∷ ys) e h z = let q : events_left y ≡ 1 = ap events_left (same_slot y (InHand w) e) in omega arith
 owed_settle (suc n) (suc job) w x (y ∷ ys) e h z = let k = owed_settle n job w x ys e (omega arith) z in omega arith
 
 -- what was not handed out is open, since the machine is a replay
-pub is_fresh : (m : Machine) (h : List Event) → m ≡ replay (start (length m.slots)) h → IsLegal (start (length m.slots)) h → IsFresh m
-is_fresh m h e l = subst IsFresh (sym e) (fresh (start (length m.slots)) h l (fresh_start (length m.slots)))
+pub is_fresh : (m : Machine) (h : List Event) → m ≡ replay (start (length m.slots)) h → IsLegal (start (length m.slots)) h → RestIsOpen m
+is_fresh m h e l = subst RestIsOpen (sym e) (fresh (start (length m.slots)) h l (fresh_start (length m.slots)))
 
 -- a job in hand was handed out
-pub below_next : (m : Machine) (job w : ℕ) → IsFresh m → slice_get m.slots job ≡ Some (InHand w) → job < m.next
+pub below_next : (m : Machine) (job w : ℕ) → RestIsOpen m → slice_get m.slots job ≡ Some (InHand w) → job < m.next
 below_next m job w f at = lt_of_not-le (λ le. open_not_held w (sym (f job le (slice_get_within m.slots job (InHand w) at)) ∙ at))
 
 module _ {Out : Type 0} where
@@ -53,7 +53,7 @@ module _ {Out : Type 0} where
       )
 
   -- a job in hand becomes x, with its result
-  pub sound_settle : (m : Machine) (h : List Event) (r r' : List (Option Out)) (c job w : ℕ) (x : Slot) (y : Option Out) (e : Event) → Sound m h r c → slice_get m.slots job ≡ Some (InHand w) → weight x ≡ 0 → HasResult x y
+  pub sound_settle : (m : Machine) (h : List Event) (r r' : List (Option Out)) (c job w : ℕ) (x : Slot) (y : Option Out) (e : Event) → Sound m h r c → slice_get m.slots job ≡ Some (InHand w) → events_left x ≡ 0 → HasResult x y
       → length r' ≡ length r → slice_get r' job ≡ Some y → ((i : ℕ) → i ≢ job → slice_get r' i ≡ slice_get r i)
       → after m e ≡ record { next = m.next; slots = slice_set m.slots job x } → IsLegal m (e ∷ [])
       → (length h < c) × Sound (record { next = m.next; slots = slice_set m.slots job x }) (h ++ e ∷ []) r' c

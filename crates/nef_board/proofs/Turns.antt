@@ -1,5 +1,5 @@
 -- Taking the turn and freeing it keep the rule.
-use Rattle.nef_board.proofs.Prelude.{◌≡◌, ℕ, ◌+◌, ◌<◌, ◌≤◌, ◌≢◌, List, [], ◌∷◌, ◌++◌, length, refl, ap, sym, ◌∙◌, Option, Some, None, slice_get, slice_set, slice_index, arith, ◌⊎◌, inl, inr, Bool, true, false, subst, set, IfSome, MatchBool, ◌==◌, length-set, get_or-set_same, set-get_or, slice_get_within, Me, rest, step, Act, keeps, takes, gives, stepped, Allows, Splits, Joins, Final, Seen, Valid, carried_after, at_set, set_here, set_else, set_again, State as Machine, after, Slot, Open, InHand, Done, Claim, Deposit, GiveBack, get_set_here, get_set_other, same_or_not, within, at_length, below_last, open_not_held, open_not_done, held_not_done, done_not_held, held_by, not_among, among, claimed, past_is_same, BoardState, deposited, Fits, fits_cut, fits_new, fits_beside, fits_taken_in, fits_at_end, fits_holding, fits_deposited, fits_gave_back, fits_moved, held_in, LockView, IsSound, seeing, claimed_view, ended_view, deposited_view, back_view, job_in, cut, new_view, taken_in, spent, IsPlaced, IsThere, SawIs, Shows, Kept, HasTurn, Found, Took, Claimed, Ended, Deposited, GaveBack, AllDone, ResultsFit, IsClosedWith, length-append, at_longer}
+use Rattle.nef_board.proofs.Prelude.{◌≡◌, ℕ, ◌+◌, ◌<◌, ◌≤◌, ◌≢◌, List, [], ◌∷◌, ◌++◌, length, refl, ap, sym, ◌∙◌, Option, Some, None, slice_get, slice_set, slice_index, arith, ◌⊎◌, inl, inr, Bool, true, false, subst, set, IfSome, MatchBool, ◌==◌, length-set, get_or-set_same, set-get_or, slice_get_within, Me, rest, step, Act, keeps, takes, gives, stepped, Allows, Splits, Joins, Final, Seen, Valid, carried_after, at_set, set_here, set_else, set_again, State as Machine, after, Slot, Open, InHand, Done, Claim, Deposit, GiveBack, get_set_here, get_set_other, same_or_not, within, at_length, below_last, open_not_held, open_not_done, held_not_done, done_not_held, held_by, not_among, among, claimed, past_is_same, BoardState, deposited, Fits, fits_cut, fits_new, fits_beside, fits_taken_in, fits_at_end, fits_holding, fits_deposited, fits_gave_back, fits_moved, held_in, LockView, IsSound, seeing, claimed_view, ended_view, deposited_view, back_view, job_in, cut, new_view, taken_in, spent, IsStateAt, IsTurnHeld, SawIs, ShowsMachine, Kept, HasTurn, FoundState, TookTurn, Claimed, SawEnd, Deposited, GaveBack, AllDone, ResultsFit, IsClosedWith, length-append, at_longer}
 use Rattle.std.proofs.lemmas.Bool.Decides.{nat_tests}
 use mathlib.Core.Option.{some, none, some-injective}
 use prog.Atomic.{either}
@@ -35,10 +35,10 @@ pub slot_held : {Out : Type 0} (v : LockView Out) (w : Me (BoardState Out) (Lock
 slot_held {Out = Out} v w turn = (turn.0, turn.2 ∙ ap (λ (l : List (ℕ × BoardState Out)). (0, turn.0) ∷ l) (sym (ap rest turn.2)))
 
 -- what is lent of the slot is the state that was found
-pub state_held : {Out : Type 0} (v : LockView Out) (w : Me (BoardState Out) (LockView Out)) (b : BoardState Out) → HasTurn v w → w.1 ≡ (0, b) ∷ rest w.1 → (w.0 ≡ seeing v b) × (w.1 ≡ (0, b) ∷ []) × Found v.known b
+pub state_held : {Out : Type 0} (v : LockView Out) (w : Me (BoardState Out) (LockView Out)) (b : BoardState Out) → HasTurn v w → w.1 ≡ (0, b) ∷ rest w.1 → (w.0 ≡ seeing v b) × (w.1 ≡ (0, b) ∷ []) × FoundState v.known b
 state_held {Out = Out} v w b turn slot =
     let same : turn.0 ≡ b = ap (first_slot b) (sym turn.2 ∙ slot) in
-    subst (λ (z : BoardState Out). (w.0 ≡ seeing v z) × (w.1 ≡ (0, z) ∷ []) × Found v.known z) same (turn.1, turn.2, turn.3)
+    subst (λ (z : BoardState Out). (w.0 ≡ seeing v z) × (w.1 ≡ (0, z) ∷ []) × FoundState v.known z) same (turn.1, turn.2, turn.3)
 
 -- the next job is not among the deposits that are done
 pub not_among_next : (m : Machine) (ds : List (ℕ × ℕ)) → slice_get m.slots m.next ≡ Some Open → AllDone m.slots ds → has_job m.next ds ≡ false
@@ -58,7 +58,7 @@ module _ {Out : Type 0} (right : ℕ → Out → Type 0) (jobs seats : ℕ) wher
       ]
 
   -- the turn is taken
-  pub takes_turn : (s : State (BoardState Out) (LockView Out)) (k : ℕ) (v : LockView Out) (b : BoardState Out) → Shows right jobs seats None b s → get_elem? s.views k ≡ some v → v.known.live ≡ true → Shows right jobs seats (Some k) b (stepped s 0 1 k [] (seeing v b) (takes 0 b))
+  pub takes_turn : (s : State (BoardState Out) (LockView Out)) (k : ℕ) (v : LockView Out) (b : BoardState Out) → ShowsMachine right jobs seats None b s → get_elem? s.views k ≡ some v → v.known.live ≡ true → ShowsMachine right jobs seats (Some k) b (stepped s 0 1 k [] (seeing v b) (takes 0 b))
   takes_turn s k v b sh at live =
       let fv = sh.views k v at live in
       let len : length (set s.views k (seeing v b)) ≡ length s.views = length-set s.views k (seeing v b) in
@@ -86,8 +86,8 @@ module _ {Out : Type 0} (right : ℕ → Out → Type 0) (jobs seats : ℕ) wher
       }
 
   -- a try at the turn, by what the word is
-  tries : (s : State (BoardState Out) (LockView Out)) (k : ℕ) (v : LockView Out) (turn : Option ℕ) (b : BoardState Out) → Shows right jobs seats turn b s → get_elem? s.views k ≡ some v → v.known.live ≡ true
-      → (w : LockView Out) × (a : Act (BoardState Out)) × Valid s.homes [] a × Kept jobs seats right (stepped s 0 (either (slice_index s.words 0 == 0) 1 (slice_index s.words 0)) k [] w a) × MatchBool (slice_index s.words 0 == 0) ((c : BoardState Out) × (w ≡ seeing v c) × (carried_after [] a ≡ (0, c) ∷ []) × Found v.known c) ((w ≡ v) × (carried_after [] a ≡ []))
+  tries : (s : State (BoardState Out) (LockView Out)) (k : ℕ) (v : LockView Out) (turn : Option ℕ) (b : BoardState Out) → ShowsMachine right jobs seats turn b s → get_elem? s.views k ≡ some v → v.known.live ≡ true
+      → (w : LockView Out) × (a : Act (BoardState Out)) × Valid s.homes [] a × Kept jobs seats right (stepped s 0 (either (slice_index s.words 0 == 0) 1 (slice_index s.words 0)) k [] w a) × MatchBool (slice_index s.words 0 == 0) ((c : BoardState Out) × (w ≡ seeing v c) × (carried_after [] a ≡ (0, c) ∷ []) × FoundState v.known c) ((w ≡ v) × (carried_after [] a ≡ []))
   tries s k v None b sh at live =
       let is : (slice_index s.words 0 == 0) ≡ true = let z = sh.placed.0 in grind (arith, nat_tests) in
       let f = (sh.views k v at live).0 in (
@@ -113,8 +113,8 @@ module _ {Out : Type 0} (right : ℕ → Out → Type 0) (jobs seats : ℕ) wher
       let same_views : slice_set s.views k v ≡ s.views = set_again s.views k v at in
       (v, keeps, tt, rw (is, same_words, same_views) (Some other, b, sh), rw is (refl, refl))
 
-  pub takes_at : (slots k : ℕ) (v : LockView Out) (l : List (ℕ × BoardState Out)) → l ≡ [] → v.known.live ≡ true → Allows (Kept jobs seats right) slots k (v, l) 0 (λ n. either (n == 0) 1 n) (Took (step slots 0 0 1 none) (v, l))
-  takes_at slots k v l e live = subst (λ c. Allows (Kept jobs seats right) slots k (v, c) 0 (λ n. either (n == 0) 1 n) (Took (step slots 0 0 1 none) (v, c))) (sym e) (λ s kept len at small. tries s k v kept.0 kept.1 kept.2 at live)
+  pub takes_at : (slots k : ℕ) (v : LockView Out) (l : List (ℕ × BoardState Out)) → l ≡ [] → v.known.live ≡ true → Allows (Kept jobs seats right) slots k (v, l) 0 (λ n. either (n == 0) 1 n) (TookTurn (step slots 0 0 1 none) (v, l))
+  takes_at slots k v l e live = subst (λ c. Allows (Kept jobs seats right) slots k (v, c) 0 (λ n. either (n == 0) 1 n) (TookTurn (step slots 0 0 1 none) (v, c))) (sym e) (λ s kept len at small. tries s k v kept.0 kept.1 kept.2 at live)
 
   none_not_this : (b c : BoardState Out) (o : Option (BoardState Out)) → o ≡ None → o ≡ Some c → ⊥
   none_not_this b c o p q = cc
@@ -132,13 +132,13 @@ module _ {Out : Type 0} (right : ℕ → Out → Type 0) (jobs seats : ℕ) wher
       ]
 
   -- the turn is freed, with another state
-  frees_turn : (s : State (BoardState Out) (LockView Out)) (turn : Option ℕ) (k : ℕ) (v w : LockView Out) (b b' : BoardState Out) → Shows right jobs seats turn b s → get_elem? s.views k ≡ some v → v.known.live ≡ true → v.saw ≡ Some b
+  frees_turn : (s : State (BoardState Out) (LockView Out)) (turn : Option ℕ) (k : ℕ) (v w : LockView Out) (b b' : BoardState Out) → ShowsMachine right jobs seats turn b s → get_elem? s.views k ≡ some v → v.known.live ≡ true → v.saw ≡ Some b
       → w.known.live ≡ true → w.saw ≡ None → IsSound b' → length b'.machine.slots ≡ jobs
       → ((job : ℕ) (out : Out) → slice_get b'.results.items job ≡ Some (Some out) → right job out)
       → Fits jobs seats b'.machine (length s.views) k w.known
       → ((place : ℕ) (u : LockView Out) → place ≢ k → Fits jobs seats b.machine (length s.views) place u.known → Fits jobs seats b'.machine (length s.views) place u.known)
       → ((job n : ℕ) → slice_get b'.machine.slots job ≡ Some (InHand n) → ((n ≡ k) × (w.known.hand ≡ Some job)) ⊎ ((slice_get b.machine.slots job ≡ Some (InHand n)) × (v.known.hand ≡ Some job → w.known.hand ≡ Some job)))
-      → Shows right jobs seats None b' (stepped s 0 0 k ((0, b') ∷ []) w gives)
+      → ShowsMachine right jobs seats None b' (stepped s 0 0 k ((0, b') ∷ []) w gives)
   frees_turn s turn k v w b b' sh at live saw alive away sound count fit mine others held =
       let fv = sh.views k v at live in
       let alone = (mine_is turn b b k v fv.1 saw).1 in
@@ -170,9 +170,9 @@ module _ {Out : Type 0} (right : ℕ → Out → Type 0) (jobs seats : ℕ) wher
       }
 
   -- the turn is freed after a claim that got a job
-  pub claim_freed : (s : State (BoardState Out) (LockView Out)) (turn : Option ℕ) (k : ℕ) (v : LockView Out) (b b' : BoardState Out) → Shows right jobs seats turn b s → get_elem? s.views k ≡ some (seeing v b) → v.known.live ≡ true → v.known.hand ≡ None
+  pub claim_freed : (s : State (BoardState Out) (LockView Out)) (turn : Option ℕ) (k : ℕ) (v : LockView Out) (b b' : BoardState Out) → ShowsMachine right jobs seats turn b s → get_elem? s.views k ≡ some (seeing v b) → v.known.live ≡ true → v.known.hand ≡ None
       → IsSound b' → b'.machine ≡ after b.machine (Claim v.known.number) → b'.results.items ≡ b.results.items → b.machine.next < length b.machine.slots
-      → Shows right jobs seats None b' (stepped s 0 0 k ((0, b') ∷ []) (claimed_view (seeing v b)) gives)
+      → ShowsMachine right jobs seats None b' (stepped s 0 0 k ((0, b') ∷ []) (claimed_view (seeing v b)) gives)
   claim_freed s turn k v b b' sh at live hand sound machine results free =
       let m : Machine = b.machine in
       let f = (sh.views k (seeing v b) at live).0 in
@@ -197,7 +197,7 @@ module _ {Out : Type 0} (right : ℕ → Out → Type 0) (jobs seats : ℕ) wher
   claims_at slots k v b b' live hand sound machine results free s kept len at small =
       let saw = (kept.2.views k (seeing v b) at live).1 in
       let same : kept.1 ≡ b = (mine_is kept.0 kept.1 b k (seeing v b) saw refl).0 in
-      let sh : Shows right jobs seats kept.0 b s = subst (λ (z : BoardState Out). Shows right jobs seats kept.0 z s) same kept.2 in
+      let sh : ShowsMachine right jobs seats kept.0 b s = subst (λ (z : BoardState Out). ShowsMachine right jobs seats kept.0 z s) same kept.2 in
       (claimed_view (seeing v b), gives, tt, (None, b', claim_freed s kept.0 k v b b' sh at live hand sound machine results free), (refl, refl))
 
   -- the same, with what the code knows as equations
@@ -208,9 +208,9 @@ module _ {Out : Type 0} (right : ℕ → Out → Type 0) (jobs seats : ℕ) wher
       subst (λ z. P z l) (sym e) (subst (λ c. P (seeing v b) c) (sym q) (claims_at slots k v b b' live hand sound machine results free))
 
   -- the turn is freed after a claim that got none
-  pub end_freed : (s : State (BoardState Out) (LockView Out)) (turn : Option ℕ) (k : ℕ) (v : LockView Out) (b b' : BoardState Out) → Shows right jobs seats turn b s → get_elem? s.views k ≡ some (seeing v b) → v.known.live ≡ true
+  pub end_freed : (s : State (BoardState Out) (LockView Out)) (turn : Option ℕ) (k : ℕ) (v : LockView Out) (b b' : BoardState Out) → ShowsMachine right jobs seats turn b s → get_elem? s.views k ≡ some (seeing v b) → v.known.live ≡ true
       → IsSound b' → b'.machine ≡ b.machine → b'.results.items ≡ b.results.items → length b.machine.slots ≤ b.machine.next
-      → Shows right jobs seats None b' (stepped s 0 0 k ((0, b') ∷ []) (ended_view (seeing v b)) gives)
+      → ShowsMachine right jobs seats None b' (stepped s 0 0 k ((0, b') ∷ []) (ended_view (seeing v b)) gives)
   end_freed s turn k v b b' sh at live sound same results past =
       let f = (sh.views k (seeing v b) at live).0 in
       frees_turn s turn k (seeing v b) (ended_view (seeing v b)) b b' sh at live refl live refl sound
@@ -221,11 +221,11 @@ module _ {Out : Type 0} (right : ℕ → Out → Type 0) (jobs seats : ℕ) wher
       (λ job n e. inr (ap (λ (z : Machine). slice_get z.slots job) (sym same) ∙ e, (λ h. h)))
 
   -- the turn is freed after a job in hand became x
-  settle_freed : (s : State (BoardState Out) (LockView Out)) (turn : Option ℕ) (k : ℕ) (v w : LockView Out) (b b' : BoardState Out) (job : ℕ) (x : Slot) → Shows right jobs seats turn b s → get_elem? s.views k ≡ some (seeing v b) → v.known.live ≡ true → v.known.hand ≡ Some job
+  settle_freed : (s : State (BoardState Out) (LockView Out)) (turn : Option ℕ) (k : ℕ) (v w : LockView Out) (b b' : BoardState Out) (job : ℕ) (x : Slot) → ShowsMachine right jobs seats turn b s → get_elem? s.views k ≡ some (seeing v b) → v.known.live ≡ true → v.known.hand ≡ Some job
       → w.known.live ≡ true → w.saw ≡ None → IsSound b' → b'.machine ≡ record { next = b.machine.next; slots = slice_set b.machine.slots job x } → ((n : ℕ) → Some x ≡ Some (InHand n) → ⊥)
       → ((i : ℕ) (out : Out) → slice_get b'.results.items i ≡ Some (Some out) → right i out)
       → Fits jobs seats (record { next = b.machine.next; slots = slice_set b.machine.slots job x }) (length s.views) k w.known
-      → Shows right jobs seats None b' (stepped s 0 0 k ((0, b') ∷ []) w gives)
+      → ShowsMachine right jobs seats None b' (stepped s 0 0 k ((0, b') ∷ []) w gives)
   settle_freed s turn k v w b b' job x sh at live hand alive away sound is not_held fit mine =
       let m : Machine = b.machine in
       let f = (sh.views k (seeing v b) at live).0 in
@@ -245,9 +245,9 @@ module _ {Out : Type 0} (right : ℕ → Out → Type 0) (jobs seats : ℕ) wher
   some_out : (a c : Out) → Some (Some a) ≡ Some (Some c) → a ≡ c
   some_out a c e = cc
 
-  pub deposit_freed : (s : State (BoardState Out) (LockView Out)) (turn : Option ℕ) (k : ℕ) (v : LockView Out) (b b' : BoardState Out) (job : ℕ) (out : Out) → Shows right jobs seats turn b s → get_elem? s.views k ≡ some (seeing v b) → v.known.live ≡ true → v.known.hand ≡ Some job → right job out
+  pub deposit_freed : (s : State (BoardState Out) (LockView Out)) (turn : Option ℕ) (k : ℕ) (v : LockView Out) (b b' : BoardState Out) (job : ℕ) (out : Out) → ShowsMachine right jobs seats turn b s → get_elem? s.views k ≡ some (seeing v b) → v.known.live ≡ true → v.known.hand ≡ Some job → right job out
       → IsSound b' → b'.machine ≡ after b.machine (Deposit v.known.number job) → b'.results.items ≡ slice_set b.results.items job (Some out)
-      → Shows right jobs seats None b' (stepped s 0 0 k ((0, b') ∷ []) (deposited_view (seeing v b)) gives)
+      → ShowsMachine right jobs seats None b' (stepped s 0 0 k ((0, b') ∷ []) (deposited_view (seeing v b)) gives)
   deposit_freed s turn k v b b' job out sh at live hand fits sound machine results =
       let m : Machine = b.machine in
       let f = (sh.views k (seeing v b) at live).0 in
@@ -265,9 +265,9 @@ module _ {Out : Type 0} (right : ℕ → Out → Type 0) (jobs seats : ℕ) wher
       ])
       (subst (λ (n : ℕ). Fits jobs seats (record { next = m.next; slots = slice_set m.slots job (Done k) }) (length s.views) k (deposited v.known n)) (sym (job_is v.known.hand job hand)) (fits_deposited jobs seats m (length s.views) k v.known job hand f))
 
-  pub back_freed : (s : State (BoardState Out) (LockView Out)) (turn : Option ℕ) (k : ℕ) (v : LockView Out) (b b' : BoardState Out) (job : ℕ) → Shows right jobs seats turn b s → get_elem? s.views k ≡ some (seeing v b) → v.known.live ≡ true → v.known.hand ≡ Some job
+  pub back_freed : (s : State (BoardState Out) (LockView Out)) (turn : Option ℕ) (k : ℕ) (v : LockView Out) (b b' : BoardState Out) (job : ℕ) → ShowsMachine right jobs seats turn b s → get_elem? s.views k ≡ some (seeing v b) → v.known.live ≡ true → v.known.hand ≡ Some job
       → IsSound b' → b'.machine ≡ after b.machine (GiveBack v.known.number job) → b'.results.items ≡ b.results.items
-      → Shows right jobs seats None b' (stepped s 0 0 k ((0, b') ∷ []) (back_view (seeing v b)) gives)
+      → ShowsMachine right jobs seats None b' (stepped s 0 0 k ((0, b') ∷ []) (back_view (seeing v b)) gives)
   back_freed s turn k v b b' job sh at live hand sound machine results =
       let m : Machine = b.machine in
       let f = (sh.views k (seeing v b) at live).0 in
@@ -277,18 +277,18 @@ module _ {Out : Type 0} (right : ℕ → Out → Type 0) (jobs seats : ℕ) wher
 
   -- a store that frees the turn, from what holds of the state that was seen
   frees_at : (Done' : LockView Out → LockView Out) (slots k : ℕ) (u : LockView Out) (l : List (ℕ × BoardState Out)) (v : LockView Out) (b b' : BoardState Out) → u ≡ seeing v b → l ≡ (0, b') ∷ [] → v.known.live ≡ true
-      → ((s : State (BoardState Out) (LockView Out)) (turn : Option ℕ) → Shows right jobs seats turn b s → get_elem? s.views k ≡ some (seeing v b) → Shows right jobs seats None b' (stepped s 0 0 k ((0, b') ∷ []) (Done' (seeing v b)) gives))
+      → ((s : State (BoardState Out) (LockView Out)) (turn : Option ℕ) → ShowsMachine right jobs seats turn b s → get_elem? s.views k ≡ some (seeing v b) → ShowsMachine right jobs seats None b' (stepped s 0 0 k ((0, b') ∷ []) (Done' (seeing v b)) gives))
       → Allows (Kept jobs seats right) slots k (u, l) 0 (λ n. 0) (λ n w. (w.0 ≡ Done' u) × (w.1 ≡ []))
   frees_at Done' slots k u l v b b' e q live shows =
       let P : LockView Out → List (ℕ × BoardState Out) → Type 0 = λ z c. Allows (Kept jobs seats right) slots k (z, c) 0 (λ n. 0) (λ n w. (w.0 ≡ Done' z) × (w.1 ≡ [])) in
       subst (λ z. P z l) (sym e) (subst (λ c. P (seeing v b) c) (sym q) (λ s kept len at small.
       let saw = (kept.2.views k (seeing v b) at live).1 in
       let same : kept.1 ≡ b = (mine_is kept.0 kept.1 b k (seeing v b) saw refl).0 in
-      let sh : Shows right jobs seats kept.0 b s = subst (λ (z : BoardState Out). Shows right jobs seats kept.0 z s) same kept.2 in
+      let sh : ShowsMachine right jobs seats kept.0 b s = subst (λ (z : BoardState Out). ShowsMachine right jobs seats kept.0 z s) same kept.2 in
       (Done' (seeing v b), gives, tt, (None, b', shows s kept.0 sh at), (refl, refl))))
 
   pub ends_of : (slots k : ℕ) (u : LockView Out) (l : List (ℕ × BoardState Out)) (v : LockView Out) (b b' : BoardState Out) → u ≡ seeing v b → l ≡ (0, b') ∷ [] → v.known.live ≡ true → IsSound b' → b'.machine ≡ after b.machine (Claim v.known.number) → b'.results.items ≡ b.results.items → length b.machine.slots ≤ b.machine.next
-      → Allows (Kept jobs seats right) slots k (u, l) 0 (λ n. 0) (λ n. Ended (step slots 0 0 0 none) (u, l) 0)
+      → Allows (Kept jobs seats right) slots k (u, l) 0 (λ n. 0) (λ n. SawEnd (step slots 0 0 0 none) (u, l) 0)
   ends_of slots k u l v b b' e q live sound machine results past = frees_at ended_view slots k u l v b b' e q live (λ s turn sh at. end_freed s turn k v b b' sh at live sound (machine ∙ past_is_same b.machine v.known.number past) results past)
 
   pub deposits_of : (slots k : ℕ) (u : LockView Out) (l : List (ℕ × BoardState Out)) (v : LockView Out) (b b' : BoardState Out) (job : ℕ) (out : Out) → u ≡ seeing v b → l ≡ (0, b') ∷ [] → v.known.live ≡ true → v.known.hand ≡ Some job → right job out → IsSound b' → b'.machine ≡ after b.machine (Deposit v.known.number job) → b'.results.items ≡ slice_set b.results.items job (Some out)
@@ -304,15 +304,15 @@ module _ {Out : Type 0} (right : ℕ → Out → Type 0) (jobs seats : ℕ) wher
   saw_moved (Some k) b place v w e h = ((λ q. e ∙ h.0 q), (λ n. e ∙ h.1 n))
 
   -- a new pass, at the place behind all others
-  saw_new : (turn : Option ℕ) (b : BoardState Out) (count : ℕ) (w : LockView Out) → w.saw ≡ None → IsThere turn count → SawIs turn b count w
+  saw_new : (turn : Option ℕ) (b : BoardState Out) (count : ℕ) (w : LockView Out) → w.saw ≡ None → IsTurnHeld turn count → SawIs turn b count w
   saw_new None b count w e n = e
   saw_new (Some k) b count w e n = ((λ q. absurd (omega arith)), (λ m. e))
 
-  there_more : (turn : Option ℕ) (count : ℕ) → IsThere turn count → IsThere turn (count + 1)
+  there_more : (turn : Option ℕ) (count : ℕ) → IsTurnHeld turn count → IsTurnHeld turn (count + 1)
   there_more None count h = tt
   there_more (Some k) count h = omega arith
 
-  placed_same : (turn : Option ℕ) (b : BoardState Out) (s t : State (BoardState Out) (LockView Out)) → t.words ≡ s.words → t.homes ≡ s.homes → IsPlaced turn b s → IsPlaced turn b t
+  placed_same : (turn : Option ℕ) (b : BoardState Out) (s t : State (BoardState Out) (LockView Out)) → t.words ≡ s.words → t.homes ≡ s.homes → IsStateAt turn b s → IsStateAt turn b t
   placed_same None b s t e h p = (ap (λ (l : List ℕ). slice_index l 0) e ∙ p.0, ap (λ l. get_elem? l 0) h ∙ p.1)
   placed_same (Some k) b s t e h p = (ap (λ (l : List ℕ). slice_index l 0) e ∙ p.0, ap (λ l. get_elem? l 0) h ∙ p.1)
 
@@ -329,8 +329,8 @@ module _ {Out : Type 0} (right : ℕ → Out → Type 0) (jobs seats : ℕ) wher
         | inr n ↦ (u, set_else views k place w n ∙ h, live, hand)
       ]
 
-  pub split_shown : (turn : Option ℕ) (b : BoardState Out) (s : State (BoardState Out) (LockView Out)) (k : ℕ) (v : LockView Out) → Shows right jobs seats turn b s → get_elem? s.views k ≡ some v → v.known.live ≡ true → 0 < v.known.spare
-      → Shows right jobs seats turn b (record { words = s.words; homes = s.homes; views = slice_set s.views k (cut v) ++ new_view v ∷ [] })
+  pub split_shown : (turn : Option ℕ) (b : BoardState Out) (s : State (BoardState Out) (LockView Out)) (k : ℕ) (v : LockView Out) → ShowsMachine right jobs seats turn b s → get_elem? s.views k ≡ some v → v.known.live ≡ true → 0 < v.known.spare
+      → ShowsMachine right jobs seats turn b (record { words = s.words; homes = s.homes; views = slice_set s.views k (cut v) ++ new_view v ∷ [] })
   split_shown turn b s k v sh at live left =
       let m : Machine = b.machine in
       let fv = sh.views k v at live in
@@ -370,8 +370,8 @@ module _ {Out : Type 0} (right : ℕ → Out → Type 0) (jobs seats : ℕ) wher
   pub splits : (k : ℕ) (v : LockView Out) → v.known.live ≡ true → 0 < v.known.spare → Splits (Kept jobs seats right) k v (cut v) (new_view v)
   splits k v live left s kept at = (kept.0, kept.1, split_shown kept.0 kept.1 s k v kept.2 at live left)
 
-  pub join_shown : (turn : Option ℕ) (b : BoardState Out) (s : State (BoardState Out) (LockView Out)) (k : ℕ) (v : LockView Out) (other : ℕ) (w : LockView Out) → Shows right jobs seats turn b s → get_elem? s.views k ≡ some v → v.known.live ≡ true → other ≢ k → get_elem? (slice_set s.views k (taken_in v w)) other ≡ some w → w.known.live ≡ true → w.known.hand ≡ None
-      → Shows right jobs seats turn b (record { words = s.words; homes = s.homes; views = slice_set (slice_set s.views k (taken_in v w)) other spent })
+  pub join_shown : (turn : Option ℕ) (b : BoardState Out) (s : State (BoardState Out) (LockView Out)) (k : ℕ) (v : LockView Out) (other : ℕ) (w : LockView Out) → ShowsMachine right jobs seats turn b s → get_elem? s.views k ≡ some v → v.known.live ≡ true → other ≢ k → get_elem? (slice_set s.views k (taken_in v w)) other ≡ some w → w.known.live ≡ true → w.known.hand ≡ None
+      → ShowsMachine right jobs seats turn b (record { words = s.words; homes = s.homes; views = slice_set (slice_set s.views k (taken_in v w)) other spent })
   join_shown turn b s k v other w sh at live apart there awake empty =
       let m : Machine = b.machine in
       let fv = sh.views k v at live in
@@ -416,14 +416,14 @@ module _ {Out : Type 0} (right : ℕ → Out → Type 0) (jobs seats : ℕ) wher
       let same : kept.1 ≡ b = (mine_is kept.0 kept.1 b id (seeing v b) saw refl).0 in
       subst (λ (z : BoardState Out). (job : ℕ) (out : Out) → slice_get z.results.items job ≡ Some (Some out) → right job out) same kept.2.fit
 
-pub closed_done : {Out : Type 0} (v : View) (b : BoardState Out) → Found v b → (job : ℕ) → has_job job v.deposits ≡ true → (out : Out) × (slice_get b.results.items job ≡ Some (Some out))
+pub closed_done : {Out : Type 0} (v : View) (b : BoardState Out) → FoundState v b → (job : ℕ) → has_job job v.deposits ≡ true → (out : Out) × (slice_get b.results.items job ≡ Some (Some out))
 closed_done v b f job h =
     let d = among b.machine.slots job v.deposits h f.deposits in
     let o = f.sound.fits job (Done d.0) d.1 in
     (o.2.0, o.1 ∙ ap Some o.2.1)
 
 -- the history that was seen under the turn accounts for the results
-pub closed_with : {Out : Type 0} (jobs : ℕ) (v : View) (b : BoardState Out) → Found v b → v.jobs ≡ jobs → IsClosedWith jobs v.deposits b.results.items
+pub closed_with : {Out : Type 0} (jobs : ℕ) (v : View) (b : BoardState Out) → FoundState v b → v.jobs ≡ jobs → IsClosedWith jobs v.deposits b.results.items
 closed_with jobs v b f count =
     let all : length b.machine.slots ≡ jobs = f.jobs_are ∙ count in
     subst (λ (n : ℕ). IsClosedWith n v.deposits b.results.items) all (

@@ -8,16 +8,16 @@ use Rattle.nef_core.specs.Results.{ResultsFit}
 use Rattle.nef_board.specs.declared.state.BoardState.{BoardState}
 
 -- how many events may still come for a slot that was drawn
-abbrev pub weight : Slot → ℕ
-weight Open = 0
-weight (InHand w) = 1
-weight (Done w) = 0
+abbrev pub events_left : Slot → ℕ
+events_left Open = 0
+events_left (InHand w) = 1
+events_left (Done w) = 0
 
 -- how many events may still come where the first `drawn` numbers were handed out
 abbrev pub owed : ℕ → List Slot → ℕ
 owed drawn [] = 0
 owed zero (x ∷ xs) = 2 + owed zero xs
-owed (suc drawn) (x ∷ xs) = weight x + owed drawn xs
+owed (suc drawn) (x ∷ xs) = events_left x + owed drawn xs
 
 -- the machine is the replay of a legal history, the results fit it, and the history has room for all events to come
 pub record Sound {Out : Type 0} (m : Machine) (history : List Event) (results : List (Option Out)) (capacity : ℕ) : Type 0 where

@@ -11,23 +11,23 @@ job_in (Some job) = job
 
 module _ {Out : Type 0} where
   -- the view of a pass that hasn't the turn
-  abbrev pub away : View → LockView Out
-  away known = record { known = known; saw = None }
+  abbrev pub without_turn : View → LockView Out
+  without_turn known = record { known = known; saw = None }
 
   abbrev pub first_view : ℕ → ℕ → LockView Out
-  first_view jobs seats = away (passes.first_view jobs seats)
+  first_view jobs seats = without_turn (passes.first_view jobs seats)
 
   abbrev pub cut : LockView Out → LockView Out
   cut v = record { known = passes.cut v.known; saw = v.saw }
 
   abbrev pub new_view : LockView Out → LockView Out
-  new_view v = away (passes.new_view v.known)
+  new_view v = without_turn (passes.new_view v.known)
 
   abbrev pub taken_in : LockView Out → LockView Out → LockView Out
   taken_in v w = record { known = passes.taken_in v.known w.known; saw = v.saw }
 
   abbrev pub spent : LockView Out
-  spent = away passes.spent
+  spent = without_turn passes.spent
 
   -- the view of a pass that took the turn, with the state that it found
   abbrev pub seeing : LockView Out → BoardState Out → LockView Out
@@ -39,13 +39,13 @@ module _ {Out : Type 0} where
 
   -- the view of a pass that freed the turn, after each kind of event
   abbrev pub claimed_view : LockView Out → LockView Out
-  claimed_view v = away (passes.holding v.known (seen_next v.saw))
+  claimed_view v = without_turn (passes.holding v.known (seen_next v.saw))
 
   abbrev pub ended_view : LockView Out → LockView Out
-  ended_view v = away (passes.at_end v.known)
+  ended_view v = without_turn (passes.at_end v.known)
 
   abbrev pub deposited_view : LockView Out → LockView Out
-  deposited_view v = away (passes.deposited v.known (job_in v.known.hand))
+  deposited_view v = without_turn (passes.deposited v.known (job_in v.known.hand))
 
   abbrev pub back_view : LockView Out → LockView Out
-  back_view v = away (passes.gave_back v.known)
+  back_view v = without_turn (passes.gave_back v.known)

@@ -1,6 +1,6 @@
 //! The lock board and its passes, what holds between any two steps, and what holds on every schedule.
 ghost use Rattle.std.specs.Prelude.{◌≡◌, true, false, ◌+◌, ◌<◌, ◌≤◌, IfOk, Some, None, [], ◌∷◌, ◌==◌};
-ghost use Rattle.nef_board.specs.Rule.{HasTurn, Took, Kept, Claimed, Ended, Deposited, GaveBack};
+ghost use Rattle.nef_board.specs.Rule.{HasTurn, TookTurn, Kept, Claimed, SawEnd, Deposited, GaveBack};
 ghost use Rattle.atomic_table.specs.Table.{Allows, step};
 ghost use mathlib.Core.Option.{none};
 ghost use prog.Atomic.{either};
@@ -112,7 +112,7 @@ fn take_turn<R: Wait, T, K, P: TableRule<BoardState<T>, LockView<T>, K>>(
     requires of { seat.old.table_id ≡ shared.now.table_id }
     requires word { 0 < shared.now.table_id.words }
     requires free { seat.old.me.1 ≡ [] }
-    requires rule { Allows (P.holds shared.now.key) shared.now.table_id.slots seat.old.id seat.old.me 0 (λ n. either (n == 0) 1 n) (Took (step shared.now.table_id.slots 0 0 1 none) seat.old.me) }
+    requires rule { Allows (P.holds shared.now.key) shared.now.table_id.slots seat.old.id seat.old.me 0 (λ n. either (n == 0) 1 n) (TookTurn (step shared.now.table_id.slots 0 0 1 none) seat.old.me) }
     ensures of { (seat.new.table_id ≡ seat.old.table_id) × (seat.new.id ≡ seat.old.id) }
     ensures found { HasTurn seat.old.me.0 seat.new.me }
 {
@@ -230,7 +230,7 @@ impl<'a, J: Job> TableRule<BoardState<J::Out>, LockView<J::Out>, Order<'a, J>> f
 pub struct Takes;
 
 impl<T> Play<BoardState<T>, LockView<T>> for Takes {
-    ghost then = { Took };
+    ghost then = { TookTurn };
 }
 
 /// The step that frees the turn after a claim that got a job.
@@ -244,7 +244,7 @@ impl<T> Play<BoardState<T>, LockView<T>> for Claims {
 pub struct Ends;
 
 impl<T> Play<BoardState<T>, LockView<T>> for Ends {
-    ghost then = { Ended };
+    ghost then = { SawEnd };
 }
 
 /// The step that frees the turn after a deposit.

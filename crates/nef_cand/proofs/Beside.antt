@@ -1,13 +1,13 @@
 -- An edge reaches along x from its low end to its high end.
-use Rattle.nef_cand.proofs.Prelude.{ℕ, ℤ, pos, ◌*ℤ◌, ◌<ℤ◌, ◌≤ℤ◌, ◌≤◌, List, arith, ap, sym, subst, inl, inr, ⊎_elim, eq-or-lt_of_le, ints, fraction-le-trans, IsAt, Place, IsPlaceBelow, IsBetween, Set, place_of, Plane, At, at-one, at-map, at-within, map-at, IsEdgeBelow, is-at_some, coordinate_x, IsWithin, Complex, Edge, Vertex, Bounds, Span, vertex_of, edge_of, ShowsSet, AreAlone, IsInSpan, within-both, weight, get-from_at, CutsEdge, IsApart}
+use Rattle.nef_cand.proofs.Prelude.{ℕ, ℤ, pos, ◌*ℤ◌, ◌<ℤ◌, ◌≤ℤ◌, ◌≤◌, List, arith, ap, sym, subst, inl, inr, ⊎_elim, eq-or-lt_of_le, ints, fraction-le-trans, IsAt, SpacePoint, IsPointBelow, IsBetween, Set, point_of, Plane, at-one, at-map, at-within, map-at, IsEdgeBelow, is-at_some, coordinate_x, IsWithin, Complex, Edge, Vertex, Bounds, Span, vertex_of, edge_of, ShowsSet, AreAlone, IsInSpan, within-both, weight, get-from_at, CutsEdge, IsApart}
 use Rattle.law_complex.proofs.Spans.{within-between}
 
 -- ---- a point that is below another
-module _ (p q : Place) (b : IsPlaceBelow p q) where
+module _ (p q : SpacePoint) (b : IsPointBelow p q) where
   along : (p.x *ℤ pos q.w) ≤ℤ (q.x *ℤ pos p.w)
   along = from b
     where
-      from : IsPlaceBelow p q → (p.x *ℤ pos q.w) ≤ℤ (q.x *ℤ pos p.w)
+      from : IsPointBelow p q → (p.x *ℤ pos q.w) ≤ℤ (q.x *ℤ pos p.w)
       from (inl l) = omega (arith, ints)
       from (inr (e, r)) = omega (arith, ints)
 
@@ -17,26 +17,26 @@ module _ (p q : Place) (b : IsPlaceBelow p q) where
   high-back : (h : ℤ) → q.x ≤ℤ (h *ℤ pos q.w) → p.x ≤ℤ (h *ℤ pos p.w)
   high-back h i = let k = fraction-le-trans p.x (pos p.w) q.x (pos q.w) h (pos 1) (weight p) (weight q) (omega (arith, ints)) along (omega (arith, ints, i)) in omega (arith, ints, k)
 
-  within-ends : (y : Place) → IsBetween p y q → (l h : ℤ) → (l *ℤ pos p.w) ≤ℤ p.x → q.x ≤ℤ (h *ℤ pos q.w) → IsWithin coordinate_x l h y
+  within-ends : (y : SpacePoint) → IsBetween p y q → (l h : ℤ) → (l *ℤ pos p.w) ≤ℤ p.x → q.x ≤ℤ (h *ℤ pos q.w) → IsWithin coordinate_x l h y
   within-ends y m l h i j = within-between coordinate_x l h p y q m (i, high-back h j) (low-on l i, j)
 
 -- ---- an edge
-module _ (s : Set) (c : Complex) (S : ShowsSet s c) (k : ℕ) (e : Edge) (a : At c.edges k e) (ss : List Span) (A : AreAlone c.vertices ss) (low high around : Span) (i : IsAt ss e.low low) (j : IsAt ss e.high high) where
+module _ (s : Set) (c : Complex) (S : ShowsSet s c) (k : ℕ) (e : Edge) (a : IsAt c.edges k e) (ss : List Span) (A : AreAlone c.vertices ss) (low high around : Span) (i : IsAt ss e.low low) (j : IsAt ss e.high high) where
   -- where it has a point of the span it reaches that along x
-  pub edge-reaches : (y : Place) (h : Plane) → CutsEdge c h e y → IsInSpan around y → (low.x.low ≤ℤ around.x.high) × (around.x.low ≤ℤ high.x.high)
+  pub edge-reaches : (y : SpacePoint) (h : Plane) → CutsEdge c h e y → IsInSpan around y → (low.x.low ≤ℤ around.x.high) × (around.x.low ≤ℤ high.x.high)
   edge-reaches y h (u, v, f, g, o) w =
       let n = A.each e.low u low (get-from_at c.vertices e.low u f) i in
       let m = A.each e.high v high (get-from_at c.vertices e.high v g) j in
       let E = S.shows.edges.edges k (edge_of e) (map-at edge_of c.edges k e a) in
       let b = S.shows.ordered e.low e.high (vertex_of u) (vertex_of v) E.upward (map-at vertex_of c.vertices e.low u f) (map-at vertex_of c.vertices e.high v g) in
       let r : Bounds = record { low = low.x.low; high = high.x.high } in
-      within-both coordinate_x r around.x y (within-ends (place_of u.point) (place_of v.point) b y o.between low.x.low high.x.high n.0.0 m.0.1) w.0
+      within-both coordinate_x r around.x y (within-ends (point_of u.point) (point_of v.point) b y o.between low.x.low high.x.high n.0.0 m.0.1) w.0
 
 module _ (s : Set) (c : Complex) (S : ShowsSet s c) where
   -- edges stand in order of their low ends
-  lows-rise : (i k : ℕ) (g e : Edge) → i ≤ k → At c.edges i g → At c.edges k e → g.low ≤ e.low
+  lows-rise : (i k : ℕ) (g e : Edge) → i ≤ k → IsAt c.edges i g → IsAt c.edges k e → g.low ≤ e.low
   lows-rise i k g e l a b = ⊎_elim
-      (λ q. let z = ap (λ (f : Edge). f.low) (at-one c.edges i g e a (subst (λ (j : ℕ). At c.edges j e) (sym q) b)) in omega (arith, z))
+      (λ q. let z = ap (λ (f : Edge). f.low) (at-one c.edges i g e a (subst (λ (j : ℕ). IsAt c.edges j e) (sym q) b)) in omega (arith, z))
       (λ m. by (S.shows.edges.ordered i k (edge_of g) (edge_of e) m (map-at edge_of c.edges i g a) (map-at edge_of c.edges k e b)))
       (eq-or-lt_of_le {n = i} {m = k} l)
     where
@@ -45,14 +45,14 @@ module _ (s : Set) (c : Complex) (S : ShowsSet s c) where
       by (inr (q, r)) = omega (arith, ints)
 
   -- a bound below a vertex along x is one below the later ones
-  low-later : (i k : ℕ) (u v : Vertex) → i ≤ k → At c.vertices i u → At c.vertices k v → (l : ℤ) → (l *ℤ pos (place_of u.point).w) ≤ℤ (place_of u.point).x → (l *ℤ pos (place_of v.point).w) ≤ℤ (place_of v.point).x
+  low-later : (i k : ℕ) (u v : Vertex) → i ≤ k → IsAt c.vertices i u → IsAt c.vertices k v → (l : ℤ) → (l *ℤ pos (point_of u.point).w) ≤ℤ (point_of u.point).x → (l *ℤ pos (point_of v.point).w) ≤ℤ (point_of v.point).x
   low-later i k u v m a b l h = ⊎_elim
-      (λ q. subst (λ (w : Vertex). (l *ℤ pos (place_of w.point).w) ≤ℤ (place_of w.point).x) (at-one c.vertices i u v a (subst (λ (j : ℕ). At c.vertices j v) (sym q) b)) h)
-      (λ n. low-on (place_of u.point) (place_of v.point) (S.shows.ordered i k (vertex_of u) (vertex_of v) n (map-at vertex_of c.vertices i u a) (map-at vertex_of c.vertices k v b)) l h)
+      (λ q. subst (λ (w : Vertex). (l *ℤ pos (point_of w.point).w) ≤ℤ (point_of w.point).x) (at-one c.vertices i u v a (subst (λ (j : ℕ). IsAt c.vertices j v) (sym q) b)) h)
+      (λ n. low-on (point_of u.point) (point_of v.point) (S.shows.ordered i k (vertex_of u) (vertex_of v) n (map-at vertex_of c.vertices i u a) (map-at vertex_of c.vertices k v b)) l h)
       (eq-or-lt_of_le {n = i} {m = k} m)
 
   -- where the low end of an edge comes after a span along x, the edge and the later ones are apart from it
-  pub edge-past : (ss : List Span) → AreAlone c.vertices ss → (around low : Span) (i : ℕ) (g : Edge) → At c.edges i g → IsAt ss g.low low → around.x.high <ℤ low.x.low → (k : ℕ) (e : Edge) → i ≤ k → At c.edges k e → IsApart c e around
+  pub edge-past : (ss : List Span) → AreAlone c.vertices ss → (around low : Span) (i : ℕ) (g : Edge) → IsAt c.edges i g → IsAt ss g.low low → around.x.high <ℤ low.x.low → (k : ℕ) (e : Edge) → i ≤ k → IsAt c.edges k e → IsApart c e around
   edge-past ss A around low i g here j l k e m a y h (u, v, f, q, o) w =
       let G = S.shows.edges.edges i (edge_of g) (map-at edge_of c.edges i g here) in
       let E = S.shows.edges.edges k (edge_of e) (map-at edge_of c.edges k e a) in
@@ -65,5 +65,5 @@ module _ (s : Set) (c : Complex) (S : ShowsSet s c) where
       let x = A.each e.high v t.0 (get-from_at c.vertices e.high v q) t.1 in
       let b = S.shows.ordered e.low e.high (vertex_of u) (vertex_of v) E.upward (map-at vertex_of c.vertices e.low u f) (map-at vertex_of c.vertices e.high v q) in
       let r : Bounds = record { low = low.x.low; high = t.0.x.high } in
-      let both = within-both coordinate_x r around.x y (within-ends (place_of u.point) (place_of v.point) b y o.between low.x.low t.0.x.high p x.0.1) w.0 in
+      let both = within-both coordinate_x r around.x y (within-ends (point_of u.point) (point_of v.point) b y o.between low.x.low t.0.x.high p x.0.1) w.0 in
       let below = both.0 in omega (arith, ints, l, below)

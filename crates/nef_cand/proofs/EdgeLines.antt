@@ -1,14 +1,14 @@
 -- The line of an edge: the first two of the carriers that hold it are different planes, so they meet in it.
-use Rattle.nef_cand.proofs.Prelude.{◌≡◌, ℕ, ◌<◌, ◌≤◌, List, length, arith, subst, ⊎_elim, cases_lt, IsAt, IsBelow, Place, form_numbers, form_of, Plane, At, is-at_one, is-at_within, get-from_at, AreHolders, AreInOrder, HoldsBoth}
+use Rattle.nef_cand.proofs.Prelude.{◌≡◌, ℕ, ◌<◌, ◌≤◌, List, length, arith, subst, ⊎_elim, cases_lt, IsAt, IsBelow, SpacePoint, form_numbers, form_of, Plane, is-at_one, is-at_within, get-from_at, AreHolders, AreInOrder, HoldsBoth}
 use Rattle.nef_complex.proofs.PlaneSearch.{never-below}
 use Rattle.nef_cand.proofs.Planes.{IsLineThrough, line-of}
 
 -- two different planes of the list hold both points
-abbrev pub AreHeldByTwo : List Plane → Place → Place → Type 0
-AreHeldByTwo hs p q = (i : ℕ) × (k : ℕ) × (g : Plane) × (h : Plane) × At hs i g × At hs k h
+abbrev pub AreHeldByTwo : List Plane → SpacePoint → SpacePoint → Type 0
+AreHeldByTwo hs p q = (i : ℕ) × (k : ℕ) × (g : Plane) × (h : Plane) × IsAt hs i g × IsAt hs k h
     × HoldsBoth (form_of g) p q × HoldsBoth (form_of h) p q × (g ≡ h → ⊥)
 
-module _ (hs : List Plane) (p q : Place) (ns : List ℕ) (H : AreHolders hs p q ns) where
+module _ (hs : List Plane) (p q : SpacePoint) (ns : List ℕ) (H : AreHolders hs p q ns) where
   -- so at least two are listed
   pub two-listed : AreHeldByTwo hs p q → 1 < length ns
   two-listed (i, k, g, h, a, b, x, y, n) = ⊎_elim (λ l. l) (λ l. absurd (n (same l))) (cases_lt 1 (length ns))

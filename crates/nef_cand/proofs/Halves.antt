@@ -1,5 +1,5 @@
 -- The vertices of a half are vertices of the frame, or points where its plane crosses an edge of the frame.
-use Rattle.nef_cand.proofs.Prelude.{◌≡◌, ℕ, zero, suc, ◌+◌, ◌<◌, ℤ, pos, neg_ℤ, ◌+ℤ◌, ◌-ℤ◌, ◌*ℤ◌, Bool, true, false, List, [], ◌∷◌, map, arith, ap, sym, ◌∙◌, ◌⊎◌, inl, inr, ⊎_elim, ◌↔◌, ints, sign, ring, Poly, at, num, neg, ◌⊕◌, ◌⊖◌, ◌⊗◌, given, none, follows, by_order, sign-minus, minus-is, sign-plus, plus-is, sign-scaled, nought-is, nought-or, square_pos, HasLabel, Flat, HasFlat, FlatDim, IsVertex, Place, Form, Ratio, step, Within, form_at, slope, toward, InFrame, Set, InHalf, Vector, cross, IsDirection, Label, Out, Not, In, Point, sign_at, combination, HasFlat-fewer, flat_dim-of, never-flat, Shows, SamePlane, IsEdgePoint, HoldsEdge, edge-points, edge-way, plane-turned, plane-point, plane-slope, plane-way, between-ends, Named, named_point, IsOnceEach, IsListed, IsVertexOf, IsCutBy, AreCutCandidates, Adds, times-nought}
+use Rattle.nef_cand.proofs.Prelude.{◌≡◌, ℕ, zero, suc, ◌+◌, ◌<◌, ℤ, pos, neg_ℤ, ◌+ℤ◌, ◌-ℤ◌, ◌*ℤ◌, Bool, true, false, List, [], ◌∷◌, map, arith, ap, sym, ◌∙◌, ◌⊎◌, inl, inr, ⊎_elim, ◌↔◌, ints, sign, ring, Poly, at, num, neg, ◌⊕◌, ◌⊖◌, ◌⊗◌, given, none, follows, by_order, sign-minus, minus-is, sign-plus, plus-is, sign-scaled, nought-is, nought-or, square_pos, HasLabel, Flat, HasFlat, FlatDim, IsVertex, SpacePoint, Form, Ratio, step, Within, form_at, slope, toward, InFrame, Set, InHalf, Vector, cross, IsDirection, Label, Out, Not, In, Point, sign_at, combination, HasFlat-fewer, flat_dim-of, never-flat, Shows, SamePlane, IsEdgePoint, HoldsEdge, edge-points, edge-way, plane-turned, plane-point, plane-slope, plane-way, between-ends, Named, named_point, IsOnceEach, IsListed, IsVertexOf, IsCutBy, AreCutCandidates, AddsPoints, times-nought}
 use Rattle.nef_space.specs.Sets.{Holds}
 use Rattle.law_near.proofs.Near.{reach, keeps, weaken, form-step}
 use Rattle.law_near.proofs.FlatOperations.{flat-combination}
@@ -10,24 +10,24 @@ use Rattle.nef_cand.proofs.Complete.{listed-decided, added-exactly, vertex-of}
 
 -- ---- what is flat for a half
 -- a half holds where its form has the sign
-in-half : (f : Form) (c : Bool) (q r : Place) → sign_at f q ≡ sign_at f r → InHalf f c q → InHalf f c r
+in-half : (f : Form) (c : Bool) (q r : SpacePoint) → sign_at f q ≡ sign_at f r → InHalf f c q → InHalf f c r
 in-half f false q r e h = minus-is (form_at f r) (sym e ∙ sign-minus (form_at f q) h)
 in-half f true q r e h = by_order (form_at f r) (pos 0) (λ l. omega (arith, ints)) (λ o. omega (arith, ints)) (λ l. let k = plus-is (form_at f q) (e ∙ sign-plus (form_at f r) l) in absurd (omega (arith, ints)))
 
-half-label : (f : Form) (c : Bool) (q r : Place) → (InFrame q → InFrame r) → (InFrame r → InFrame q) → sign_at f q ≡ sign_at f r → (l : Label) → HasLabel (Set.half f c) q l → HasLabel (Set.half f c) r l
+half-label : (f : Form) (c : Bool) (q r : SpacePoint) → (InFrame q → InFrame r) → (InFrame r → InFrame q) → sign_at f q ≡ sign_at f r → (l : Label) → HasLabel (Set.half f c) q l → HasLabel (Set.half f c) r l
 unfolding Holds
 half-label f c q r i j e Out h = λ k. h (j k)
 half-label f c q r i j e Not h = (i h.0, λ k. h.1 (in-half f c r q (sym e) k))
 half-label f c q r i j e In h = (i h.0, in-half f c q r e h.1)
 
-full-frame : (q : Place) → InFrame q → HasLabel Set.full q In
+full-frame : (q : SpacePoint) → InFrame q → HasLabel Set.full q In
 unfolding Holds
 full-frame q i = (i, tt)
 
-module _ (f : Form) (c : Bool) (y : Place) (d : Vector) where
+module _ (f : Form) (c : Bool) (y : SpacePoint) (d : Vector) where
   -- within 1/n of y the form has the same sign at q and at q + t d
-  flat-near : (n : ℕ) → 0 < n → ((q : Place) (t : Ratio) → Within n y q → Within n y (step q t d) → (l : Label) → HasLabel Set.full q l ↔ HasLabel Set.full (step q t d) l)
-      → ((q : Place) (t : Ratio) → Within n y q → Within n y (step q t d) → sign_at f q ≡ sign_at f (step q t d)) → Flat (Set.half f c) y d
+  flat-near : (n : ℕ) → 0 < n → ((q : SpacePoint) (t : Ratio) → Within n y q → Within n y (step q t d) → (l : Label) → HasLabel Set.full q l ↔ HasLabel Set.full (step q t d) l)
+      → ((q : SpacePoint) (t : Ratio) → Within n y q → Within n y (step q t d) → sign_at f q ≡ sign_at f (step q t d)) → Flat (Set.half f c) y d
   flat-near n some same even = (
     n,
     some,
@@ -45,7 +45,7 @@ module _ (f : Form) (c : Bool) (y : Place) (d : Vector) where
       level : form_at f y ≡ pos 0 → Flat (Set.half f c) y d
       level e = flat-near n some same (λ q t a b. sym (ap sign (onward q t) ∙ sign-scaled (pos t.b) (form_at f q) (let m = t.proper in omega (arith, ints))))
         where
-          onward : (q : Place) (t : Ratio) → form_at f (step q t d) ≡ pos t.b *ℤ form_at f q
+          onward : (q : SpacePoint) (t : Ratio) → form_at f (step q t d) ≡ pos t.b *ℤ form_at f q
           onward q t = form-step f q t d ∙ ap (λ r. pos t.b *ℤ form_at f q +ℤ t.a *ℤ pos q.w *ℤ r) (held e) ∙ ring (pos t.b ∷ form_at f q ∷ t.a ∷ pos q.w ∷ []) (at 0 ⊗ at 1 ⊕ at 2 ⊗ at 3 ⊗ num (pos 0)) (at 0 ⊗ at 1) tt
 
       off : (form_at f y ≡ pos 0 → ⊥) → Flat (Set.half f c) y d
@@ -76,7 +76,7 @@ combined-some d e j k some n z = some (one d.y d.z e.y e.z z.1 z.2, one d.z d.x 
         (given (at 5 ⊗ at 0) (at 4 ⊗ at 1 ⊕ at 5 ⊗ at 3) (num (pos 0)) q (given (num (pos 0) ⊖ at 5 ⊗ at 1) (at 4 ⊗ at 0 ⊕ at 5 ⊗ at 2) (num (pos 0)) p none)) tt)
 
 -- where two independent directions are flat for the frame, one is for the half
-two-flat : (f : Form) (c : Bool) (y : Place) → HasFlat Set.full y 2 → (d : Vector) × IsDirection d × Flat (Set.half f c) y d
+two-flat : (f : Form) (c : Bool) (y : SpacePoint) → HasFlat Set.full y 2 → (d : Vector) × IsDirection d × Flat (Set.half f c) y d
 two-flat f c y (d, e, some, g, h) = ⊎_elim
     (λ z. (d, first d e some, half-flat f c y d g (λ o. z)))
     (λ n. (
@@ -93,7 +93,7 @@ two-flat f c y (d, e, some, g, h) = ⊎_elim
         one a b x y e f = ap (λ r. r *ℤ a -ℤ y *ℤ b) e ∙ ap (λ r. pos 0 *ℤ a -ℤ r *ℤ b) f ∙ ring (a ∷ b ∷ []) (num (pos 0) ⊗ at 0 ⊖ num (pos 0) ⊗ at 1) (num (pos 0)) tt
 
 -- ---- the vertices of a half
-module _ (C : Complex) (S : Shows Set.full C) (h f : Form) (P : SamePlane h f) (c : Bool) (y : Place) where
+module _ (C : Complex) (S : Shows Set.full C) (h f : Form) (P : SamePlane h f) (c : Bool) (y : SpacePoint) where
   -- on an edge of the frame that the plane doesn't cut there
   along-edge : (IsCutBy C h y → ⊥) → (k : ℕ) × IsEdgePoint C k y → (d : Vector) × IsDirection d × Flat (Set.half f c) y d
   along-edge uncut (k, (e, v, w, a, H, b)) =
@@ -127,7 +127,7 @@ module _ (C : Complex) (S : Shows Set.full C) (h f : Form) (P : SamePlane h f) (
       off n = let d = half-way (λ u. n (A.all y (inl (vertex-of Set.full C y S u)))) (λ u. n (A.all y (inr u))) in never-flat (Set.half f c) y d.0 d.1 d.2 v
 
 -- ---- what the program collects
-pub cut-all : (C : Complex) (h : Form) (N : Named → Type 0) (ps qs rs : List Named) → Adds (IsVertexOf C) N [] ps → Adds (IsCutBy C h) N ps qs → IsOnceEach qs rs → AreCutCandidates C h (map named_point rs)
+pub cut-all : (C : Complex) (h : Form) (N : Named → Type 0) (ps qs rs : List Named) → AddsPoints (IsVertexOf C) N [] ps → AddsPoints (IsCutBy C h) N ps qs → IsOnceEach qs rs → AreCutCandidates C h (map named_point rs)
 cut-all C h N ps qs rs first second once =
     added-exactly (λ y. IsVertexOf C y ⊎ IsCutBy C h y) N qs rs
     (adds-both (IsVertexOf C) (IsVertexOf C) (IsCutBy C h) (IsCutBy C h) (λ y. IsVertexOf C y ⊎ IsCutBy C h y) (λ y. IsVertexOf C y ⊎ IsCutBy C h y) N [] ps qs first second (λ y x. x) (λ y x. x)) once

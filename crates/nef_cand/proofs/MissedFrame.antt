@@ -1,5 +1,5 @@
 -- A plane whose last number outweighs the others anywhere in the frame holds no point of the open frame.
-use Rattle.nef_cand.proofs.Prelude.{◌≡◌, ℕ, ◌+◌, ◌-◌, ◌*◌, ◌<◌, ◌≤◌, ℤ, pos, ◌+ℤ◌, ◌*ℤ◌, nat_abs, arith, ap, ints, unsigned_abs-mul, mul-le-mul_right, abs_plus, abs_times, half_side, Place, Form, form_at, normal_of, InFrame, IsDirection}
+use Rattle.nef_cand.proofs.Prelude.{◌≡◌, ℕ, ◌+◌, ◌-◌, ◌*◌, ◌<◌, ◌≤◌, ℤ, pos, ◌+ℤ◌, ◌*ℤ◌, nat_abs, arith, ap, ints, unsigned_abs-mul, mul-le-mul_right, abs_plus, abs_times, half_side, SpacePoint, Form, form_at, normal_of, InFrame, IsDirection}
 
 -- a + b + c is the sum of the numbers of the normal, n + 1 half the length of the frame's sides times w
 outweighed : (a b c d w n : ℕ) → half_side * (a + b + c) ≤ d → 0 < a + b + c → n + 1 ≡ half_side * w → a * n + b * n + c * n < d * w
@@ -16,7 +16,7 @@ module _ (h : Form) (far : half_side * (nat_abs h.a + nat_abs h.b + nat_abs h.c)
       by : (n : ℕ) → (n ≡ 0 → ⊥) → 0 < n
       by n off = grind (arith, off)
 
-  pub missing : (y : Place) → InFrame y → form_at h y ≡ pos 0 → ⊥
+  pub missing : (y : SpacePoint) → InFrame y → form_at h y ≡ pos 0 → ⊥
   missing y i on =
       let n = half_side * y.w - 1 in
       let m = y.proper in

@@ -1,5 +1,5 @@
 -- A plane that leaves the open frame on one side crosses no edge.
-use Rattle.nef_cand.proofs.Prelude.{◌≡◌, ℕ, ℤ, pos, neg_ℤ, ◌+◌, ◌*◌, ◌<◌, ◌≤◌, ◌+ℤ◌, ◌*ℤ◌, ◌≤ℤ◌, ◌<ℤ◌, nat_abs, [], ◌∷◌, arith, ap, sym, subst, ◌∙◌, inr, ⊎_elim, cases_lt, ints, by_lt_z, unsigned_abs-mul, mul-le-mul_right, ring, at, neg, ◌⊗◌, abs_plus, abs_times, mul_nonneg, mul_le_right, half_side, point_limit, Place, Form, form_at, InClosedFrame, Set, HasOppositeSigns, Shows, dim-framed, IsCutBy, MissesFrame}
+use Rattle.nef_cand.proofs.Prelude.{◌≡◌, ℕ, ℤ, pos, neg_ℤ, ◌+◌, ◌*◌, ◌<◌, ◌≤◌, ◌+ℤ◌, ◌*ℤ◌, ◌≤ℤ◌, ◌<ℤ◌, nat_abs, [], ◌∷◌, arith, ap, sym, subst, ◌∙◌, inr, ⊎_elim, cases_lt, ints, by_lt_z, unsigned_abs-mul, mul-le-mul_right, ring, at, neg, ◌⊗◌, abs_plus, abs_times, mul_nonneg, mul_le_right, half_side, point_limit, SpacePoint, Form, form_at, InClosedFrame, Set, HasOppositeSigns, Shows, dim-framed, IsCutBy, MissesFrame}
 use lib.IntN.{zero-*ℤ}
 use Rattle.law_complex.specs.Complexes.{Complex}
 use Rattle.nef_cand.proofs.Crossing.{never-crosses}
@@ -9,7 +9,7 @@ module _ (h : Form) (far : half_side * (nat_abs h.a + nat_abs h.b + nat_abs h.c)
   share a b c d w l = omega (arith, mul-le-mul_right w l)
 
   -- without its last number the form is no greater than that alone
-  small : (p : Place) → InClosedFrame p → nat_abs (h.a *ℤ p.x +ℤ h.b *ℤ p.y +ℤ h.c *ℤ p.z) ≤ nat_abs h.d * p.w
+  small : (p : SpacePoint) → InClosedFrame p → nat_abs (h.a *ℤ p.x +ℤ h.b *ℤ p.y +ℤ h.c *ℤ p.z) ≤ nat_abs h.d * p.w
   small p i =
       let n = half_side * p.w in
       let x = abs_times h.a p.x (nat_abs h.a) n (omega arith) i.along_x in
@@ -33,7 +33,7 @@ module _ (h : Form) (far : half_side * (nat_abs h.a + nat_abs h.b + nat_abs h.c)
       (λ s. let f = plus (h.a *ℤ p.x +ℤ h.b *ℤ p.y +ℤ h.c *ℤ p.z) h.d p.w (small p i) s in let g = plus (h.a *ℤ q.x +ℤ h.b *ℤ q.y +ℤ h.c *ℤ q.z) h.d q.w (small q k) s in
       ⊎_elim (λ m. let t = m.0 in absurd (omega (arith, ints, f, t))) (λ m. let t = m.1 in absurd (omega (arith, ints, g, t))) o)
 
-pub never-cut : (s : Set) (C : Complex) (h : Form) → Shows s C → MissesFrame h → (y : Place) → IsCutBy C h y → ⊥
+pub never-cut : (s : Set) (C : Complex) (h : Form) → Shows s C → MissesFrame h → (y : SpacePoint) → IsCutBy C h y → ⊥
 never-cut s C h S n y (k, e, v, w, x, H, m, o, off) =
     never-crosses h v.point w.point
     (n v.point w.point (dim-framed s v.point 0 (omega arith) (S.vertices e.low v H.low)) (dim-framed s w.point 0 (omega arith) (S.vertices e.high w H.high)))
@@ -51,7 +51,7 @@ module _ (a : ℤ) where
       (λ l. (pos half_side, (omega (arith, ints), omega (arith, ints, l))))
 
 module _ (h : Form) (M : MissesFrame h) where
-  corner : (x y z : ℤ) → nat_abs x ≤ half_side → nat_abs y ≤ half_side → nat_abs z ≤ half_side → (p : Place) × InClosedFrame p × (form_at h p ≡ h.a *ℤ x +ℤ h.b *ℤ y +ℤ h.c *ℤ z +ℤ h.d)
+  corner : (x y z : ℤ) → nat_abs x ≤ half_side → nat_abs y ≤ half_side → nat_abs z ≤ half_side → (p : SpacePoint) × InClosedFrame p × (form_at h p ≡ h.a *ℤ x +ℤ h.b *ℤ y +ℤ h.c *ℤ z +ℤ h.d)
   corner x y z i j k = (record { x = x; y = y; z = z; w = 1; proper = omega arith }, record { along_x = omega (arith, i); along_y = omega (arith, j); along_z = omega (arith, k) }, omega (arith, ints))
 
   turned : (a x : ℤ) → IsOutermost a x → a *ℤ neg_ℤ x ≡ neg_ℤ (pos (half_side * nat_abs a))

@@ -1,8 +1,8 @@
 -- Cuts where the other set has something in the carrier that cuts.
-use Rattle.nef_cand.proofs.Prelude.{◌≡◌, ℕ, ◌+◌, ◌<◌, pos, List, [], ◌∷◌, ◌++◌, length, map, None, arith, refl, sym, subst, ◌⊎◌, inl, inr, Contains, eq-or-lt_of_le, Contains-append_left, Contains-append_right, Contains-push, Contains-push_cases, IsAt, IsVertex, Place, Form, form_at, SamePlace, Set, place_of, form_of, Plane, Point, same-place_sym, At, at-one, at-within, at-map, at-contains, contains-at, get-from_at, IsNearCut, IsSkeletonIn, HoldsEdge, IsEdgePoint, candidates-suffice, same-place_trans, Complex, Edge, Span, complex_of, ShowsSet, AreAlone, IsInSpan, IsNarrower, got-at, span-between, spanned, span-wider, narrower-still, is-at_some, IsSkeletonAt, held-same, skeleton-same, Named, Operand, First, Second, Spanned, IsVertexOf, IsCutBy, named_point, IsNamedBetween, AddsAll, HasBoth, CutsEdge, MissesFrame, IsSpannedIn, AreSpannedIn, IsSpanned, AreSpannedCarriers, AreWithinSpan, AreThoseNear, IsApart, IsHeldIn, IsCarrierCut, IsHeldCut, CutsBy, CutsHeld, ListsCuts, CutsEdgeHeld, CutsEdgeByOne, CutsEdgeHeldOne, IsHeldCutOf, HasTogether, IsCandidate, ListsNear}
+use Rattle.nef_cand.proofs.Prelude.{◌≡◌, ℕ, ◌+◌, ◌<◌, pos, List, [], ◌∷◌, ◌++◌, length, map, None, arith, refl, sym, subst, ◌⊎◌, inl, inr, Contains, eq-or-lt_of_le, Contains-append_left, Contains-append_right, Contains-push, Contains-push_cases, IsAt, IsVertex, SpacePoint, Form, form_at, SamePoint, Set, point_of, form_of, Plane, Point, same-point_sym, at-one, at-within, at-map, at-contains, contains-at, get-from_at, IsNearCut, IsSkeletonIn, HoldsEdge, IsEdgePoint, candidates-suffice, same-point_trans, Complex, Edge, Span, complex_of, ShowsSet, AreAlone, IsInSpan, IsNarrower, got-at, span-between, spanned, span-wider, narrower-still, is-at_some, IsSkeletonAt, held-same, skeleton-same, Named, Operand, First, Second, Spanned, IsVertexOf, IsCutBy, named_point, IsNamedBetween, AddsAll, HasBoth, CutsEdge, MissesFrame, IsSpannedIn, AreSpannedIn, IsSpanned, AreSpannedCarriers, AreWithinSpan, AreThoseNear, IsApart, IsHeldIn, IsCarrierCut, IsHeldCut, CutsBy, CutsHeld, ListsCuts, CutsEdgeHeld, CutsEdgeByOne, CutsEdgeHeldOne, IsHeldCutOf, HasTogether, IsCandidate, ListsNear}
 use Rattle.law_complex.specs.Complexes.{Complex as PlainComplex}
 use Rattle.nef_locate.specs.declared.point.Place.{Place as FoundPlace}
-use Rattle.nef_cand.specs.declared.named.Name.TheVariants as name
+use Rattle.nef_cand.specs.declared.named.CandidateName.TheVariants as name
 use Rattle.nef_cand.proofs.Adding.{AnyAt, adds-none, adds-as}
 use Rattle.nef_cand.proofs.Apart.{cuts-merged}
 use Rattle.nef_cand.proofs.Complete.{Has, vertex-of, cuts-any, together-ordered, together-each, together-all, together-named}
@@ -18,8 +18,8 @@ module _ (c : Complex) (n : ℕ) (xs : List Spanned) (A : AreSpannedCarriers c n
   pub spanned-same : (g : Plane) → IsAt c.carriers n g → MissesFrame (form_of g) → AreSpannedCarriers c (n + 1) xs
   spanned-same g here m = record { each = A.each; all = λ k h l a. by k h (eq-or-lt_of_le {n = k} {m = n} (omega (arith, l))) a }
     where
-      by : (k : ℕ) (h : Plane) → (k ≡ n) ⊎ (k < n) → At c.carriers k h → MissesFrame (form_of h) ⊎ IsSpanned xs h
-      by k h (inl e) a = inl (subst (λ (p : Plane). MissesFrame (form_of p)) (at-one c.carriers n g h (got-at c.carriers n g here) (subst (λ (j : ℕ). At c.carriers j h) e a)) m)
+      by : (k : ℕ) (h : Plane) → (k ≡ n) ⊎ (k < n) → IsAt c.carriers k h → MissesFrame (form_of h) ⊎ IsSpanned xs h
+      by k h (inl e) a = inl (subst (λ (p : Plane). MissesFrame (form_of p)) (at-one c.carriers n g h (got-at c.carriers n g here) (subst (λ (j : ℕ). IsAt c.carriers j h) e a)) m)
       by k h (inr l) a = A.all k h l a
 
   pub spanned-more : (x : Spanned) → IsAt c.carriers n x.plane → IsSpannedIn c x → AreSpannedCarriers c (n + 1) (xs ++ x ∷ [])
@@ -28,7 +28,7 @@ module _ (c : Complex) (n : ℕ) (xs : List Spanned) (A : AreSpannedCarriers c n
     all = λ k h l a. by k h (eq-or-lt_of_le {n = k} {m = n} (omega (arith, l))) a;
   }
     where
-      at : At c.carriers n x.plane
+      at : IsAt c.carriers n x.plane
       at = got-at c.carriers n x.plane here
 
       from : (y : Spanned) → Contains xs y ⊎ (x ≡ y) → IsSpannedIn c y
@@ -39,8 +39,8 @@ module _ (c : Complex) (n : ℕ) (xs : List Spanned) (A : AreSpannedCarriers c n
       still h (inl m) = inl m
       still h (inr (z, i, e)) = inr (z, Contains-append_left xs (x ∷ []) z i, e)
 
-      by : (k : ℕ) (h : Plane) → (k ≡ n) ⊎ (k < n) → At c.carriers k h → MissesFrame (form_of h) ⊎ IsSpanned (xs ++ x ∷ []) h
-      by k h (inl e) a = inr (x, Contains-push xs x, at-one c.carriers n x.plane h at (subst (λ (j : ℕ). At c.carriers j h) e a))
+      by : (k : ℕ) (h : Plane) → (k ≡ n) ⊎ (k < n) → IsAt c.carriers k h → MissesFrame (form_of h) ⊎ IsSpanned (xs ++ x ∷ []) h
+      by k h (inl e) a = inr (x, Contains-push xs x, at-one c.carriers n x.plane h at (subst (λ (j : ℕ). IsAt c.carriers j h) e a))
       by k h (inr l) a = still h (A.all k h l a)
 
 -- those of a list are listed with spans, and so are those of its parts
@@ -55,42 +55,42 @@ parts-spanned c xs hs gs e A =
 -- ---- an edge
 module _ (c : Complex) (o : Operand) (d : Complex) (e : Edge) (x : Spanned) where
   -- the plane of the carrier crosses the edge nowhere
-  pub never-held : ((y : Place) → CutsEdge c x.plane e y → ⊥) → IsHeldCutOf c o d e x None
+  pub never-held : ((y : SpacePoint) → CutsEdge c x.plane e y → ⊥) → IsHeldCutOf c o d e x None
   never-held n = λ y h. n y h.0
 
   -- or at one point, where the other set has nothing in it
-  pub nothing-held : (p : Point) (q : Place) → SamePlace q (place_of p) → ((y : Place) → CutsEdge c x.plane e y → SamePlace (place_of p) y) → ((t : Set) → ShowsSet t d → IsSkeletonIn t (complex_of d) (form_of x.plane) q → ⊥)
+  pub nothing-held : (p : Point) (q : SpacePoint) → SamePoint q (point_of p) → ((y : SpacePoint) → CutsEdge c x.plane e y → SamePoint (point_of p) y) → ((t : Set) → ShowsSet t d → IsSkeletonIn t (complex_of d) (form_of x.plane) q → ⊥)
       → IsHeldCutOf c o d e x None
   nothing-held p q same one n = λ y (cut, (t, T, i)).
-      n t T (held-same t (complex_of d) (form_of x.plane) y q (same-place_sym q y (same-place_trans q (place_of p) y same (one y cut))) i)
+      n t T (held-same t (complex_of d) (form_of x.plane) y q (same-point_sym q y (same-point_trans q (point_of p) y same (one y cut))) i)
 
-named-between : (o : Operand) (C D : PlainComplex) (k : ℕ) (p : Point) (a : FoundPlace) → IsEdgePoint C k (place_of p) → IsSkeletonAt D (place_of p) a → IsNamedBetween o C D (record { point = p; name = name.Cut o k a })
+named-between : (o : Operand) (C D : PlainComplex) (k : ℕ) (p : Point) (a : FoundPlace) → IsEdgePoint C k (point_of p) → IsSkeletonAt D (point_of p) a → IsNamedBetween o C D (record { point = p; name = name.Cut o k a })
 named-between First C D k p a e s = (e, s.has, s.at)
 named-between Second C D k p a e s = (e, s.has, s.at)
 
-edge-at-cut : (o : Operand) (c : Complex) (h : Plane) (k : ℕ) (e : Edge) → At c.edges k e → (p : Point) → CutsEdge c h e (place_of p) → IsEdgePoint (complex_of c) k (place_of p)
+edge-at-cut : (o : Operand) (c : Complex) (h : Plane) (k : ℕ) (e : Edge) → IsAt c.edges k e → (p : Point) → CutsEdge c h e (point_of p) → IsEdgePoint (complex_of c) k (point_of p)
 edge-at-cut First c h k e a p (u, v, f, g, t) = edge-named First c h k e u v a f g p t (complex_of c) (complex_of c) refl
 edge-at-cut Second c h k e a p (u, v, f, g, t) = edge-named Second c h k e u v a f g p t (complex_of c) (complex_of c) refl
 
 -- a cut that is found is named by the edge and by the place in the other set
-pub held-named : (o : Operand) (c d : Complex) (h : Plane) (k : ℕ) (e : Edge) → At c.edges k e → (p : Point) (q : Place) → SamePlace q (place_of p) → CutsEdge c h e (place_of p)
+pub held-named : (o : Operand) (c d : Complex) (h : Plane) (k : ℕ) (e : Edge) → IsAt c.edges k e → (p : Point) (q : SpacePoint) → SamePoint q (point_of p) → CutsEdge c h e (point_of p)
     → (a : FoundPlace) → IsSkeletonAt (complex_of d) q a → IsNamedBetween o (complex_of c) (complex_of d) (record { point = p; name = name.Cut o k a })
-held-named o c d h k e l p q same cut a s = named-between o (complex_of c) (complex_of d) k p a (edge-at-cut o c h k e l p cut) (skeleton-same (complex_of d) q (place_of p) same a s)
+held-named o c d h k e l p q same cut a s = named-between o (complex_of c) (complex_of d) k p a (edge-at-cut o c h k e l p cut) (skeleton-same (complex_of d) q (point_of p) same a s)
 
 -- the points of an edge lie within what is as wide as the spans of its ends
 pub ends-spanned : (c : Complex) (ss : List Span) → AreAlone c.vertices ss → (h : Plane) (e : Edge) (s t r : Span) → IsAt ss e.low s → IsAt ss e.high t → IsNarrower s r → IsNarrower t r
-    → (y : Place) → CutsEdge c h e y → IsInSpan r y
+    → (y : SpacePoint) → CutsEdge c h e y → IsInSpan r y
 ends-spanned c ss A h e s t r i j n m y (u, v, a, b, o) =
     let w = edge-crosses c h e u v a b y (u, v, a, b, o) in
-    span-between s t r (place_of u.point) y (place_of v.point) w.between (A.each e.low u s (get-from_at c.vertices e.low u a) i) (A.each e.high v t (get-from_at c.vertices e.high v b) j) n m
+    span-between s t r (point_of u.point) y (point_of v.point) w.between (A.each e.low u s (get-from_at c.vertices e.low u a) i) (A.each e.high v t (get-from_at c.vertices e.high v b) j) n m
 
 -- what the other set has in a carrier lies within the carrier's span
-pub held-spanned : (c d : Complex) (e : Edge) (x : Spanned) → IsSpannedIn d x → (y : Place) → CutsEdgeHeld c d e x y → IsInSpan x.span y
+pub held-spanned : (c d : Complex) (e : Edge) (x : Spanned) → IsSpannedIn d x → (y : SpacePoint) → CutsEdgeHeld c d e x y → IsInSpan x.span y
 held-spanned c d e x s y ((u, v, a, b, o), (t, T, i)) =
     spanned t d T (form_of x.plane) x.span s.1 y (edge-crosses c x.plane e u v a b y (u, v, a, b, o)).on i
 
 -- all edges lie within what is as wide as the spans of all vertices
-pub edge-around : (c : Complex) (ss : List Span) → AreAlone c.vertices ss → (r : Span) → ((k : ℕ) (s : Span) → IsAt ss k s → IsNarrower s r) → (h : Plane) (e : Edge) (y : Place) → CutsEdge c h e y → IsInSpan r y
+pub edge-around : (c : Complex) (ss : List Span) → AreAlone c.vertices ss → (r : Span) → ((k : ℕ) (s : Span) → IsAt ss k s → IsNarrower s r) → (h : Plane) (e : Edge) (y : SpacePoint) → CutsEdge c h e y → IsInSpan r y
 edge-around c ss A r wide h e y (u, v, a, b, o) =
     let m = A.as_many in
     let i = at-within c.vertices e.low u a in let j = at-within c.vertices e.high v b in
@@ -98,13 +98,13 @@ edge-around c ss A r wide h e y (u, v, a, b, o) =
     ends-spanned c ss A h e s.0 t.0 r s.1 t.1 (wide e.low s.0 s.1) (wide e.high t.0 t.1) y (u, v, a, b, o)
 
 -- an edge that has no point of the span around all carriers is cut nowhere where the other set has something
-pub edge-passed : (c d : Complex) (e : Edge) (xs : List Spanned) → AreSpannedIn d xs → (around : Span) → AreWithinSpan xs around → IsApart c e around → (y : Place) → CutsEdgeHeldOne c d xs e y → ⊥
+pub edge-passed : (c d : Complex) (e : Edge) (xs : List Spanned) → AreSpannedIn d xs → (around : Span) → AreWithinSpan xs around → IsApart c e around → (y : SpacePoint) → CutsEdgeHeldOne c d xs e y → ⊥
 edge-passed c d e xs A around W far y (i, x, a, h) =
     let has = at-contains xs i x a in
     far y x.plane h.0 (span-wider x.span around y (W x has) (held-spanned c d e x (A x has) y h))
 
 -- so nothing is added for it
-pub edge-apart : (c d : Complex) (k : ℕ) (g e : Edge) → At c.edges k g → At c.edges k e → (xs : List Spanned) → AreSpannedIn d xs → (around : Span) → AreWithinSpan xs around
+pub edge-apart : (c d : Complex) (k : ℕ) (g e : Edge) → IsAt c.edges k g → IsAt c.edges k e → (xs : List Spanned) → AreSpannedIn d xs → (around : Span) → AreWithinSpan xs around
     → IsApart c g around → (N : Named → Type 0) (ps : List Named) → AddsAll (CutsEdgeByOne c xs e) (CutsEdgeHeldOne c d xs e) N ps ps
 edge-apart c d k g e a b xs A around W far N ps = subst (λ (f : Edge). AddsAll (CutsEdgeByOne c xs f) (CutsEdgeHeldOne c d xs f) N ps ps) (at-one c.edges k g e a b)
     (adds-none (CutsEdgeByOne c xs g) (CutsEdgeHeldOne c d xs g) N ps (edge-passed c d g xs A around W far))
@@ -132,14 +132,14 @@ module _ (xs : List Spanned) (s : Span) (ys : List Spanned) (A : AreThoseNear xs
       only z (inl h) = Contains-append_left xs (x ∷ []) z (A.only z h)
       only z (inr e) = subst (Contains (xs ++ x ∷ [])) e (Contains-push xs x)
 
-      all : (z : Spanned) (y : Place) → IsInSpan z.span y → IsInSpan s y → Contains xs z ⊎ (x ≡ z) → Contains (ys ++ x ∷ []) z
+      all : (z : Spanned) (y : SpacePoint) → IsInSpan z.span y → IsInSpan s y → Contains xs z ⊎ (x ≡ z) → Contains (ys ++ x ∷ []) z
       all z y i j (inl h) = Contains-append_left ys (x ∷ []) z (A.all z h y i j)
       all z y i j (inr e) = subst (Contains (ys ++ x ∷ [])) e (Contains-push ys x)
 
-  pub near-passed : ((y : Place) → IsInSpan x.span y → IsInSpan s y → ⊥) → AreThoseNear (xs ++ x ∷ []) s ys
+  pub near-passed : ((y : SpacePoint) → IsInSpan x.span y → IsInSpan s y → ⊥) → AreThoseNear (xs ++ x ∷ []) s ys
   near-passed far = record { only = λ z h. Contains-append_left xs (x ∷ []) z (A.only z h); all = λ z h y i j. all z y i j (Contains-push_cases xs x z h) }
     where
-      all : (z : Spanned) (y : Place) → IsInSpan z.span y → IsInSpan s y → Contains xs z ⊎ (x ≡ z) → Contains ys z
+      all : (z : Spanned) (y : SpacePoint) → IsInSpan z.span y → IsInSpan s y → Contains xs z ⊎ (x ≡ z) → Contains ys z
       all z y i j (inl h) = A.all z h y i j
       all z y i j (inr e) = absurd (far y (subst (λ (w : Spanned). IsInSpan w.span y) (sym e) i) j)
 
@@ -151,10 +151,10 @@ module _ (c d : Complex) (ss : List Span) (E : AreAlone c.vertices ss) (r : Span
   pub close-all : (N : Named → Type 0) (ps qs : List Named) → AddsAll (CutsBy (complex_of c) ys) (CutsHeld (complex_of c) d ys) N ps qs → AddsAll (CutsBy (complex_of c) xs) (CutsHeld (complex_of c) d xs) N ps qs
   close-all N ps qs = adds-as (CutsBy (complex_of c) ys) (CutsHeld (complex_of c) d ys) (CutsBy (complex_of c) xs) (CutsHeld (complex_of c) d xs) N ps qs forth back
     where
-      forth : (y : Place) → CutsBy (complex_of c) ys y → CutsBy (complex_of c) xs y
+      forth : (y : SpacePoint) → CutsBy (complex_of c) ys y → CutsBy (complex_of c) xs y
       forth y (i, x, a, h) = let k = contains-at xs x (T.only x (at-contains ys i x a)) in (k.0, x, k.1, h)
 
-      back : (y : Place) → CutsHeld (complex_of c) d xs y → CutsHeld (complex_of c) d ys y
+      back : (y : SpacePoint) → CutsHeld (complex_of c) d xs y → CutsHeld (complex_of c) d ys y
       back y (i, x, a, (h, s)) =
           let has = at-contains xs i x a in
           let z = cut-some c x.plane y h in
@@ -166,19 +166,19 @@ pub near-all : (c d : Complex) (xs : List Spanned) (N : Named → Type 0) (ps qs
     → AddsAll (CutsBy (complex_of c) xs) (CutsHeld (complex_of c) d xs) N ps qs
 near-all c d xs N ps qs = adds-as (AnyAt (CutsEdgeByOne c xs) c.edges) (AnyAt (CutsEdgeHeldOne c d xs) c.edges) (CutsBy (complex_of c) xs) (CutsHeld (complex_of c) d xs) N ps qs forth back
   where
-    forth : (y : Place) → AnyAt (CutsEdgeByOne c xs) c.edges y → CutsBy (complex_of c) xs y
+    forth : (y : SpacePoint) → AnyAt (CutsEdgeByOne c xs) c.edges y → CutsBy (complex_of c) xs y
     forth y (k, e, a, (i, x, b, h)) = (i, x, b, some-cut c x.plane y (k, e, a, h))
 
-    back : (y : Place) → CutsHeld (complex_of c) d xs y → AnyAt (CutsEdgeHeldOne c d xs) c.edges y
+    back : (y : SpacePoint) → CutsHeld (complex_of c) d xs y → AnyAt (CutsEdgeHeldOne c d xs) c.edges y
     back y (i, x, b, (h, s)) = let z = cut-some c x.plane y h in (z.0, z.1, z.2, (i, x, b, (z.3, s)))
 
 -- ---- all that is listed
 module _ (a b : Complex) (xs : List Spanned) (A : AreSpannedCarriers b (length b.carriers) xs) where
-  pub near-cut : (y : Place) → CutsBy (complex_of a) xs y → (i : ℕ) × (h : Plane) × At b.carriers i h × IsCutBy (complex_of a) (form_of h) y
+  pub near-cut : (y : SpacePoint) → CutsBy (complex_of a) xs y → (i : ℕ) × (h : Plane) × IsAt b.carriers i h × IsCutBy (complex_of a) (form_of h) y
   near-cut y (i, x, l, d) = (x.number, x.plane, got-at b.carriers x.number x.plane (A.each x (at-contains xs i x l)).0, d)
 
   -- a cut by a carrier that holds something of the other set there is one by a listed carrier
-  pub cut-near : (s t : Set) → ShowsSet s a → ShowsSet t b → (y : Place) → IsNearCut (complex_of a) t (complex_of b) y → CutsHeld (complex_of a) b xs y
+  pub cut-near : (s t : Set) → ShowsSet s a → ShowsSet t b → (y : SpacePoint) → IsNearCut (complex_of a) t (complex_of b) y → CutsHeld (complex_of a) b xs y
   cut-near s t S T y (k, e, v, w, i, h, l, H, m, r, o, n, f) =
       let g = at-map form_of b.carriers i h r in
       let on = subst (λ (j : Form). form_at j y ≡ pos 0) (sym g.2) o in
@@ -194,25 +194,25 @@ module _ (a b : Complex) (xs : List Spanned) (A : AreSpannedCarriers b (length b
 module _ (s t : Set) (a b : Complex) (S : ShowsSet s a) (T : ShowsSet t b) (us vs ns : List Named) (all : HasTogether a b us vs ns)
     (xs : List Spanned) (X : AreSpannedCarriers b (length b.carriers) xs) (third : AddsAll (CutsBy (complex_of a) xs) (CutsHeld (complex_of a) b xs) (IsNamedBetween First (complex_of a) (complex_of b)) [] us)
     (ys : List Spanned) (Y : AreSpannedCarriers a (length a.carriers) ys) (fourth : AddsAll (CutsBy (complex_of b) ys) (CutsHeld (complex_of b) a ys) (IsNamedBetween Second (complex_of b) (complex_of a)) [] vs) where
-  abbrev P : Place → Type 0
+  abbrev P : SpacePoint → Type 0
   P = CutsBy (complex_of a) xs
 
-  abbrev R : Place → Type 0
+  abbrev R : SpacePoint → Type 0
   R = CutsHeld (complex_of a) b xs
 
-  abbrev Q : Place → Type 0
+  abbrev Q : SpacePoint → Type 0
   Q = CutsBy (complex_of b) ys
 
-  abbrev O : Place → Type 0
+  abbrev O : SpacePoint → Type 0
   O = CutsHeld (complex_of b) a ys
 
-  candidate : (y : Place) → Has a b P Q y → IsCandidate (complex_of a) (complex_of b) y
+  candidate : (y : SpacePoint) → Has a b P Q y → IsCandidate (complex_of a) (complex_of b) y
   candidate y (inl h) = inl h
   candidate y (inr (inl h)) = inr (inl h)
   candidate y (inr (inr (inl h))) = inr (inr (inl (cuts-any (complex_of a) b.carriers y (near-cut a b xs X y h))))
   candidate y (inr (inr (inr h))) = inr (inr (inr (cuts-any (complex_of b) a.carriers y (near-cut b a ys Y y h))))
 
-  vertex-near : (r q : Set) → ShowsSet r a → ShowsSet q b → (y : Place) → IsVertex r y ⊎ IsVertex q y ⊎ IsNearCut (complex_of a) q (complex_of b) y ⊎ IsNearCut (complex_of b) r (complex_of a) y → Has a b R O y
+  vertex-near : (r q : Set) → ShowsSet r a → ShowsSet q b → (y : SpacePoint) → IsVertex r y ⊎ IsVertex q y ⊎ IsNearCut (complex_of a) q (complex_of b) y ⊎ IsNearCut (complex_of b) r (complex_of a) y → Has a b R O y
   vertex-near r q E F y (inl h) = inl (vertex-of r (complex_of a) y E.shows h)
   vertex-near r q E F y (inr (inl h)) = inr (inl (vertex-of q (complex_of b) y F.shows h))
   vertex-near r q E F y (inr (inr (inl h))) = inr (inr (inl (cut-near a b xs X r q E F y h)))
@@ -224,14 +224,14 @@ module _ (s t : Set) (a b : Complex) (S : ShowsSet s a) (T : ShowsSet t b) (us v
       let listed = together-all a b P R Q O us vs ns all third fourth in
       record {
         ordered = together-ordered a b P R Q O us vs ns all third fourth;
-        each = λ p h. candidate (place_of p) (each p h);
+        each = λ p h. candidate (point_of p) (each p h);
         vertices = λ y h. listed y (vertex y h);
-        framed = each-framed s t a b (map named_point ns) S.shows T.shows (λ p h. candidate (place_of p) (each p h));
+        framed = each-framed s t a b (map named_point ns) S.shows T.shows (λ p h. candidate (point_of p) (each p h));
         named = together-named a b P R Q O us vs ns all third fourth;
         complete = λ r q y E F v. listed y (vertex-near r q E F y (candidates-suffice r q (complex_of a) (complex_of b) y E.shows F.shows v));
       }
     where
-      vertex : (y : Place) → IsVertexOf (complex_of a) y ⊎ IsVertexOf (complex_of b) y → Has a b R O y
+      vertex : (y : SpacePoint) → IsVertexOf (complex_of a) y ⊎ IsVertexOf (complex_of b) y → Has a b R O y
       vertex y (inl h) = inl h
       vertex y (inr h) = inr (inl h)
 

@@ -1,5 +1,5 @@
 -- Planes that are tested for equality, and two that hold one point.
-use Rattle.nef_cand.proofs.Prelude.{◌≡◌, ℤ, pos, ◌-ℤ◌, ◌*ℤ◌, Bool, true, false, [], ◌∷◌, refl, ap, sym, subst, ◌∙◌, IsTrue, int_eq, ◌&&◌, Decides-int_eq, ring, at, num, ◌⊖◌, ◌⊗◌, Place, Form, normal_of, IsDirection, cross, IsSamePlane, form_of, Plane, same_planes_equal, HoldsBoth}
+use Rattle.nef_cand.proofs.Prelude.{◌≡◌, ℤ, pos, ◌-ℤ◌, ◌*ℤ◌, Bool, true, false, [], ◌∷◌, refl, ap, sym, subst, ◌∙◌, IsTrue, int_eq, ◌&&◌, Decides-int_eq, ring, at, num, ◌⊖◌, ◌⊗◌, SpacePoint, Form, normal_of, IsDirection, cross, IsSamePlane, form_of, Plane, same_planes_equal, HoldsBoth}
 use lib.Dec.{T}
 use Rattle.nef_complex.proofs.SamePlanes.{parallel-equal}
 
@@ -43,12 +43,12 @@ tested-other g h e same =
 
 -- ---- two planes through both points
 -- both hold them, and their normals aren't parallel
-pub record IsLineThrough (g h : Plane) (p q : Place) : Type 0 where
+pub record IsLineThrough (g h : Plane) (p q : SpacePoint) : Type 0 where
   pub first : HoldsBoth (form_of g) p q
   pub second : HoldsBoth (form_of h) p q
   pub independent : IsDirection (cross (normal_of (form_of g)) (normal_of (form_of h)))
 
-pub line-of : (g h : Plane) (p q : Place) → HoldsBoth (form_of g) p q → HoldsBoth (form_of h) p q → (h ≡ g → ⊥) → IsLineThrough g h p q
+pub line-of : (g h : Plane) (p q : SpacePoint) → HoldsBoth (form_of g) p q → HoldsBoth (form_of h) p q → (h ≡ g → ⊥) → IsLineThrough g h p q
 line-of g h p q i k n = record {
   first = i;
   second = k;

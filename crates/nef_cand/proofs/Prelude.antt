@@ -3,8 +3,8 @@ pub use Rattle.law_near.proofs.Prelude.{HasFlat, HasLabel, In, InFrame, InHalf, 
 pub use Rattle.nef_geo.proofs.Prelude.{IsNone, IsOnlyCommon, lit≤, ◌&&◌}
 pub use Rattle.law_complex.proofs.Prelude.{HasFlat-fewer, IsNearCut, IsVertexOfBoth, flat_dim-of, is-at_none}
 pub use Rattle.nef_smap.proofs.Prelude.{eq_by_cmp, fraction-le-trans}
-pub use Rattle.nef_complex.proofs.Prelude.{AreInOrder, Contains, Contains-permutation, Equal, FlatDim, IfSome, IsBelow, IsEdgeBelow, IsPermutation, IsPermutation-sym, IsSamePlane, IsSkeletonIn, IsSorted, IsTotalOrder, IsWithin, Less, Ordering, Out, ShowsSet, append_assoc, coordinate_x, dedup, drop, form_numbers, length-drop, map, on_total, place_below-apart, place_below-same, place_below-trans, same-place_below, same_places_equal, same_planes_equal, take, take_all, ◌++◌}
-pub use Rattle.nef_plane.proofs.Prelude.{AreAlone, AreHolders, At, Bool, Complex, Decides-int_eq, Edge, EdgeSupport, Flat, Form, HasEnds, HasOppositeSigns, HoldsBoth, InClosedFrame, IsAt, IsBetween, IsDirection, IsEdgePoint, IsInSpan, IsNarrower, IsPlaceBelow, IsVertexPoint, IsZero, Lies, List, MatchOption, None, Option, Place, Plane, Point, Poly, SamePlace, SamePlane, Set, Shows, Some, Span, Vector, Vertex, [], abs_times, ap, apart, arith, at, at-map, at-one, at-within, between-ends, between-same, by_order, carriers, cases_lt, complex_of, cross, crossed-parted, edge-points, edge-support, edge_of, ends, eq-or-lt_of_le, false, follows, form_at, form_of, get-from_at, get_or, given, got-at, half_side, held-between, high-within, hit_place, holders-within, inl, inr, int_eq, ints, is-at_get, is-at_is, is-at_one, is-at_some, is-at_within, length, listed_edge, low-within, ltb-true, map-at, minus-is, mul-le-mul_right, mul_nonneg, nat_abs, neg, neg_ℤ, none, normal_of, nought-is, nought-or, num, parallel-both, parted-cut, place_of, plane-point, plane-slope, plane-turned, plane-way, plus-is, point_limit, pos, refl, ring, rules, same-itself, same-place_sym, same-place_trans, sign, sign-minus, sign-plus, slope, span-between, span-wider, start, start-between, subst, suc, sym, through-both, times-nought, toward, true, unsigned_abs-mul, vertex-same, vertex_of, zero, ℕ, ℤ, ⊎_elim, ◌*ℤ◌, ◌*◌, ◌+ℤ◌, ◌+◌, ◌-ℤ◌, ◌-◌, ◌<ℤ◌, ◌<◌, ◌^◌, ◌↔◌, ◌∙◌, ◌∷◌, ◌≡◌, ◌≤ℤ◌, ◌≤◌, ◌⊎◌, ◌⊕◌, ◌⊖◌, ◌⊗◌}
+pub use Rattle.nef_complex.proofs.Prelude.{AreInOrder, Contains, Contains-permutation, Equal, FlatDim, IfSome, IsBelow, IsEdgeBelow, IsPermutation, IsPermutation-sym, IsSamePlane, IsSkeletonIn, IsSorted, IsTotalOrder, IsWithin, Less, Ordering, Out, ShowsSet, append_assoc, coordinate_x, dedup, drop, form_numbers, length-drop, map, on_total, point_below-apart, point_below-same, point_below-trans, same-point_below, same_planes_equal, same_points_equal, take, take_all, ◌++◌}
+pub use Rattle.nef_plane.proofs.Prelude.{AreAlone, AreHolders, Bool, Complex, Decides-int_eq, Edge, EdgeSupport, Flat, Form, HasEnds, HasOppositeSigns, HoldsBoth, InClosedFrame, IsAt, IsBetween, IsDirection, IsEdgePoint, IsInSpan, IsNarrower, IsPointBelow, IsVertexPoint, IsZero, Lies, List, MatchOption, None, Option, Plane, Point, Poly, SamePlane, SamePoint, Set, Shows, Some, SpacePoint, Span, Vector, Vertex, [], abs_times, ap, apart, arith, at, at-map, at-one, at-within, between-ends, between-same, by_order, carriers, cases_lt, complex_of, cross, crossed-parted, edge-points, edge-support, edge_of, ends, eq-or-lt_of_le, false, follows, form_at, form_of, get-from_at, get_or, given, got-at, half_side, held-between, high-within, hit_point, holders-within, inl, inr, int_eq, ints, is-at_get, is-at_is, is-at_one, is-at_some, is-at_within, length, listed_edge, low-within, ltb-true, map-at, minus-is, mul-le-mul_right, mul_nonneg, nat_abs, neg, neg_ℤ, none, normal_of, nought-is, nought-or, num, parallel-both, parted-cut, plane-point, plane-slope, plane-turned, plane-way, plus-is, point_limit, point_of, pos, refl, ring, rules, same-itself, same-point_sym, same-point_trans, sign, sign-minus, sign-plus, slope, span-between, span-wider, start, start-between, subst, suc, sym, through-both, times-nought, toward, true, unsigned_abs-mul, vertex-same, vertex_of, zero, ℕ, ℤ, ⊎_elim, ◌*ℤ◌, ◌*◌, ◌+ℤ◌, ◌+◌, ◌-ℤ◌, ◌-◌, ◌<ℤ◌, ◌<◌, ◌^◌, ◌↔◌, ◌∙◌, ◌∷◌, ◌≡◌, ◌≤ℤ◌, ◌≤◌, ◌⊎◌, ◌⊕◌, ◌⊖◌, ◌⊗◌}
 pub use Rattle.nef_locate.proofs.Prelude.{IfOk-weaker, InOrder, IsSkeletonAt, is_lt, level-same, no_span, normal-direction, search_list, spanned}
 pub use Rattle.std.proofs.lemmas.Bool.{le-leb, leb-true}
 pub use Rattle.std.proofs.lemmas.List.{map_more, take-append-drop}
@@ -12,7 +12,7 @@ pub use Rattle.std.proofs.lemmas.List.Elements.{Contains-append_cases, Contains-
 pub use Rattle.std.proofs.lemmas.List.Sorted.{answers_always, ranks_by}
 pub use Rattle.std.proofs.lemmas.Result.{on_ok_weaker}
 pub use Rattle.std.specs.Bool.{IsTrue}
-pub use Rattle.law_near.proofs.Mixed.{place-decided}
+pub use Rattle.law_near.proofs.Mixed.{point-decided}
 pub use Rattle.nef_geo.specs.Meet.{HasDependentNormals}
 pub use Rattle.law_sphere.proofs.Lists.{Found}
 pub use Rattle.law_complex.proofs.Candidates.{candidates-suffice, never-flat}
@@ -31,8 +31,8 @@ pub use Rattle.nef_index.specs.declared.spans.Bounds.{Bounds}
 pub use Rattle.nef_locate.proofs.Located.{held-same, skeleton-same, vertices-sorted}
 pub use Rattle.nef_cand.specs.Candidates.{AreCandidates, AreCutCandidates, AreExactly, AreFramed, IsCutBy, IsListed, IsVertexOf}
 pub use Rattle.nef_cand.specs.Names.{AreNamed, AreNamedBelow, AreNamedInOrder, IsAmong, IsNamed, IsNamedBetween, IsNamedIn, IsOnceEach, named_point}
-pub use Rattle.nef_cand.specs.Near.{AreMerged, AreMergedTo, ArePassed, AreSpannedCarriers, AreSpannedIn, AreThoseNear, AreWithinSpan, CutsBy, CutsEdgeBy, CutsEdgeByOne, CutsEdgeHeld, CutsEdgeHeldOne, CutsHeld, HasBothVertices, HasTogether, HasVertices, IsApart, IsCandidate, IsCarrierCut, IsHeldCut, IsHeldCutOf, IsHeldIn, IsSpanned, IsSpannedIn, ListsCuts, ListsNear}
-pub use Rattle.nef_cand.specs.Points.{Adds, AddsAll, CutsEdge, CutsOne, HasBoth, IsCrossing, ListsCandidates, MissesFrame, point_of}
+pub use Rattle.nef_cand.specs.Near.{AreMergedFirst, AreMergedTo, ArePassed, AreSpannedCarriers, AreSpannedIn, AreThoseNear, AreWithinSpan, CutsBy, CutsEdgeBy, CutsEdgeByOne, CutsEdgeHeld, CutsEdgeHeldOne, CutsHeld, HasBothVertices, HasTogether, HasVertices, IsApart, IsCandidate, IsCarrierCut, IsHeldCut, IsHeldCutOf, IsHeldIn, IsSpanned, IsSpannedIn, ListsCuts, ListsNear}
+pub use Rattle.nef_cand.specs.Points.{AddsAll, AddsPoints, CutsEdge, CutsOne, HasBoth, IsCutBetween, ListsCandidates, MissesFrame, vertex_point}
 pub use Rattle.nef_cand.specs.declared.listing.Spanned.{Spanned}
 pub use Rattle.nef_cand.specs.declared.named.Named.{Named}
 pub use Rattle.nef_cand.specs.declared.named.Operand.{Operand}

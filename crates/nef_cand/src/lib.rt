@@ -11,5 +11,5 @@ mod named;
 
 pub use by_threads::near_candidates_by_threads;
 pub use listing::{candidates, cut_candidates, misses_frame, near_candidates};
-pub use named::{Name, Named, Operand, named_points, vertex_points};
+pub use named::{CandidateName, Named, Operand, named_points, vertex_points};
 pub use nef_complex::OutOfMemory;

@@ -4,11 +4,13 @@
 //! set there. So cuts where the other set has nothing in the carrier that cuts may be left out; and it has something only
 //! within a span of the vertices on the carrier.
 
-ghost use Rattle.nef_cand.specs.Prelude.{ℕ, IfOk, Bool, pos, length, IsTrue, OnOk, [], MatchOption, Place, Form, InFrame, SamePlace, form_at, Set, IsVertex, IsAt, form_of, place_of, SamePlane, IsVertexOfBoth, complex_of, ShowsSet, AreAlone, Edge, Vertex, Span as SpanValue, IsNarrower, IsListed, IsCutBy, AreCandidates, AreCutCandidates, AreFramed, IsNamedIn, IsNamedBetween, Adds, AddsAll, CutsOne, CutsEdge, MissesFrame, AreSpannedIn, AreSpannedCarriers, AreWithinSpan, AreThoseNear, IsApart, CutsBy, CutsHeld, CutsEdgeByOne, CutsEdgeHeldOne, IsHeldCutOf, ListsCuts, ListsNear};
+ghost use Rattle.nef_cand.specs.Prelude.{ℕ, IfOk, Bool, pos, length, IsTrue, OnOk, [], MatchOption, SpacePoint, Form, InFrame, SamePoint, form_at, Set, IsVertex, IsAt, form_of, point_of, SamePlane, IsVertexOfBoth, complex_of, ShowsSet, AreAlone, Edge, Vertex, Span as SpanValue, IsNarrower, IsListed, IsCutBy, AreCandidates, AreCutCandidates, AreFramed, IsNamedIn, IsNamedBetween, AddsPoints, AddsAll, CutsOne, CutsEdge, MissesFrame, AreSpannedIn, AreSpannedCarriers, AreWithinSpan, AreThoseNear, IsApart, CutsBy, CutsHeld, CutsEdgeByOne, CutsEdgeHeldOne, IsHeldCutOf, ListsCuts, ListsNear};
 ghost use Rattle.std.specs.Prelude.{◌≡◌, ◌<◌, ◌≤◌, ◌<ℤ◌, ◌≤ℤ◌, ◌↔◌};
 
 use crate::OutOfMemory;
-use crate::named::{Name, Named, Operand, merged, named_points, sort_once, together, vertices_of};
+use crate::named::{
+    CandidateName, Named, Operand, merged, named_points, sort_once, together, vertices_of,
+};
 use nef_complex::{Complex, Span, carrier_spans, edge_holders, may_meet, point_spans};
 use nef_geo::{HALF_SIDE, Plane, Point, hit_at, lex_cmp, meet, side};
 use nef_locate::place_on;
@@ -26,7 +28,7 @@ pub(crate) struct Spanned {
 /// then, since edges lie in the closed frame, and holds no point of the open frame.
 pub fn misses_frame(h: &Plane) -> bool
     ensures misses { IsTrue result ↔ MissesFrame (form_of h.now) }
-    ensures apart { IsTrue result → (y : Place) → InFrame y → form_at (form_of h.now) y ≡ pos 0 → ⊥ }
+    ensures apart { IsTrue result → (y : SpacePoint) → InFrame y → form_at (form_of h.now) y ≡ pos 0 → ⊥ }
 {
     let normal = h.a().unsigned_abs() + h.b().unsigned_abs() + h.c().unsigned_abs();
     HALF_SIDE.unsigned_abs() * normal <= h.d().unsigned_abs()
@@ -56,7 +58,7 @@ pub(crate) fn spanned_carriers(alloc: Global, c: &Complex) -> Result<Vec<Spanned
 fn crossing(c: &Complex, number: usize, h: &Plane) -> Option<Point>
     requires shows { (s : Set) × ShowsSet s c.now }
     requires within { number < length c.now.edges }
-    ensures crossing { (e : Edge) → IsAt c.now.edges number e → MatchOption result ((y : Place) → CutsEdge c.now h.now e y → ⊥) (λ m. CutsEdge c.now h.now e (place_of m) × ((y : Place) → CutsEdge c.now h.now e y → SamePlace (place_of m) y)) }
+    ensures crossing { (e : Edge) → IsAt c.now.edges number e → MatchOption result ((y : SpacePoint) → CutsEdge c.now h.now e y → ⊥) (λ m. CutsEdge c.now h.now e (point_of m) × ((y : SpacePoint) → CutsEdge c.now h.now e y → SamePoint (point_of m) y)) }
 {
     let edge = c.edges.at(number);
     let low = &c.vertices.at(edge.low).point;
@@ -71,7 +73,7 @@ fn crossing(c: &Complex, number: usize, h: &Plane) -> Option<Point>
     meet(first, second, h)
 }
 
-// Adds the points strictly inside an edge of the complex that lie on the plane, which doesn't hold the edge.
+// AddsPoints the points strictly inside an edge of the complex that lie on the plane, which doesn't hold the edge.
 fn add_plane_cuts(
     listed: &mut Vec<Named>,
     c: &Complex,
@@ -79,11 +81,11 @@ fn add_plane_cuts(
     h: &Plane,
 ) -> Result<(), OutOfMemory>
     requires shows { (s : Set) × ShowsSet s c.now }
-    ensures added { OnOk result (Adds (IsCutBy (complex_of c.now) (form_of h.now)) (IsNamedIn operand (complex_of c.now)) listed.old.items listed.new.items) }
+    ensures added { OnOk result (AddsPoints (IsCutBy (complex_of c.now) (form_of h.now)) (IsNamedIn operand (complex_of c.now)) listed.old.items listed.new.items) }
 {
     for number in 0..c.edges.len() {
         if let Some(point) = crossing(c, number, h) {
-            let name = Name::Edge(operand, number);
+            let name = CandidateName::Edge(operand, number);
             listed.push(Named { point, name })?;
         }
     }
@@ -99,7 +101,7 @@ fn plane_cuts(
     planes: &[Plane],
 ) -> Result<Vec<Named>, OutOfMemory>
     requires shows { (s : Set) × ShowsSet s c.now }
-    ensures cuts { IfOk result (λ v. Adds (CutsOne (complex_of c.now) planes.now) (IsNamedIn operand (complex_of c.now)) [] v.items) }
+    ensures cuts { IfOk result (λ v. AddsPoints (CutsOne (complex_of c.now) planes.now) (IsNamedIn operand (complex_of c.now)) [] v.items) }
 {
     let mut listed = Vec::new(alloc);
     for h in planes {
@@ -125,7 +127,7 @@ fn held_cut(
 {
     let point = crossing(c, number, &carrier.plane)?;
     let place = place_on(other, carrier.number, &carrier.plane, &hit_at(&point))?;
-    let name = Name::Cut(operand, number, place);
+    let name = CandidateName::Cut(operand, number, place);
     Some(Named { point, name })
 }
 
@@ -171,7 +173,7 @@ fn may_reach(low: &Span, high: &Span, around: &Span) -> bool
     low.x.low <= around.x.high && around.x.low <= high.x.high
 }
 
-// Adds the points strictly inside the edge with this number where one of the carriers of the other complex crosses it and
+// AddsPoints the points strictly inside the edge with this number where one of the carriers of the other complex crosses it and
 // that has something in the carrier. Most carriers have it far from the edge, which the spans of its ends tell, and most
 // edges of a large set lie far from all that a small one has, which x or else the span around all carriers tells.
 fn add_edge_cuts(
@@ -223,7 +225,7 @@ fn is_past(c: &Complex, number: usize, ends: &[Span], around: &Span) -> bool
     around.x.high < ends[c.edges.at(number).low].x.low
 }
 
-// Adds the points strictly inside an edge of the complex that lie on one of the carriers of the other, which doesn't hold
+// AddsPoints the points strictly inside an edge of the complex that lie on one of the carriers of the other, which doesn't hold
 // the edge, but for some where the other has nothing in the carrier.
 fn add_near_cuts(
     listed: &mut Vec<Named>,
@@ -307,7 +309,7 @@ pub fn candidates(alloc: Global, a: &Complex, b: &Complex) -> Result<Vec<Point>,
     requires second { (t : Set) × ShowsSet t b.now }
     ensures exactly { IfOk result (λ v. AreCandidates (complex_of a.now) (complex_of b.now) v.items) }
     ensures framed { IfOk result (λ v. AreFramed v.items) }
-    ensures complete { IfOk result (λ v. (s t : Set) (y : Place) → ShowsSet s a.now → ShowsSet t b.now → IsVertexOfBoth s t y → IsListed v.items y) }
+    ensures complete { IfOk result (λ v. (s t : Set) (y : SpacePoint) → ShowsSet s a.now → ShowsSet t b.now → IsVertexOfBoth s t y → IsListed v.items y) }
 {
     let inside_a = plane_cuts(alloc, a, Operand::First, b.carriers.as_slice())?;
     let inside_b = plane_cuts(alloc, b, Operand::Second, a.carriers.as_slice())?;
@@ -323,7 +325,7 @@ pub fn cut_candidates(alloc: Global, c: &Complex, h: &Plane) -> Result<Vec<Point
     requires shows { (s : Set) × ShowsSet s c.now }
     ensures exactly { IfOk result (λ v. AreCutCandidates (complex_of c.now) (form_of h.now) v.items) }
     ensures framed { IfOk result (λ v. AreFramed v.items) }
-    ensures frame { IfOk result (λ v. (f : Form) (closed : Bool) (y : Place) → SamePlane (form_of h.now) f → ShowsSet Set.full c.now → IsVertex (Set.half f closed) y → IsListed v.items y) }
+    ensures frame { IfOk result (λ v. (f : Form) (closed : Bool) (y : SpacePoint) → SamePlane (form_of h.now) f → ShowsSet Set.full c.now → IsVertex (Set.half f closed) y → IsListed v.items y) }
 {
     let mut inside = Vec::new(alloc);
     add_plane_cuts(&mut inside, c, Operand::First, h)?;

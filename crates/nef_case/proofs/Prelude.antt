@@ -7,6 +7,6 @@ pub use Rattle.std.specs.Int.{is_negative}
 pub use Rattle.std.specs.List.{All}
 pub use Rattle.std.specs.Ordering.{int_eq}
 pub use Rattle.std.specs.Prelude.{nat_abs, nat_le, nat_lt, slice_get, unsigned_abs, ◌==◌}
-pub use Rattle.nef_case.specs.Keys.{IsSign, digit_of, number_at, row_of}
+pub use Rattle.nef_case.specs.Keys.{IsSign, digit_of, key_number, row_of}
 pub use Rattle.nef_case.specs.Labels.{and_of, closure_of, diff_of, interior_of, or_of, xor_of}
-pub use Rattle.nef_case.specs.Turns.{IsComposition, IsEntry, IsRowOf, IsTurnRow, Triple, Undoes, coordinate, has_bit, made_by, named_by, negated, negated_if, numbered, ordered, triple_of, turned}
+pub use Rattle.nef_case.specs.Turns.{IsComposition, IsEntry, IsRowOfTurn, IsTurnRow, Triple, Undoes, coordinate, has_bit, made_by, named_by, negated, negated_if, numbered, ordered, row_triple, turned}

@@ -1,5 +1,5 @@
 -- A turn is known by what it makes of the numbers 1, 2 and 3, so that finitely many tests say all of turns.
-use Rattle.nef_case.proofs.Prelude.{◌≡◌, ℕ, zero, suc, ◌+◌, ◌-◌, ◌*◌, ◌/◌, ◌%◌, ◌^◌, ◌<◌, ◌≤◌, ℤ, pos, negsuc, neg_ℤ, List, length, Bool, true, false, cond, refl, sym, ◌∙◌, ap, subst, inl, inr, arith, nat_abs, unsigned_abs, ◌==◌, nat_lt, is_negative, int_eq, All, to_z-of_z, number_at, Triple, ordered, has_bit, negated_if, negated, turned, IsEntry, coordinate, named_by, made_by, IsRowOf, Undoes, IsComposition, triple_of, numbered, IsTurnRow}
+use Rattle.nef_case.proofs.Prelude.{◌≡◌, ℕ, zero, suc, ◌+◌, ◌-◌, ◌*◌, ◌/◌, ◌%◌, ◌^◌, ◌<◌, ◌≤◌, ℤ, pos, negsuc, neg_ℤ, List, length, Bool, true, false, cond, refl, sym, ◌∙◌, ap, subst, inl, inr, arith, nat_abs, unsigned_abs, ◌==◌, nat_lt, is_negative, int_eq, All, to_z-of_z, key_number, Triple, ordered, has_bit, negated_if, negated, turned, IsEntry, coordinate, named_by, made_by, IsRowOfTurn, Undoes, IsComposition, row_triple, numbered, IsTurnRow}
 use Rattle.std.proofs.lemmas.Bool.{cases_order}
 use lib.Dec.{T, eqb→eq, ltb→lt}
 use lib.IntN.{neg_ℤ-neg_ℤ}
@@ -13,11 +13,11 @@ use Rattle.nef_case.proofs.Tables.{int_tests}
 abbrev pub made : Triple → Triple → Triple
 made (a, b, c) v = (named_by a v, named_by b v, named_by c v)
 
-abbrev pub triple : ℤ → ℤ → ℤ → Triple
-triple x y z = (x, y, z)
+abbrev pub triple_with : ℤ → ℤ → ℤ → Triple
+triple_with x y z = (x, y, z)
 
-pub same_triple : (a b c x y z : ℤ) → a ≡ x → b ≡ y → c ≡ z → triple a b c ≡ triple x y z
-same_triple a b c x y z p q r = ap (λ (i : ℤ). triple i b c) p ∙ ap (λ (i : ℤ). triple x i c) q ∙ ap (triple x y) r
+pub same_triple : (a b c x y z : ℤ) → a ≡ x → b ≡ y → c ≡ z → triple_with a b c ≡ triple_with x y z
+same_triple a b c x y z p q r = ap (λ (i : ℤ). triple_with i b c) p ∙ ap (λ (i : ℤ). triple_with x i c) q ∙ ap (triple_with x y) r
 
 named_by-neg_ℤ : (e : ℤ) (v : Triple) → named_by (neg_ℤ e) v ≡ neg_ℤ (named_by e v)
 named_by-neg_ℤ (pos zero) v = refl
@@ -64,12 +64,12 @@ named_by-numbered (negsuc (suc zero)) h = refl
 named_by-numbered (negsuc (suc (suc zero))) h = refl
 named_by-numbered (negsuc (suc (suc (suc n)))) h = absurd (omega (arith, h.high))
 
-pub triple_of-row : (k : ℕ) (row : List ℤ) → length row ≡ 3 → All IsEntry row → IsRowOf k row → triple_of row ≡ turned k numbered
-triple_of-row k row l entries is_row =
+pub row_triple-row : (k : ℕ) (row : List ℤ) → length row ≡ 3 → All IsEntry row → IsRowOfTurn k row → row_triple row ≡ turned k numbered
+row_triple-row k row l entries is_row =
     sym (same_triple _ _ _ _ _ _
-    (named_by-numbered (number_at row 0) (entries 0 (pos 0) (omega arith)))
-    (named_by-numbered (number_at row 1) (entries 1 (pos 0) (omega arith)))
-    (named_by-numbered (number_at row 2) (entries 2 (pos 0) (omega arith))))
+    (named_by-numbered (key_number row 0) (entries 0 (pos 0) (omega arith)))
+    (named_by-numbered (key_number row 1) (entries 1 (pos 0) (omega arith)))
+    (named_by-numbered (key_number row 2) (entries 2 (pos 0) (omega arith))))
     ∙ is_row numbered
 
 -- ---- every number below n passes a test
@@ -164,13 +164,13 @@ wide-is e h = ap word (to_z-of_z w8 e (narrow-fits e h)) ∙ word-is e h
 pub wide-small : (e : ℤ) → IsEntry e → nat_abs (wide e) < 2 ^ 63
 wide-small e h = subst (λ (i : ℤ). nat_abs i < 2 ^ 63) (sym (wide-is e h)) (let l = h.high in omega (arith, l))
 
-pub composed-row : (j k : ℕ) (later earlier : List ℤ) (w : Triple) → length earlier ≡ 3 → All IsEntry earlier → IsRowOf k earlier → IsRowOf j later
-    → w ≡ made_by later (wide (number_at earlier 0), wide (number_at earlier 1), wide (number_at earlier 2)) → w ≡ turned j (turned k numbered)
+pub composed-row : (j k : ℕ) (later earlier : List ℤ) (w : Triple) → length earlier ≡ 3 → All IsEntry earlier → IsRowOfTurn k earlier → IsRowOfTurn j later
+    → w ≡ made_by later (wide (key_number earlier 0), wide (key_number earlier 1), wide (key_number earlier 2)) → w ≡ turned j (turned k numbered)
 composed-row j k later earlier w l entries is_earlier is_later e =
     e ∙ ap (made_by later) (same_triple _ _ _ _ _ _ (wide-is _ (entry 0 (omega (arith, l)))) (wide-is _ (entry 1 (omega (arith, l)))) (wide-is _ (entry 2 (omega (arith, l)))))
-    ∙ is_later (triple_of earlier) ∙ ap (turned j) (triple_of-row k earlier l entries is_earlier)
+    ∙ is_later (row_triple earlier) ∙ ap (turned j) (row_triple-row k earlier l entries is_earlier)
   where
-    entry : (i : ℕ) → i < length earlier → IsEntry (number_at earlier i)
+    entry : (i : ℕ) → i < length earlier → IsEntry (key_number earlier i)
     entry i h = entries i (pos 0) h
 
 pub size_read : (u : ℕ) (x : ℤ) → SFits w64 x → u ≡ unsigned_abs (word x) → u ≡ unsigned_abs x

@@ -1,8 +1,8 @@
 -- The tables of turns, as lists that are computed from what the turns make of the numbers 1, 2 and 3.
-use Rattle.nef_case.proofs.Prelude.{◌≡◌, ℕ, zero, suc, ◌+◌, ◌<◌, ◌≤◌, ℤ, pos, neg_ℤ, List, [], ◌∷◌, length, get_or, Bool, false, cond, sym, ◌∙◌, ap, subst, arith, unsigned_abs, ◌==◌, nat_lt, nat_le, is_negative, All, Triple, turned, IsEntry, IsRowOf, Undoes, IsTurnRow, numbered}
+use Rattle.nef_case.proofs.Prelude.{◌≡◌, ℕ, zero, suc, ◌+◌, ◌<◌, ◌≤◌, ℤ, pos, neg_ℤ, List, [], ◌∷◌, length, get_or, Bool, false, cond, sym, ◌∙◌, ap, subst, arith, unsigned_abs, ◌==◌, nat_lt, nat_le, is_negative, All, Triple, turned, IsEntry, IsRowOfTurn, Undoes, IsTurnRow, numbered}
 use lib.Dec.{T, ltb→lt, leb→le}
 use Rattle.nef_case.proofs.Rows.{both_left, both_right}
-use Rattle.nef_case.proofs.TurnLemmas.{triple, same_triple, word, word-is, made-turned, undoes-by_numbers, below-passes, number_by, numbers-differ, same_parts, parts-same, inverse-one}
+use Rattle.nef_case.proofs.TurnLemmas.{triple_with, same_triple, word, word-is, made-turned, undoes-by_numbers, below-passes, number_by, numbers-differ, same_parts, parts-same, inverse-one}
 
 -- n values of a function, from i on
 abbrev pub values_from : {A : Type 0} → (ℕ → A) → ℕ → ℕ → List A
@@ -54,10 +54,10 @@ row-entries k h =
     subst (All IsEntry) (sym (value-from_start row_of_turn 48 k [] h))
     (entries-are (turned k numbered) (below-passes 48 (λ k. are_entries (turned k numbered)) tt k h))
 
-pub row-is : (k : ℕ) → k < 48 → IsRowOf k (get_or turn_rows k [])
-row-is k h = subst (IsRowOf k) (sym (value-from_start row_of_turn 48 k [] h)) (made-turned k numbered)
+pub row-is : (k : ℕ) → k < 48 → IsRowOfTurn k (get_or turn_rows k [])
+row-is k h = subst (IsRowOfTurn k) (sym (value-from_start row_of_turn 48 k [] h)) (made-turned k numbered)
 
-pub row-one : (k : ℕ) → k < 48 → (j : ℕ) → j < 48 → IsRowOf j (get_or turn_rows k []) → j ≡ k
+pub row-one : (k : ℕ) → k < 48 → (j : ℕ) → j < 48 → IsRowOfTurn j (get_or turn_rows k []) → j ≡ k
 row-one k h j hj other = numbers-differ j k hj h (sym (other numbered) ∙ row-is k h numbered)
 
 -- the entries of a turn's row
@@ -71,7 +71,7 @@ turn-entries w (k, h, e) =
     let all = entries-are (turned k numbered) (below-passes 48 (λ k. are_entries (turned k numbered)) tt k h) in
     subst HasEntries e (record { of_x = all 0 (pos 0) (omega arith); of_y = all 1 (pos 0) (omega arith); of_z = all 2 (pos 0) (omega arith) })
 
-pub words-are : (w : Triple) → HasEntries w → triple (word w.0) (word w.1) (word w.2) ≡ w
+pub words-are : (w : Triple) → HasEntries w → triple_with (word w.0) (word w.1) (word w.2) ≡ w
 words-are (a, b, c) h = same_triple _ _ _ a b c (word-is a h.of_x) (word-is b h.of_y) (word-is c h.of_z)
 
 -- ---- inverses

@@ -1,7 +1,7 @@
 -- Whether a direction d is strictly passed on the way counterclockwise about n from a source s to a target t, all three
 -- perpendicular to n, by the signs of n.(s x t), s.t, n.(s x d), s.d and n.(d x t).
 use Rattle.std.specs.Prelude.{ℕ, zero, suc, ℤ, pos, negsuc, List, Bool, true, false, if◌then◌else◌, nat_lt, ◌==◌, ◌&&◌, ◌||◌, Option, Some, None}
-use Rattle.nef_case.specs.Keys.{number_at}
+use Rattle.nef_case.specs.Keys.{key_number}
 
 -- the class of d, by the signs of n.(s x d) and s.d: how many eighths of a turn d is ahead of s, where an odd class has
 -- all directions strictly between two even ones
@@ -21,8 +21,8 @@ is_positive (pos zero) = false
 is_positive (pos (suc n)) = true
 is_positive (negsuc n) = false
 
-abbrev pub is_odd : ℕ → Bool
-is_odd p = p == 1 || p == 3 || p == 5 || p == 7
+abbrev pub is_odd_key : ℕ → Bool
+is_odd_key p = p == 1 || p == 3 || p == 5 || p == 7
 
 -- the class of the target, where a target in the source's direction is a whole turn ahead
 abbrev pub whole_turn : ℕ → ℕ
@@ -30,7 +30,7 @@ whole_turn q = if q == 0 then 8 else q
 
 -- d of class p is passed before a target of class q; within one class, which then is odd, where t is ahead of d
 abbrev pub passes : ℕ → ℕ → ℤ → Bool
-passes q p last = (nat_lt 0 p && nat_lt p q) || (p == q && is_odd p && is_positive last)
+passes q p last = (nat_lt 0 p && nat_lt p q) || (p == q && is_odd_key p && is_positive last)
 
 abbrev pub passes_classes : Option ℕ → Option ℕ → ℤ → Bool
 passes_classes None p last = false
@@ -42,4 +42,4 @@ between_signs st_turn st_along sd_turn sd_along dt_turn = passes_classes (class_
 
 -- whether the direction is passed, by a key of the five signs
 abbrev pub between_of : List ℤ → Bool
-between_of key = between_signs (number_at key 0) (number_at key 1) (number_at key 2) (number_at key 3) (number_at key 4)
+between_of key = between_signs (key_number key 0) (key_number key 1) (key_number key 2) (key_number key 3) (key_number key 4)

@@ -16,5 +16,5 @@ abbrev pub row_of : List ℤ → ℕ
 row_of = fold (λ row z. row * 3 + digit_of z) 0
 
 -- number k of the key
-abbrev pub number_at : List ℤ → ℕ → ℤ
-number_at key k = slice_index_or key k (pos 0)
+abbrev pub key_number : List ℤ → ℕ → ℤ
+key_number key k = slice_index_or key k (pos 0)

@@ -1,6 +1,6 @@
 -- The 48 turns of space: each puts the three axes into one of their six orders, and then negates some coordinates.
 use Rattle.std.specs.Prelude.{◌≡◌, ℕ, zero, suc, ◌/◌, ◌%◌, ◌<◌, ◌≤◌, ◌==◌, ℤ, pos, negsuc, neg_ℤ, unsigned_abs, List, Bool, if◌then◌else◌}
-use Rattle.nef_case.specs.Keys.{number_at}
+use Rattle.nef_case.specs.Keys.{key_number}
 
 -- the coordinates x, y and z of a point or of a direction
 abbrev pub Triple : Type 0
@@ -50,11 +50,11 @@ named_by (negsuc n) v = neg_ℤ (coordinate (suc n) v)
 
 -- the triple after the turn with this row
 abbrev pub made_by : List ℤ → Triple → Triple
-made_by row v = (named_by (number_at row 0) v, named_by (number_at row 1) v, named_by (number_at row 2) v)
+made_by row v = (named_by (key_number row 0) v, named_by (key_number row 1) v, named_by (key_number row 2) v)
 
 -- the entries are the row of turn k
-abbrev pub IsRowOf : ℕ → List ℤ → Type 0
-IsRowOf k row = (v : Triple) → made_by row v ≡ turned k v
+abbrev pub IsRowOfTurn : ℕ → List ℤ → Type 0
+IsRowOfTurn k row = (v : Triple) → made_by row v ≡ turned k v
 
 -- ---- turning twice
 -- turn k and then turn j give back every triple
@@ -66,8 +66,8 @@ abbrev pub IsComposition : ℕ → ℕ → ℕ → Type 0
 IsComposition i j k = (v : Triple) → turned i v ≡ turned j (turned k v)
 
 -- ---- a row as a triple
-abbrev pub triple_of : List ℤ → Triple
-triple_of row = (number_at row 0, number_at row 1, number_at row 2)
+abbrev pub row_triple : List ℤ → Triple
+row_triple row = (key_number row 0, key_number row 1, key_number row 2)
 
 -- the numbers of the coordinates as a triple, of which a turn makes the turn's row
 abbrev pub numbered : Triple

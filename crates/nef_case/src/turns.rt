@@ -3,7 +3,7 @@
 //! Of (x, y, z) the orders 0 to 5 make (x, y, z), (x, z, y), (y, x, z), (y, z, x), (z, x, y) and (z, y, x).
 
 ghost use Rattle.std.specs.Prelude.{◌≡◌, ℕ, ◌<◌, ◌^◌, All, nat_abs};
-ghost use Rattle.nef_case.specs.Turns.{IsEntry, IsRowOf, Undoes, IsComposition, IsTurnRow, named_by, made_by, numbered, turned};
+ghost use Rattle.nef_case.specs.Turns.{IsEntry, IsRowOfTurn, Undoes, IsComposition, IsTurnRow, named_by, made_by, numbered, turned};
 
 // The rows of all turns, eight for each order, which is given by the old coordinates that become the new x, y and z.
 macro_rules! turn_rows {
@@ -26,8 +26,8 @@ macro_rules! turn_rows {
 pub fn turn_row(k: usize) -> [i8; 3]
     requires turn { k < 48 }
     ensures entries { All IsEntry result }
-    ensures row { IsRowOf k result }
-    ensures only { (j : ℕ) → j < 48 → IsRowOf j result → j ≡ k }
+    ensures row { IsRowOfTurn k result }
+    ensures only { (j : ℕ) → j < 48 → IsRowOfTurn j result → j ≡ k }
 {
     let rows: [[i8; 3]; 48] = turn_rows![
         1 2 3

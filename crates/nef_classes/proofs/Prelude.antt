@@ -10,7 +10,7 @@ pub use Rattle.nef_space.specs.Lists.{Chained, IsAt, IsChain, NumbersClasses}
 pub use Rattle.nef_classes.specs.Classes.{AreClasses, AreLinked, AreNumbered}
 pub use Rattle.nef_classes.specs.Flat.{AreCut, AreStarts, flat_tie}
 pub use Rattle.nef_classes.specs.Forest.{AreOrdered, AreRoots, AreTogether, HasSameTrees, IsLifted, IsParentOrLink}
-pub use Rattle.nef_classes.specs.Tables.{AreNumbers, AreTied, AreTiedWithin, HasCounts, IsCellBelow, IsCellIn, IsCellNumber, place, total}
+pub use Rattle.nef_classes.specs.Tables.{AreNumbers, AreTied, AreTiedWithin, HasCounts, IsCellBelow, IsCellIn, IsCellNumber, cell_number, cell_total}
 pub use Rattle.nef_classes.specs.declared.forest.Link.{Link}
 pub use Rattle.nef_classes.specs.declared.table.Cell.{Cell}
 pub use Rattle.nef_classes.specs.declared.table.Tie.{Tie}

@@ -8,8 +8,8 @@ abbrev pub AreLinked : List Link → ℕ → ℕ → Type 0
 AreLinked ls s t = (k : ℕ) × (l : Link) × IsAt ls k l × (l.first ≡ s) × (l.second ≡ t)
 
 -- all links are between numbers below count
-abbrev pub AreWithin : ℕ → List Link → Type 0
-AreWithin count ls = (k : ℕ) (l : Link) → IsAt ls k l → (l.first < count) × (l.second < count)
+abbrev pub LinksAreBelow : ℕ → List Link → Type 0
+LinksAreBelow count ls = (k : ℕ) (l : Link) → IsAt ls k l → (l.first < count) × (l.second < count)
 
 -- cs has for each number below count what stands for its class: the same where a chain of links joins two numbers
 pub record AreClasses (count : ℕ) (ls : List Link) (cs : List ℕ) : Type 0 where

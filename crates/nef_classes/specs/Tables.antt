@@ -11,13 +11,13 @@ pub record IsCellIn (counts : List ℕ) (x : Cell) : Type 0 where
   pub within : x.column < count
 
 -- how many elements the rows have together
-abbrev pub total : List ℕ → ℕ
-total [] = 0
-total (c ∷ cs) = c + total cs
+abbrev pub cell_total : List ℕ → ℕ
+cell_total [] = 0
+cell_total (c ∷ cs) = c + cell_total cs
 
 -- the number of an element when all rows stand one after the other
-abbrev pub place : List ℕ → Cell → ℕ
-place counts x = total (take x.row counts) + x.column
+abbrev pub cell_number : List ℕ → Cell → ℕ
+cell_number counts x = cell_total (take x.row counts) + x.column
 
 abbrev pub AreTiedWithin : List ℕ → List Tie → Type 0
 AreTiedWithin counts ts = (k : ℕ) (t : Tie) → IsAt ts k t → IsCellIn counts t.first × IsCellIn counts t.second

@@ -3,7 +3,7 @@
 
 ghost use Rattle.std.specs.Prelude.{◌≡◌, ◌<◌};
 ghost use Rattle.nef_geo.specs.Prelude.{length, ℕ, IfOk, IsAt, Chained};
-ghost use Rattle.nef_classes.specs.Classes.{AreWithin, AreClasses, AreNumbered};
+ghost use Rattle.nef_classes.specs.Classes.{LinksAreBelow, AreClasses, AreNumbered};
 ghost use Rattle.nef_classes.specs.Forest.{AreOrdered, IsLifted, HasSameTrees, AreTogether, AreRoots};
 
 use crate::OutOfMemory;
@@ -80,7 +80,7 @@ fn flatten(parents: &mut [usize])
 /// leads from one to the other. The time grows a little faster than `count` and the number of links together.
 /// `OutOfMemory` says that memory was wanted and not found.
 pub fn class_of_each(alloc: Global, count: usize, links: &[Link]) -> Result<Vec<usize>, OutOfMemory>
-    requires within { AreWithin count links.now }
+    requires within { LinksAreBelow count links.now }
     ensures classes { IfOk result (λ v. AreClasses count links.now v.items) }
     ensures roots { IfOk result (λ v. AreRoots v.items) }
 {

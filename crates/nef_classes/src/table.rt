@@ -3,8 +3,8 @@
 
 ghost use Rattle.std.specs.Prelude.{◌≡◌, ◌<◌, ◌^◌};
 ghost use Rattle.nef_geo.specs.Prelude.{ℕ, [], length, IfOk, List as Sequence, IsAt, IsInTable};
-ghost use Rattle.nef_classes.specs.Classes.{AreWithin};
-ghost use Rattle.nef_classes.specs.Tables.{total, IsCellIn, place, AreTiedWithin, HasCounts, AreNumbers};
+ghost use Rattle.nef_classes.specs.Classes.{LinksAreBelow};
+ghost use Rattle.nef_classes.specs.Tables.{cell_total, IsCellIn, cell_number, AreTiedWithin, HasCounts, AreNumbers};
 ghost use Rattle.nef_classes.specs.Flat.{AreStarts, AreFlat, AreCut};
 
 use crate::OutOfMemory;
@@ -30,7 +30,7 @@ pub struct Tie {
 // elements than a `usize` counts finds no memory.
 fn starts_of(alloc: Global, counts: &[usize]) -> Result<Vec<usize>, OutOfMemory>
     ensures starts { IfOk result (λ v. AreStarts counts.now v.items) }
-    ensures fits { IfOk result (λ v. total counts.now < 2 ^ 64) }
+    ensures fits { IfOk result (λ v. cell_total counts.now < 2 ^ 64) }
 {
     let mut starts = Vec::new(alloc);
     let mut next = 0_usize;
@@ -48,10 +48,10 @@ fn starts_of(alloc: Global, counts: &[usize]) -> Result<Vec<usize>, OutOfMemory>
 // The number of the element among all elements of the table.
 fn place_of(starts: &[usize], counts: &[usize], cell: &Cell) -> usize
     requires starts { AreStarts counts.now starts.now }
-    requires fits { total counts.now < 2 ^ 64 }
+    requires fits { cell_total counts.now < 2 ^ 64 }
     requires within { IsCellIn counts.now cell.now }
-    ensures place { result ≡ place counts.now cell.now }
-    ensures within { result < total counts.now }
+    ensures place { result ≡ cell_number counts.now cell.now }
+    ensures within { result < cell_total counts.now }
 {
     starts[cell.row] + cell.column
 }
@@ -64,9 +64,9 @@ fn flat_links(
     ties: &[Tie],
 ) -> Result<Vec<Link>, OutOfMemory>
     requires starts { AreStarts counts.now starts.now }
-    requires fits { total counts.now < 2 ^ 64 }
+    requires fits { cell_total counts.now < 2 ^ 64 }
     requires within { AreTiedWithin counts.now ties.now }
-    ensures within { IfOk result (λ v. AreWithin (total counts.now) v.items) }
+    ensures within { IfOk result (λ v. LinksAreBelow (cell_total counts.now) v.items) }
     ensures flat { IfOk result (λ v. AreFlat counts.now ties.now v.items) }
 {
     let mut links = Vec::new(alloc);
@@ -101,7 +101,7 @@ fn rows_of(
     counts: &[usize],
     numbers: &[usize],
 ) -> Result<List<List<usize>>, OutOfMemory>
-    requires all { length numbers.now ≡ total counts.now }
+    requires all { length numbers.now ≡ cell_total counts.now }
     ensures counts { IfOk result (λ rows. HasCounts counts.now rows) }
     ensures cut { IfOk result (λ rows. AreCut counts.now numbers.now rows) }
 {

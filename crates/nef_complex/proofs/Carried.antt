@@ -1,5 +1,5 @@
 -- Each item lies in a carrier.
-use Rattle.nef_complex.proofs.Prelude.{◌≡◌, ℕ, pos, List, map, sym, ◌∙◌, ⊎_elim, subst, sign, nought-is, nought-or, Place, Form, form_at, normal_of, Set, dot, IsNormal, SameDirection, form_of, place_of, Plane, step-within, reach_all, carriers, keeps-all, ahead, near-ahead, facet-support, by_side, At, Item, item_normal, item_pos, item_mark, item_neg, near-item, item-point, map-at, at-map, get-from_at, Corner as PlainCorner, IsCorner, Shows, near-germ, in-facet, plane-turned, plane-point, plane-slope, Vertex, vertex_of, AreHeld, SameDirection-turned}
+use Rattle.nef_complex.proofs.Prelude.{◌≡◌, ℕ, pos, List, map, sym, ◌∙◌, ⊎_elim, subst, sign, nought-is, nought-or, SpacePoint, Form, form_at, normal_of, Set, dot, IsNormal, SameDirection, form_of, point_of, Plane, step-within, reach_all, carriers, keeps-all, ahead, near-ahead, facet-support, by_side, IsAt, Item, item_normal, item_pos, item_mark, item_neg, near-item, item-point, map-at, at-map, get-from_at, Corner as PlainCorner, IsCorner, Shows, near-germ, in-facet, plane-turned, plane-point, plane-slope, Vertex, vertex_of, ItemsAreHeld, SameDirection-turned}
 use Rattle.law_near.proofs.Germs.{sample, sample-short}
 use Rattle.law_complex.specs.Complexes.{Vertex as PlainVertex, Edge as PlainEdge, Complex as PlainComplex}
 use Rattle.law_complex.proofs.Cones.{FlatAre}
@@ -10,7 +10,7 @@ use Rattle.nef_complex.proofs.Reading.{got-at}
 pub record IsCarried (C : PlainComplex) (v : PlainVertex) (x : Item) : Type 0 where
   pub number : ℕ
   pub plane : Form
-  pub listed : At C.carriers number plane
+  pub listed : IsAt C.carriers number plane
   pub through : form_at plane v.point ≡ pos 0
   pub normal : IsNormal (normal_of plane) → SameDirection (normal_of plane) (item_normal x)
 
@@ -18,7 +18,7 @@ pub carried : (s : Set) (C : PlainComplex) (k : PlainCorner) (v : PlainVertex) (
 carried s C k v x S c =
     let K = S.cones k.vertex v c.vertex in
     let o = item-point v.map K.valid.shaped k.item x c.item in
-    let q : Place = ahead s v.point o.0 in
+    let q : SpacePoint = ahead s v.point o.0 in
     let F = in-facet s C S k v x c q (λ e.
     let l = by_side (item_pos x) (item_mark x) (item_neg x) (sign (dot (item_normal x) e)) in
     (near-ahead s v.point o.0 e l).1 (near-germ v.map s v.point K o.0 e l (near-item v.map K.valid o.0 k.item x c.item o.1 e))) in
@@ -40,11 +40,11 @@ carried s C k v x S c =
     }
 
 -- the program's carriers are in normal form, so one of them is the plane of an item
-pub items-held : (s : Set) (hs : List Plane) (vs : List Vertex) (es : List PlainEdge) → Shows s (record { carriers = map form_of hs; vertices = map vertex_of vs; edges = es }) → AreHeld hs vs
+pub items-held : (s : Set) (hs : List Plane) (vs : List Vertex) (es : List PlainEdge) → Shows s (record { carriers = map form_of hs; vertices = map vertex_of vs; edges = es }) → ItemsAreHeld hs vs
 items-held s hs vs es S k j v x a b =
     let C : PlainComplex = record { carriers = map form_of hs; vertices = map vertex_of vs; edges = es } in
     let K = carried s C (record { vertex = k; item = j }) (vertex_of v) x S (record { vertex = map-at vertex_of vs k v (got-at vs k v a); item = b }) in
     let g = at-map form_of hs K.number K.plane K.listed in
-    let zero = subst (λ (f : Form). form_at f (place_of v.point) ≡ pos 0) (sym g.2) K.through in
+    let zero = subst (λ (f : Form). form_at f (point_of v.point) ≡ pos 0) (sym g.2) K.through in
     let way = subst (λ (f : Form). IsNormal (normal_of f) → SameDirection (normal_of f) (item_normal x)) (sym g.2) K.normal in
     (K.number, g.0, get-from_at hs K.number g.0 g.1, zero, SameDirection-turned (normal_of (form_of g.0)) (item_normal x) (way g.0.normal))

@@ -1,12 +1,12 @@
 -- The ends of an edge, and the planes that hold both.
-use Rattle.nef_complex.proofs.Prelude.{◌≡◌, ℕ, ◌<◌, length, pos, ◌<ℤ◌, arith, ap, ◌∙◌, subst, [], ◌∷◌, ints, at, num, ◌⊖◌, ◌⊗◌, given, none, follows_times, Place, Form, form_at, slope, toward, SamePlace, IsBetween, Set, IsDirection, place_of, slope-toward, start, start-toward, At, at-one, map-at, at-map, at-within, HasEnds, Shows, IsVertexPoint, IsEdgePoint, Vertex, Edge, Complex, vertex_of, edge_of, complex_of, HoldsBoth, direction-left}
+use Rattle.nef_complex.proofs.Prelude.{◌≡◌, ℕ, ◌<◌, length, pos, ◌<ℤ◌, arith, ap, ◌∙◌, subst, [], ◌∷◌, ints, at, num, ◌⊖◌, ◌⊗◌, given, none, follows_times, SpacePoint, Form, form_at, slope, toward, SamePoint, IsBetween, Set, IsDirection, point_of, slope-toward, start, start-toward, IsAt, at-one, map-at, at-map, at-within, HasEnds, Shows, IsVertexPoint, IsEdgePoint, Vertex, Edge, Complex, vertex_of, edge_of, complex_of, HoldsBoth, direction-left}
 use Rattle.law_complex.specs.Complexes.{Vertex as PlainVertex, Edge as PlainEdge}
 
 -- a plane through a point between two others, which holds the direction from the one to the other, holds both
-pub through-both : (h : Form) (p q : Place) → form_at h (start 1 p q) ≡ pos 0 → slope h (toward p q) ≡ pos 0 → HoldsBoth h p q
+pub through-both : (h : Form) (p q : SpacePoint) → form_at h (start 1 p q) ≡ pos 0 → slope h (toward p q) ≡ pos 0 → HoldsBoth h p q
 through-both h p q e f = (first, second)
   where
-    weight : (r : Place) → pos 0 <ℤ pos r.w
+    weight : (r : SpacePoint) → pos 0 <ℤ pos r.w
     weight r = let m = r.proper in omega (arith, ints)
 
     first : form_at h p ≡ pos 0
@@ -20,7 +20,7 @@ through-both h p q e f = (first, second)
         (given (at 4) (at 0) (num (pos 0)) first (given (num (pos 1)) (at 2) (num (pos 0)) f none))) (weight p) tt
 
 -- ---- the ends of an edge exist
-module _ (s : Set) (c : Complex) (S : Shows s (complex_of c)) (k : ℕ) (e : Edge) (a : At c.edges k e) where
+module _ (s : Set) (c : Complex) (S : Shows s (complex_of c)) (k : ℕ) (e : Edge) (a : IsAt c.edges k e) where
   pub low-within : e.low < length c.vertices
   low-within = let E = S.edges.edges k (edge_of e) (map-at edge_of c.edges k e a) in let v = at-map vertex_of c.vertices e.low E.low_vertex E.is_low in at-within c.vertices e.low v.0 v.1
 
@@ -28,17 +28,17 @@ module _ (s : Set) (c : Complex) (S : Shows s (complex_of c)) (k : ℕ) (e : Edg
   high-within = let E = S.edges.edges k (edge_of e) (map-at edge_of c.edges k e a) in let v = at-map vertex_of c.vertices e.high E.high_vertex E.is_high in at-within c.vertices e.high v.0 v.1
 
 -- ---- the point of a vertex, and the ends of an edge
-pub vertex-same : (c : Complex) (k : ℕ) (v : Vertex) → At c.vertices k v → (y : Place) → IsVertexPoint (complex_of c) k y → SamePlace (place_of v.point) y
-vertex-same c k v a y (x, l, o) = subst (λ (r : PlainVertex). SamePlace r.point y) (at-one (complex_of c).vertices k x (vertex_of v) l (map-at vertex_of c.vertices k v a)) o
+pub vertex-same : (c : Complex) (k : ℕ) (v : Vertex) → IsAt c.vertices k v → (y : SpacePoint) → IsVertexPoint (complex_of c) k y → SamePoint (point_of v.point) y
+vertex-same c k v a y (x, l, o) = subst (λ (r : PlainVertex). SamePoint r.point y) (at-one (complex_of c).vertices k x (vertex_of v) l (map-at vertex_of c.vertices k v a)) o
 
-module _ (s : Set) (c : Complex) (S : Shows s (complex_of c)) (k : ℕ) (e : Edge) (u v : Vertex) (l : At c.edges k e) (i : At c.vertices e.low u) (j : At c.vertices e.high v) where
-  abbrev low : Place
-  low = place_of u.point
+module _ (s : Set) (c : Complex) (S : Shows s (complex_of c)) (k : ℕ) (e : Edge) (u v : Vertex) (l : IsAt c.edges k e) (i : IsAt c.vertices e.low u) (j : IsAt c.vertices e.high v) where
+  abbrev low : SpacePoint
+  low = point_of u.point
 
-  abbrev high : Place
-  high = place_of v.point
+  abbrev high : SpacePoint
+  high = point_of v.point
 
-  pub listed_edge : At (complex_of c).edges k (edge_of e)
+  pub listed_edge : IsAt (complex_of c).edges k (edge_of e)
   listed_edge = map-at edge_of c.edges k e l
 
   pub ends : HasEnds (complex_of c) (edge_of e) (vertex_of u) (vertex_of v)
@@ -53,12 +53,12 @@ module _ (s : Set) (c : Complex) (S : Shows s (complex_of c)) (k : ℕ) (e : Edg
       (direction-left (toward E.low_vertex.point E.high_vertex.point) E.low_end.dir E.ahead))
 
   -- what holds of the ends of the edge with this number
-  pub of-ends : (P : Place → Place → Type 0) (f : PlainEdge) (x z : PlainVertex) → At (complex_of c).edges k f → HasEnds (complex_of c) f x z → P x.point z.point → P low high
+  pub of-ends : (P : SpacePoint → SpacePoint → Type 0) (f : PlainEdge) (x z : PlainVertex) → IsAt (complex_of c).edges k f → HasEnds (complex_of c) f x z → P x.point z.point → P low high
   of-ends P f x z g H m =
       let eq = at-one (complex_of c).edges k f (edge_of e) g listed_edge in
-      let first = at-one (complex_of c).vertices e.low x (vertex_of u) (subst (λ (r : PlainEdge). At (complex_of c).vertices r.low x) eq H.low) ends.low in
-      let second = at-one (complex_of c).vertices e.high z (vertex_of v) (subst (λ (r : PlainEdge). At (complex_of c).vertices r.high z) eq H.high) ends.high in
+      let first = at-one (complex_of c).vertices e.low x (vertex_of u) (subst (λ (r : PlainEdge). IsAt (complex_of c).vertices r.low x) eq H.low) ends.low in
+      let second = at-one (complex_of c).vertices e.high z (vertex_of v) (subst (λ (r : PlainEdge). IsAt (complex_of c).vertices r.high z) eq H.high) ends.high in
       subst (λ (r : PlainVertex). P low r.point) second (subst (λ (r : PlainVertex). P r.point z.point) first m)
 
-  pub edge-inside : (y : Place) → IsEdgePoint (complex_of c) k y → IsBetween low y high
+  pub edge-inside : (y : SpacePoint) → IsEdgePoint (complex_of c) k y → IsBetween low y high
   edge-inside y (f, x, z, g, H, m) = of-ends (λ r t. IsBetween r y t) f x z g H m

@@ -1,8 +1,8 @@
 -- Points on one line, and where a line crosses a plane.
-use Rattle.nef_complex.proofs.Prelude.{◌≡◌, ℤ, pos, ◌-ℤ◌, ◌*ℤ◌, arith, ⊎_elim, [], ◌∷◌, ints, at, num, ◌⊖◌, ◌⊗◌, follows_times, given, none, Place, Form, slope, normal_of, toward, SamePlace, Vector, cross, IsZero, toward-place, plane-way, HoldsBoth, zero-decided, in-span}
+use Rattle.nef_complex.proofs.Prelude.{◌≡◌, ℤ, pos, ◌-ℤ◌, ◌*ℤ◌, arith, ⊎_elim, [], ◌∷◌, ints, at, num, ◌⊖◌, ◌⊗◌, follows_times, given, none, SpacePoint, Form, slope, normal_of, toward, SamePoint, Vector, cross, IsZero, toward-point, plane-way, HoldsBoth, zero-decided, in-span}
 
 -- with u and v on the line through p along d, so is the way from u to v
-pub on_line : (p u v : Place) (d : Vector) → IsZero (cross (toward p u) d) → IsZero (cross (toward p v) d) → IsZero (cross (toward u v) d)
+pub on_line : (p u v : SpacePoint) (d : Vector) → IsZero (cross (toward p u) d) → IsZero (cross (toward p v) d) → IsZero (cross (toward u v) d)
 on_line p u v d g h = (each p.y p.z u.y u.z v.y v.z d.y d.z g.0 h.0, each p.z p.x u.z u.x v.z v.x d.z d.x g.1 h.1, each p.x p.y u.x u.y v.x v.y d.x d.y g.2 h.2)
   where
     each : (a b u' u'' v' v'' e f : ℤ) → (u' *ℤ pos p.w -ℤ a *ℤ pos u.w) *ℤ f -ℤ (u'' *ℤ pos p.w -ℤ b *ℤ pos u.w) *ℤ e ≡ pos 0 → (v' *ℤ pos p.w -ℤ a *ℤ pos v.w) *ℤ f -ℤ (v'' *ℤ pos p.w -ℤ b *ℤ pos v.w) *ℤ e ≡ pos 0
@@ -16,5 +16,5 @@ on_line p u v d g h = (each p.y p.z u.y u.z v.y v.z d.y d.z g.0 h.0, each p.z p.
         (let w = p.proper in omega (arith, ints)) tt
 
 -- a plane that isn't along d holds one point of the line
-pub one-crossing : (g : Form) (d : Vector) (p u v : Place) → IsZero (cross (toward p u) d) → IsZero (cross (toward p v) d) → HoldsBoth g u v → (slope g d ≡ pos 0 → ⊥) → SamePlace u v
-one-crossing g d p u v a b (m, n) f = ⊎_elim (toward-place u v) (λ t. absurd (f (in-span (normal_of g) (toward u v) d t (on_line p u v d a b) (plane-way g u v m n)))) (zero-decided (toward u v))
+pub one-crossing : (g : Form) (d : Vector) (p u v : SpacePoint) → IsZero (cross (toward p u) d) → IsZero (cross (toward p v) d) → HoldsBoth g u v → (slope g d ≡ pos 0 → ⊥) → SamePoint u v
+one-crossing g d p u v a b (m, n) f = ⊎_elim (toward-point u v) (λ t. absurd (f (in-span (normal_of g) (toward u v) d t (on_line p u v d a b) (plane-way g u v m n)))) (zero-decided (toward u v))

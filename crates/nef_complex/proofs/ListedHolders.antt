@@ -1,5 +1,5 @@
 -- The listed carriers that hold two points, one after the other.
-use Rattle.nef_complex.proofs.Prelude.{◌≡◌, ℕ, ◌+◌, ◌<◌, ◌≤◌, List, length, arith, subst, ⊎_elim, IsAt, Place, form_of, Plane, At, less-or-last, is-at_one, is-at_within, get-from_at, AreWithin, AreHolders, HoldsBoth}
+use Rattle.nef_complex.proofs.Prelude.{◌≡◌, ℕ, ◌+◌, ◌<◌, ◌≤◌, List, length, arith, subst, ⊎_elim, IsAt, SpacePoint, form_of, Plane, less-or-last, is-at_one, is-at_within, get-from_at, AreNumbersOf, AreHolders, HoldsBoth}
 
 -- Q of the carriers among the first n of the list
 abbrev pub AllListed : List Plane → List ℕ → ℕ → (Plane → Type 0) → Type 0
@@ -12,8 +12,8 @@ listed-more hs ns n k g Q a b all q i m f l c d = ⊎_elim (λ o. all i m f o c 
     subst Q (is-at_one hs k g f b (subst (λ (j : ℕ). IsAt hs j f) same d)) q)
     (less-or-last i n l)
 
-module _ (hs : List Plane) (a b : Place) (ns : List ℕ) (H : AreHolders hs a b ns) where
-  pub holders-within : AreWithin hs ns
+module _ (hs : List Plane) (a b : SpacePoint) (ns : List ℕ) (H : AreHolders hs a b ns) where
+  pub holders-within : AreNumbersOf hs ns
   holders-within i k l = let o = H.each i k l in is-at_within hs k o.0 o.1
 
   -- a listed carrier holds both points
@@ -21,5 +21,5 @@ module _ (hs : List Plane) (a b : Place) (ns : List ℕ) (H : AreHolders hs a b 
   holder-holds i k g l d = let o = H.each i k l in subst (λ (r : Plane). HoldsBoth (form_of r) a b) (is-at_one hs k o.0 g o.1 d) o.2
 
   -- what holds of all that are listed holds of each carrier that holds both points
-  pub all-holders : (Q : Plane → Type 0) (n : ℕ) → length ns ≤ n → AllListed hs ns n Q → (k : ℕ) (g : Plane) → At hs k g → HoldsBoth (form_of g) a b → Q g
+  pub all-holders : (Q : Plane → Type 0) (n : ℕ) → length ns ≤ n → AllListed hs ns n Q → (k : ℕ) (g : Plane) → IsAt hs k g → HoldsBoth (form_of g) a b → Q g
   all-holders Q n le all k g l h = let o = H.all k (g, get-from_at hs k g l, h) in all o.0 k g (let m = is-at_within ns o.0 k o.1 in omega arith) o.1 (get-from_at hs k g l)

@@ -1,5 +1,5 @@
 -- Where a plane parts two points, it crosses the segment between them.
-use Rattle.nef_complex.proofs.Prelude.{◌≡◌, ℕ, ◌<◌, ℤ, pos, ◌+ℤ◌, ◌-ℤ◌, ◌*ℤ◌, ◌<ℤ◌, arith, ap, sym, ◌∙◌, inl, inr, ⊎_elim, [], ◌∷◌, ints, ring, Poly, at, num, ◌⊕◌, ◌⊖◌, ◌⊗◌, given, none, follows, follows_times, mul_pos, mul_neg, by_order, Place, Form, form_at, slope, toward, IsBetween, Vector, dot, cross, triple, IsZero, IsDirection, HasOppositeSigns, IsMixed, of_place, form-sum, slope-toward, mixed-of, between-turned, slope-zero, HoldsBoth, cross-turned, in-span}
+use Rattle.nef_complex.proofs.Prelude.{◌≡◌, ℕ, ◌<◌, ℤ, pos, ◌+ℤ◌, ◌-ℤ◌, ◌*ℤ◌, ◌<ℤ◌, arith, ap, sym, ◌∙◌, inl, inr, ⊎_elim, [], ◌∷◌, ints, ring, Poly, at, num, ◌⊕◌, ◌⊖◌, ◌⊗◌, given, none, follows, follows_times, mul_pos, mul_neg, by_order, SpacePoint, Form, form_at, slope, toward, IsBetween, Vector, dot, cross, triple, IsZero, IsDirection, HasOppositeSigns, IsMixed, of_point, form-sum, slope-toward, mixed-of, between-turned, slope-zero, HoldsBoth, cross-turned, in-span}
 use Rattle.law_complex.proofs.FacetAngles.{cut-at}
 
 -- ---- signs of products
@@ -16,12 +16,12 @@ pub times-nought : (k c : ℤ) → pos 0 <ℤ k → k *ℤ c ≡ pos 0 → c ≡
 times-nought k c x h = by_order c (pos 0) (λ l. let u = mul_neg k c x l in absurd (omega (arith, ints))) (λ o. o) (λ l. let u = mul_pos k c x l in absurd (omega (arith, ints)))
 
 -- ---- the sides of the two points
-module _ (h : Form) (p q : Place) where
+module _ (h : Form) (p q : SpacePoint) where
   -- a plane that parts two points isn't parallel to the way from the one to the other
   pub parted-slope : HasOppositeSigns (form_at h p) (form_at h q) → slope h (toward p q) ≡ pos 0 → ⊥
   parted-slope s z = by (form_at h p) (form_at h q) (pos p.w) (pos q.w) (weight p) (weight q) s (sym (slope-toward h p q) ∙ z)
     where
-      weight : (r : Place) → pos 0 <ℤ pos r.w
+      weight : (r : SpacePoint) → pos 0 <ℤ pos r.w
       weight r = let m = r.proper in omega (arith, ints)
 
       by : (a b k l : ℤ) → pos 0 <ℤ k → pos 0 <ℤ l → HasOppositeSigns a b → k *ℤ b -ℤ l *ℤ a ≡ pos 0 → ⊥
@@ -36,7 +36,7 @@ module _ (h : Form) (p q : Place) where
   parted-apart s (e, f) = ⊎_elim (λ (m : (form_at h p <ℤ pos 0) × (pos 0 <ℤ form_at h q)). omega (arith, ints, m.0)) (λ (m : (pos 0 <ℤ form_at h p) × (form_at h q <ℤ pos 0)). omega (arith, ints, m.0)) s
 
   -- but crosses the segment between them
-  pub parted-cut : HasOppositeSigns (form_at h p) (form_at h q) → (y : Place) × IsBetween p y q × (form_at h y ≡ pos 0)
+  pub parted-cut : HasOppositeSigns (form_at h p) (form_at h q) → (y : SpacePoint) × IsBetween p y q × (form_at h y ≡ pos 0)
   parted-cut s = by s
     where
       turned : IsDirection (toward p q) → IsDirection (toward q p)
@@ -45,16 +45,16 @@ module _ (h : Form) (p q : Place) where
           one : (x u : ℤ) → u *ℤ pos q.w -ℤ x *ℤ pos p.w ≡ pos 0 → x *ℤ pos p.w -ℤ u *ℤ pos q.w ≡ pos 0
           one x u e = omega (arith, ints)
 
-      by : HasOppositeSigns (form_at h p) (form_at h q) → (y : Place) × IsBetween p y q × (form_at h y ≡ pos 0)
+      by : HasOppositeSigns (form_at h p) (form_at h q) → (y : SpacePoint) × IsBetween p y q × (form_at h y ≡ pos 0)
       by (inl (m, n)) = let c = cut-at h q p (turned (parted-way s)) n m in (c.place, between-turned q p c.place c.between, c.level)
       by (inr (m, n)) = let c = cut-at h p q (parted-way s) m n in (c.place, c.between, c.level)
 
-  module _ (y : Place) (b : IsBetween p y q) where
-    mixed : IsMixed (of_place p) (of_place y) (of_place q)
+  module _ (y : SpacePoint) (b : IsBetween p y q) where
+    mixed : IsMixed (of_point p) (of_point y) (of_point q)
     mixed = mixed-of p y q b
 
     sum : pos mixed.k *ℤ form_at h y ≡ pos mixed.i *ℤ form_at h p +ℤ pos mixed.j *ℤ form_at h q
-    sum = form-sum h mixed.k (of_place y) mixed.i (of_place p) mixed.j (of_place q) mixed.sum
+    sum = form-sum h mixed.k (of_point y) mixed.i (of_point p) mixed.j (of_point q) mixed.sum
 
     -- a plane that holds both points holds those between
     pub held-between : HoldsBoth h p q → form_at h y ≡ pos 0

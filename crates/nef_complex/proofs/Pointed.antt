@@ -1,5 +1,5 @@
 -- Vertices and their points: what an index says of the points, it says of the vertices.
-use Rattle.nef_complex.proofs.Prelude.{◌≡◌, ◌↔◌, ℕ, ◌<◌, pos, List, length, ap, sym, subst, ◌∙◌, IsAt, Form, form_at, form_of, place_of, Plane, Point, is-at_some, is-at_one, is-at_within, Vertex, Edge, Span, points_of, IsInSpan, IsPointOn, IsEdgeIn, HaveEnds, LiesOn, EdgeLiesIn, ArePointHolders, AreVertexHolders, ArePointSpans, AreAlone, AreHolders, AreCarrierSpans, AreSpans, HoldsPointsOn, IsSpanOn, slice_get-map, option_map}
+use Rattle.nef_complex.proofs.Prelude.{◌≡◌, ◌↔◌, ℕ, ◌<◌, pos, List, length, ap, sym, subst, ◌∙◌, IsAt, Form, form_at, form_of, point_of, Plane, Point, is-at_some, is-at_one, is-at_within, Vertex, Edge, Span, points_of, IsInSpan, IsPointOn, IsEdgeIn, HaveEnds, LiesOn, EdgeLiesIn, ArePointHolders, AreVertexHolders, ArePointSpans, AreAlone, AreHolders, AreCarrierSpans, AreSpans, HoldsPointsOn, IsSpanOn, slice_get-map, option_map}
 use Rattle.std.proofs.lemmas.List.{length-map}
 
 pub point-at : (vs : List Vertex) (k : ℕ) (v : Vertex) → IsAt vs k v → IsAt (points_of vs) k v.point
@@ -17,7 +17,7 @@ at-point vs k p a =
 module _ (vs : List Vertex) (h : Form) where
   pub on-point : (k : ℕ) → IsPointOn (points_of vs) h k ↔ LiesOn vs h k
   on-point k = (
-    λ (p, a, z). let v = at-point vs k p a in (v.0, v.1, subst (λ (q : Point). form_at h (place_of q) ≡ pos 0) (sym v.2) z),
+    λ (p, a, z). let v = at-point vs k p a in (v.0, v.1, subst (λ (q : Point). form_at h (point_of q) ≡ pos 0) (sym v.2) z),
     λ (v, a, z). (v.point, point-at vs k v a, z),
   )
 
@@ -31,13 +31,13 @@ module _ (vs : List Vertex) (h : Form) where
 pub rows-points : (hs : List Plane) (vs : List Vertex) (rows : List (List ℕ)) → AreVertexHolders hs vs rows → ArePointHolders hs (points_of vs) rows
 rows-points hs vs rows R = record {
   as_many = R.as_many ∙ sym (as-many vs);
-  each = λ k p ns a b. let v = at-point vs k p a in subst (λ (q : Point). AreHolders hs (place_of q) (place_of q) ns) v.2 (R.each k v.0 ns v.1 b);
+  each = λ k p ns a b. let v = at-point vs k p a in subst (λ (q : Point). AreHolders hs (point_of q) (point_of q) ns) v.2 (R.each k v.0 ns v.1 b);
 }
 
 pub spans-points : (vs : List Vertex) (ss : List Span) → AreAlone vs ss → ArePointSpans (points_of vs) ss
 spans-points vs ss A = record {
   as_many = A.as_many ∙ sym (as-many vs);
-  each = λ k p s a b. let v = at-point vs k p a in subst (λ (q : Point). IsInSpan s (place_of q)) v.2 (A.each k v.0 s v.1 b);
+  each = λ k p s a b. let v = at-point vs k p a in subst (λ (q : Point). IsInSpan s (point_of q)) v.2 (A.each k v.0 s v.1 b);
 }
 
 pub ends-points : (vs : List Vertex) (es : List Edge) → HaveEnds vs es → HaveEnds (points_of vs) es

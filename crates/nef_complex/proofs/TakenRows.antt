@@ -1,5 +1,5 @@
 -- The row of a vertex that is renumbered.
-use Rattle.nef_complex.proofs.Prelude.{◌≡◌, sym, ℕ, ◌<◌, ◌≤◌, ⊎_elim, List, [], length, get_or, arith, subst, Contains, dedup, IsSorted, IsPermutation, nat_cmp, eqb, Contains-permutation, IsPermutation-sym, IsAt, Place, form_of, Plane, is-at_one, is-at_within, is-at_get, is-at_is, AreNumbersWith, AreHolders, IsHolder, AreWithin, HoldsBoth, AreRead, HasEntry, StandsAmong, AreTaken, AreAdded}
+use Rattle.nef_complex.proofs.Prelude.{◌≡◌, sym, ℕ, ◌<◌, ◌≤◌, ⊎_elim, List, [], length, get_or, arith, subst, Contains, dedup, IsSorted, IsPermutation, nat_cmp, eqb, Contains-permutation, IsPermutation-sym, IsAt, SpacePoint, form_of, Plane, is-at_one, is-at_within, is-at_get, is-at_is, AreNumbersWith, AreHolders, IsHolder, AreNumbersOf, HoldsBoth, AreRead, HasEntry, StandsAmong, AreTaken, AreAdded}
 use Rattle.std.proofs.lemmas.List.Kept.{Contains-dedup_nat, Contains-from_dedup, AllPairs-from_increasing}
 use Rattle.std.proofs.lemmas.Map.Keys.{IsStrictlyIncreasing-dedup}
 use Rattle.nef_complex.proofs.Walking.{added-none, read-added, read-rise}
@@ -19,17 +19,17 @@ once-numbers P xs ys each all moved sorted = let zs : List ℕ = dedup eqb ys in
 }
 
 -- a plane that holds the point holds it among hs
-pub holder-among : (gs hs : List Plane) (p : Place) (j k : ℕ) → IsHolder gs p p j → StandsAmong gs hs j k → IsHolder hs p p k
+pub holder-among : (gs hs : List Plane) (p : SpacePoint) (j k : ℕ) → IsHolder gs p p j → StandsAmong gs hs j k → IsHolder hs p p k
 holder-among gs hs p j k (g, a, b) (h, c, d) = (h, d, subst (λ (r : Plane). HoldsBoth (form_of r) p p) (is-at_one gs j g h a c) b)
 
-pub holder-back : (gs hs : List Plane) (p : Place) (j k : ℕ) → IsHolder hs p p k → StandsAmong gs hs j k → IsHolder gs p p j
+pub holder-back : (gs hs : List Plane) (p : SpacePoint) (j k : ℕ) → IsHolder hs p p k → StandsAmong gs hs j k → IsHolder gs p p j
 holder-back gs hs p j k (g, a, b) (h, c, d) = (h, c, subst (λ (r : Plane). HoldsBoth (form_of r) p p) (is-at_one hs k g h a d) b)
 
 -- numbers of holders are places in a list that is long enough
-pub holders-places : (gs : List Plane) (p : Place) (ns listed : List ℕ) → length gs ≤ length ns → AreHolders gs p p listed → AreWithin ns listed
+pub holders-places : (gs : List Plane) (p : SpacePoint) (ns listed : List ℕ) → length gs ≤ length ns → AreHolders gs p p listed → AreNumbersOf ns listed
 holders-places gs p ns listed enough H i k a = let o = H.each i k a in let l = is-at_within gs k o.0 o.1 in omega arith
 
-module _ (gs hs : List Plane) (ns : List ℕ) (others : List Plane) (ks : List ℕ) (T : AreTaken gs hs ns others ks) (p : Place) (listed found : List ℕ) (H : AreHolders gs p p listed) (F : AreHolders others p p found)
+module _ (gs hs : List Plane) (ns : List ℕ) (others : List Plane) (ks : List ℕ) (T : AreTaken gs hs ns others ks) (p : SpacePoint) (listed found : List ℕ) (H : AreHolders gs p p listed) (F : AreHolders others p p found)
     (mid new : List ℕ) (A : AreAdded ns listed (length listed) [] mid) (B : AreAdded ks found (length found) mid new) where
   -- each number in the row is that of a carrier that holds the point
   pub row-each : (k : ℕ) → HasEntry new k → IsHolder hs p p k
@@ -53,7 +53,7 @@ module _ (gs hs : List Plane) (ns : List ℕ) (others : List Plane) (ks : List �
   row-once sorted moved order = once-numbers (IsHolder hs p p) new sorted row-each row-all moved order
 
 -- where none of the others holds the point, the numbers that were read are in order already
-pub row-read : (gs hs : List Plane) (ns : List ℕ) (others : List Plane) (ks : List ℕ) (p : Place) (listed found row : List ℕ) → AreTaken gs hs ns others ks → AreHolders gs p p listed → AreHolders others p p found → length found ≡ 0 → AreRead ns listed (length listed) row → AreHolders hs p p row
+pub row-read : (gs hs : List Plane) (ns : List ℕ) (others : List Plane) (ks : List ℕ) (p : SpacePoint) (listed found row : List ℕ) → AreTaken gs hs ns others ks → AreHolders gs p p listed → AreHolders others p p found → length found ≡ 0 → AreRead ns listed (length listed) row → AreHolders hs p p row
 row-read gs hs ns others ks p listed found row T H F e R =
     let A = read-added ns listed row R in
     let B : AreAdded ks found (length found) row row = subst (λ (n : ℕ). AreAdded ks found n row row) (sym e) (added-none ks found row) in

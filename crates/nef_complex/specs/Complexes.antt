@@ -1,7 +1,7 @@
 -- The program's complexes as complexes of any size, and which of them show a set.
 use Rattle.std.specs.Prelude.{◌≡◌, ◌<◌, ◌≤◌}
-use Rattle.nef_space.specs.Prelude.{ℕ, pos, List, map, IsAt, Place, form_at, InClosedFrame, IsPlaceBelow, Set}
-use Rattle.nef_geo.specs.Shapes.{place_of, form_of}
+use Rattle.nef_space.specs.Prelude.{ℕ, pos, List, map, IsAt, SpacePoint, form_at, InClosedFrame, IsPointBelow, Set}
+use Rattle.nef_geo.specs.Shapes.{point_of, form_of}
 use Rattle.nef_geo.specs.declared.plane.Plane.{Plane}
 use Rattle.nef_geo.specs.declared.point.Point.{Point}
 use Rattle.nef_smap.specs.Maps.{map_of, IsLeastMap}
@@ -17,7 +17,7 @@ use Rattle.nef_complex.specs.declared.complex.PlaneMeet.TheVariants.{AtVertex, A
 use Rattle.nef_complex.specs.Index.{skeleton, AreFlagged}
 
 abbrev pub vertex_of : Vertex → PlainVertex
-vertex_of v = record { point = place_of v.point; map = map_of v.map }
+vertex_of v = record { point = point_of v.point; map = map_of v.map }
 
 abbrev pub edge_of : Edge → PlainEdge
 edge_of e = record { low = e.low; low_svertex = e.low_svertex; high = e.high; high_svertex = e.high_svertex; mark = e.mark }
@@ -34,7 +34,7 @@ meet_of (AtEdge k) = meets_edge k
 
 -- vertices in increasing order of their points
 abbrev pub AreSorted : List Vertex → Type 0
-AreSorted vs = (i k : ℕ) (u v : Vertex) → i < k → IsAt vs i u → IsAt vs k v → IsPlaceBelow (place_of u.point) (place_of v.point)
+AreSorted vs = (i k : ℕ) (u v : Vertex) → i < k → IsAt vs i u → IsAt vs k v → IsPointBelow (point_of u.point) (point_of v.point)
 
 -- the index of the complex is that of its carriers, vertices and edges
 pub record IsIndexed (c : Complex) : Type 0 where
@@ -49,7 +49,7 @@ pub record ShowsSet (s : Set) (c : Complex) : Type 0 where
 
 -- what the carrier with this number holds of the skeleton lies in the closed frame and outside the window
 abbrev pub LiesOutside : Complex → Span → ℕ → Type 0
-LiesOutside c w k = (h : Plane) → IsAt c.carriers k h → (s : Set) (y : Place) → ShowsSet s c → form_at (form_of h) y ≡ pos 0 → IsSkeletonIn s (complex_of c) (form_of h) y → InClosedFrame y × (IsInSpan w y → ⊥)
+LiesOutside c w k = (h : Plane) → IsAt c.carriers k h → (s : Set) (y : SpacePoint) → ShowsSet s c → form_at (form_of h) y ≡ pos 0 → IsSkeletonIn s (complex_of c) (form_of h) y → InClosedFrame y × (IsInSpan w y → ⊥)
 
 -- sorted vertices with least maps, which with their edges and with these carriers are a complex that shows the set
 pub record AreVerticesOf (s : Set) (carriers : List Plane) (vertices : List Vertex) : Type 0 where
@@ -59,8 +59,8 @@ pub record AreVerticesOf (s : Set) (carriers : List Plane) (vertices : List Vert
 
 -- the vertices before number k are below the point
 abbrev pub AreBelow : List Vertex → ℕ → Point → Type 0
-AreBelow vs k p = (i : ℕ) (v : Vertex) → i < k → IsAt vs i v → IsPlaceBelow (place_of v.point) (place_of p)
+AreBelow vs k p = (i : ℕ) (v : Vertex) → i < k → IsAt vs i v → IsPointBelow (point_of v.point) (point_of p)
 
 -- the vertices from number k on are above the point
 abbrev pub AreAbove : List Vertex → ℕ → Point → Type 0
-AreAbove vs k p = (i : ℕ) (v : Vertex) → k ≤ i → IsAt vs i v → IsPlaceBelow (place_of p) (place_of v.point)
+AreAbove vs k p = (i : ℕ) (v : Vertex) → k ≤ i → IsAt vs i v → IsPointBelow (point_of p) (point_of v.point)

@@ -1,7 +1,7 @@
 -- The next corner of a facet's corner, and cycles of corners.
 use Rattle.std.specs.Prelude.{◌≡◌, ◌∷◌, ◌⊎◌}
 use Rattle.nef_geo.specs.Prelude.{ℕ, pos, List, [], All, IsBelow, SameDirection}
-use Rattle.law_sphere.specs.Prelude.{InOrder, At, Arc, MapSloop, sloop_item}
+use Rattle.law_sphere.specs.Prelude.{InOrder, IsAt, Arc, MapSloop, sloop_item}
 use Rattle.law_complex.specs.Complexes.{Vertex, Edge, Complex, Corner, IsCorner}
 
 -- the edge leads from svertex s of vertex i to svertex t of vertex j
@@ -14,13 +14,13 @@ pub record IsNextArc (C : Complex) (j k : Corner) : Type 0 where
   pub there : Vertex
   pub this_arc : Arc
   pub that_arc : Arc
-  pub is_here : At C.vertices j.vertex here
-  pub is_there : At C.vertices k.vertex there
-  pub is_this : At here.map.arcs j.item this_arc
-  pub is_that : At there.map.arcs k.item that_arc
+  pub is_here : IsAt C.vertices j.vertex here
+  pub is_there : IsAt C.vertices k.vertex there
+  pub is_this : IsAt here.map.arcs j.item this_arc
+  pub is_that : IsAt there.map.arcs k.item that_arc
   pub number : ℕ
   pub edge : Edge
-  pub is_edge : At C.edges number edge
+  pub is_edge : IsAt C.edges number edge
   pub leads : Leads edge j.vertex this_arc.source k.vertex that_arc.target
   pub one_normal : SameDirection this_arc.normal that_arc.normal
 
@@ -46,11 +46,11 @@ IsCycle C (j ∷ ks) = StepsTo C j ks j × All (IsCornerBelow j) ks
 
 -- the order of cycles by their first corners
 abbrev pub IsCycleBelow : List Corner → List Corner → Type 0
-IsCycleBelow x y = (j : Corner) × (k : Corner) × At x 0 j × At y 0 k × IsCornerBelow j k
+IsCycleBelow x y = (j : Corner) × (k : Corner) × IsAt x 0 j × IsAt y 0 k × IsCornerBelow j k
 
 -- the cycles through the corners that have P, in order
 pub record Cycles (C : Complex) (P : Corner → Type 0) (xs : List (List Corner)) : Type 0 where
-  pub cycles : (i : ℕ) (x : List Corner) → At xs i x → IsCycle C x
-  pub within : (i k : ℕ) (x : List Corner) (j : Corner) → At xs i x → At x k j → P j
-  pub complete : (j : Corner) → P j → (i : ℕ) × (k : ℕ) × (x : List Corner) × At xs i x × At x k j
+  pub cycles : (i : ℕ) (x : List Corner) → IsAt xs i x → IsCycle C x
+  pub within : (i k : ℕ) (x : List Corner) (j : Corner) → IsAt xs i x → IsAt x k j → P j
+  pub complete : (j : Corner) → P j → (i : ℕ) × (k : ℕ) × (x : List Corner) × IsAt xs i x × IsAt x k j
   pub ordered : InOrder IsCycleBelow xs

@@ -3,7 +3,7 @@ use Rattle.std.specs.Prelude.{◌≡◌, ◌<◌, ◌∷◌, ◌↔◌}
 use Rattle.nef_geo.specs.Prelude.{ℕ, pos, List, [], length, map, IsBelow, form_at, normal_of, SameDirection, Label, form_of}
 use Rattle.nef_space.specs.Lists.{IsAt, NumbersClasses, IsInTable}
 use Rattle.nef_space.specs.declared.label.Label.TheVariants.{Out}
-use Rattle.nef_smap.specs.Prelude.{At, Item, items, item_normal, item_mark, pos_item, neg_item, sides_of}
+use Rattle.nef_smap.specs.Prelude.{Item, items, item_normal, item_mark, pos_item, neg_item, sides_of}
 use Rattle.law_complex.specs.Prelude.{Vertex, Complex, Corner, IsCorner, VertexSide, HasSideLabel}
 use Rattle.nef_complex.specs.Complexes.{corner_of}
 use Rattle.law_links.specs.Links.{FacetLink, VolumeLink}
@@ -19,7 +19,7 @@ use Rattle.nef_complex.specs.declared.parts.Side.{Side}
 -- the table has a row for each vertex v, with count v numbers
 pub record HasRows (C : Complex) (count : Vertex → ℕ) (rows : List (List ℕ)) : Type 0 where
   pub as_many : length rows ≡ length C.vertices
-  pub row : (i : ℕ) (v : Vertex) (ns : List ℕ) → At C.vertices i v → IsAt rows i ns → length ns ≡ count v
+  pub row : (i : ℕ) (v : Vertex) (ns : List ℕ) → IsAt C.vertices i v → IsAt rows i ns → length ns ≡ count v
 
 abbrev pub count_items : Vertex → ℕ
 count_items v = length (items v.map)

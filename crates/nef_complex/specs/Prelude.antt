@@ -1,7 +1,7 @@
 -- The names that most clauses cite, passed on from one place. Declares nothing.
 pub use Rattle.nef_space.specs.Prelude.{All, Bool, false, string_bytes, vec_len}
-pub use Rattle.nef_geo.specs.Prelude.{HasLabel, IfErr, IfOk, IfSome, IsAhead, IsAt, IsAtMost, IsCrossing, IsDirection, IsNone, IsNormal, IsPlaceAtMost, IsPlaceBelow, IsReached, IsTrue, IsUpright, Label, List, MatchOrdering, None, OnOk, Place, SameDirection, SamePlace, Set, Some, Vector, [], cond, direction_limit, dot, form_at, form_of, given_form, hit_place, int_cmp, length, map, most_stairs, nat_abs, normal_limit, normal_of, opposite, option_map, place_of, point_limit, pos, ray_direction_limit, ray_limit, sign_of, slice_get, slope, take, true, up, upright_limit, upright_weight_limit, vector_of, weight_limit, ℕ}
-pub use Rattle.nef_smap.specs.Prelude.{At, Item, MapVertex, Side, item_normal, items}
+pub use Rattle.nef_geo.specs.Prelude.{HasLabel, IfErr, IfOk, IfSome, IsAhead, IsAt, IsAtMost, IsCrossing, IsDirection, IsNone, IsNormal, IsPointAtMost, IsPointBelow, IsReached, IsTrue, IsVertical, Label, List, MatchOrdering, None, OnOk, SameDirection, SamePoint, Set, Some, SpacePoint, Vector, [], cond, direction_limit, dot, form_at, form_of, given_form, hit_point, int_cmp, length, map, most_stairs, nat_abs, normal_limit, normal_of, opposite, option_map, point_limit, point_of, pos, ray_direction_limit, ray_limit, sign_of, slice_get, slope, take, true, up, upright_limit, upright_weight_limit, vector_of, weight_limit, ℕ}
+pub use Rattle.nef_smap.specs.Prelude.{Item, MapVertex, Side, item_normal, items}
 pub use Rattle.std.specs.Fmt.{signed_decimal}
 pub use Rattle.std.specs.List.Sorted.{IsSortedBy}
 pub use Rattle.std.specs.Option.{MatchOption, option_copied}
@@ -10,10 +10,10 @@ pub use Rattle.std.specs.Prelude.{IsErr, IsOk, decimal, flat_map, min, slice_set
 pub use Rattle.std.specs.Process.{exit_status}
 pub use Rattle.nef_space.specs.Limits.{half_side, ray_point_limit, ray_weight_limit}
 pub use Rattle.nef_space.specs.Local.{FlatDim, Germ, IsVertex, Joined, SameSet}
-pub use Rattle.nef_space.specs.Place.{Form, InClosedFrame, InFrame}
+pub use Rattle.nef_space.specs.Points.{Form, InClosedFrame, InFrame}
 pub use Rattle.nef_space.specs.Signs.{Lies}
 pub use Rattle.nef_space.specs.declared.label.Label.TheVariants.{In, Not, Out}
-pub use Rattle.nef_geo.specs.Shapes.{place_at}
+pub use Rattle.nef_geo.specs.Shapes.{point_at}
 pub use Rattle.nef_geo.specs.Widths.{ratio_limit}
 pub use Rattle.nef_geo.specs.declared.plane.Plane.{Plane}
 pub use Rattle.nef_geo.specs.declared.point.Point.{Point}
@@ -27,14 +27,14 @@ pub use Rattle.law_complex.specs.Skeleton.{HasCorner, IsCornerAt, IsEdgePoint, I
 pub use Rattle.law_complex.specs.Spans.{coordinate_of}
 pub use Rattle.nef_index.specs.Carriers.{AreHolders, AreInOrder}
 pub use Rattle.nef_index.specs.Index.{AreClusters}
-pub use Rattle.nef_index.specs.Numbers.{AreNumbersWith, AreWithin}
+pub use Rattle.nef_index.specs.Numbers.{AreNumbersOf, AreNumbersWith}
 pub use Rattle.nef_index.specs.Peaks.{ArePeaks, EndBelow}
 pub use Rattle.nef_index.specs.Skeleton.{HaveEnds, HoldsBoth, Skeleton}
-pub use Rattle.nef_index.specs.Spans.{AreSmall, IsInSpan, IsNarrower}
+pub use Rattle.nef_index.specs.Spans.{AreSmallBounds, IsInSpan, IsNarrower}
 pub use Rattle.nef_index.specs.declared.skeleton.Edge.{Edge}
 pub use Rattle.nef_complex.specs.Complexes.{AreAbove, AreBelow, AreSorted, AreVerticesOf, IsIndexed, ShowsSet, complex_of, corner_of, edge_of, meet_of, vertex_of}
 pub use Rattle.nef_complex.specs.Cycles.{Leads}
-pub use Rattle.nef_complex.specs.Index.{AreAlone, AreFlagged, AreHeld, AreHoldersAlong, AreItemFlags, AreSpans, AreVertexHolders, EdgeLiesIn, HasItemIn, LiesOn, points_of, skeleton}
+pub use Rattle.nef_complex.specs.Index.{AreAlone, AreFlagged, AreHoldersAlong, AreItemFlags, AreSpans, AreVertexHolders, EdgeLiesIn, HasItemIn, ItemsAreHeld, LiesOn, points_of, skeleton}
 pub use Rattle.nef_complex.specs.Numbers.{FacetNumbers, IsFacetOf, IsParts, IsVolumeOf, VolumeNumbers, count_items}
 pub use Rattle.nef_complex.specs.Shells.{SfaceNumbers}
 pub use Rattle.nef_complex.specs.Taken.{AreAdded, IsRowAdded, IsSourceAmong}

@@ -1,8 +1,8 @@
 -- The carriers of a complex among the carriers of a result.
 use Rattle.std.specs.Prelude.{◌≡◌, ◌⊎◌, ◌<◌, ◌≤◌, ◌∷◌, ◌++◌}
-use Rattle.nef_space.specs.Prelude.{ℕ, List, [], length, IsAt, Place, Set}
+use Rattle.nef_space.specs.Prelude.{ℕ, List, [], length, IsAt, SpacePoint, Set}
 use Rattle.nef_geo.specs.declared.plane.Plane.{Plane}
-use Rattle.nef_complex.specs.declared.taken_rows.Source.{Source}
+use Rattle.nef_complex.specs.declared.taken_rows.CarrierSource.{CarrierSource}
 use Rattle.nef_complex.specs.Complexes.{ShowsSet}
 use Rattle.nef_index.specs.Numbers.{HasEntry, DoRise}
 use Rattle.nef_index.specs.Carriers.{AreHolders}
@@ -27,9 +27,9 @@ pub record AreAdded (table places : List ℕ) (n : ℕ) (old new : List ℕ) : T
   pub only : (k : ℕ) → HasEntry new k → HasEntry old k ⊎ ((i : ℕ) × (j : ℕ) × (i < n) × IsAt places i j × IsAt table j k)
 
 -- the source's complex shows a set; the source's numbers tell where hs has its carriers and the other planes
-abbrev pub IsSourceAmong : List Plane → Source → Type 0
+abbrev pub IsSourceAmong : List Plane → CarrierSource → Type 0
 IsSourceAmong hs t = ((s : Set) × ShowsSet s t.complex.now) × AreTaken t.complex.now.carriers hs t.numbers.items t.others t.other_numbers.items
 
 -- one row is added: the numbers of the carriers that hold the point
-abbrev pub IsRowAdded : List Plane → Place → List (List ℕ) → List (List ℕ) → Type 0
+abbrev pub IsRowAdded : List Plane → SpacePoint → List (List ℕ) → List (List ℕ) → Type 0
 IsRowAdded hs p rows more = (ns : List ℕ) × AreHolders hs p p ns × (more ≡ rows ++ ns ∷ [])

@@ -45,17 +45,17 @@ option_word l = option_map_or label_word l (codes "-")
 abbrev pub numbers : List ℕ → List Word
 numbers = map decimal
 
-abbrev pub signed : List ℤ → List Word
-signed = map signed_decimal
+abbrev pub signed_numbers : List ℤ → List Word
+signed_numbers = map signed_decimal
 
 abbrev pub dir_words : Dir → List Word
-dir_words d = signed (d.x ∷ d.y ∷ d.z ∷ [])
+dir_words d = signed_numbers (d.x ∷ d.y ∷ d.z ∷ [])
 
 abbrev pub point_words : Point → List Word
-point_words p = signed (p.x ∷ p.y ∷ p.z ∷ p.w ∷ [])
+point_words p = signed_numbers (p.x ∷ p.y ∷ p.z ∷ p.w ∷ [])
 
 abbrev pub plane_words : Plane → List Word
-plane_words h = signed (h.a ∷ h.b ∷ h.c ∷ h.d ∷ [])
+plane_words h = signed_numbers (h.a ∷ h.b ∷ h.c ∷ h.d ∷ [])
 
 abbrev pub svertex_line : SVertex → List ℕ
 svertex_line v = line (codes "s" ∷ [] ++ dir_words v.dir ++ label_word v.mark ∷ option_word v.around ∷ [])

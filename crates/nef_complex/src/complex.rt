@@ -2,7 +2,7 @@
 //! carriers hold a vertex or an edge.
 
 ghost use Rattle.std.specs.Prelude.{◌<◌};
-ghost use Rattle.nef_complex.specs.Prelude.{ℕ, IsNone, IfSome, IfOk, IfErr, length, place_of, form_of, IsAt, Set, Plane, IsVertexPoint, complex_of, AreSorted, AreBelow, AreAbove, ShowsSet, IsIndexed, Edge as EdgeValue, Vertex as VertexValue, HasItemIn, LiesOn, EdgeLiesIn, AreNumbersWith, AreHolders, AreHoldersAlong, AreSpans, AreAlone, ArePeaks, AreClusters, points_of};
+ghost use Rattle.nef_complex.specs.Prelude.{ℕ, IsNone, IfSome, IfOk, IfErr, length, point_of, form_of, IsAt, Set, Plane, IsVertexPoint, complex_of, AreSorted, AreBelow, AreAbove, ShowsSet, IsIndexed, Edge as EdgeValue, Vertex as VertexValue, HasItemIn, LiesOn, EdgeLiesIn, AreNumbersWith, AreHolders, AreHoldersAlong, AreSpans, AreAlone, ArePeaks, AreClusters, points_of};
 
 use nef_geo::{List, Plane, Point, lex_cmp};
 use nef_index::{Cluster, Edge, Index, Span};
@@ -45,7 +45,7 @@ pub enum PlaneMeet {
 /// The number of the vertex at `p`, by halving, or `Err` with how many vertices come before `p`; all others come after.
 pub fn find_vertex(c: &Complex, p: &Point) -> Result<usize, usize>
     requires sorted { AreSorted c.now.vertices }
-    ensures found { IfOk result (λ k. IsVertexPoint (complex_of c.now) k (place_of p.now)) }
+    ensures found { IfOk result (λ k. IsVertexPoint (complex_of c.now) k (point_of p.now)) }
     ensures before { IfErr result (λ n. AreBelow c.now.vertices n p.now) }
     ensures after { IfErr result (λ n. AreAbove c.now.vertices n p.now) }
 {
@@ -57,8 +57,8 @@ pub fn find_vertex(c: &Complex, p: &Point) -> Result<usize, usize>
 /// The number of the vertex at `p`, or `None` exactly where no vertex stands there.
 pub fn vertex_at(c: &Complex, p: &Point) -> Option<usize>
     requires sorted { AreSorted c.now.vertices }
-    ensures found { IfSome result (λ k. IsVertexPoint (complex_of c.now) k (place_of p.now)) }
-    ensures none { IsNone result → (k : ℕ) → IsVertexPoint (complex_of c.now) k (place_of p.now) → ⊥ }
+    ensures found { IfSome result (λ k. IsVertexPoint (complex_of c.now) k (point_of p.now)) }
+    ensures none { IsNone result → (k : ℕ) → IsVertexPoint (complex_of c.now) k (point_of p.now) → ⊥ }
 {
     match find_vertex(c, p) {
         Ok(number) => Some(number),
@@ -100,7 +100,7 @@ pub fn plane_items<'a>(c: &'a Complex, h: &Plane) -> Option<PlaneItems<'a>>
 pub fn vertex_holders(c: &Complex, number: usize) -> &[usize]
     requires indexed { IsIndexed c.now }
     requires within { number < length c.now.vertices }
-    ensures holders { (v : VertexValue) → IsAt c.now.vertices number v → AreHolders c.now.carriers (place_of v.point) (place_of v.point) result.now }
+    ensures holders { (v : VertexValue) → IsAt c.now.vertices number v → AreHolders c.now.carriers (point_of v.point) (point_of v.point) result.now }
 {
     c.index.point_holders(number)
 }

@@ -1,7 +1,7 @@
 //! A complex put together from carriers, vertices and edges.
 
 ghost use Rattle.std.specs.Prelude.{◌≡◌, ◌↔◌};
-ghost use Rattle.nef_complex.specs.Prelude.{IsTrue, IfOk, form_of, Edge, Skeleton, skeleton, points_of, HasItemIn, LiesOn, AreNumbersWith, AreItemFlags, AreFlagged, IsIndexed, AreHeld, AreInOrder, HaveEnds, AreVertexHolders, AreAlone};
+ghost use Rattle.nef_complex.specs.Prelude.{IsTrue, IfOk, form_of, Edge, Skeleton, skeleton, points_of, HasItemIn, LiesOn, AreNumbersWith, AreItemFlags, AreFlagged, IsIndexed, ItemsAreHeld, AreInOrder, HaveEnds, AreVertexHolders, AreAlone};
 
 use crate::OutOfMemory;
 use crate::complex::{Complex, Vertex};
@@ -102,7 +102,7 @@ impl Complex {
         at_vertex: Table,
     ) -> Result<Complex, OutOfMemory>
         requires ordered { AreInOrder carriers }
-        requires held { AreHeld carriers vertices }
+        requires held { ItemsAreHeld carriers vertices }
         requires rows { AreVertexHolders carriers vertices at_vertex }
         requires ends { HaveEnds vertices edges }
         ensures kept { IfOk result (λ c. (c.carriers ≡ carriers) × (c.vertices ≡ vertices) × (c.edges ≡ edges)) }

@@ -2,7 +2,7 @@
 //! edges at once that all of them end before a vertex.
 
 ghost use Rattle.std.specs.Prelude.{◌≡◌, ◌<◌, ◌≤◌, ◌+◌};
-ghost use Rattle.nef_complex.specs.Prelude.{ℕ, length, IsAt, Set, Form, Edge as EdgeValue, ShowsSet, AreWithin, AreNumbersWith, EdgeLiesIn, EndBelow, ArePeaks};
+ghost use Rattle.nef_complex.specs.Prelude.{ℕ, length, IsAt, Set, Form, Edge as EdgeValue, ShowsSet, AreNumbersOf, AreNumbersWith, EdgeLiesIn, EndBelow, ArePeaks};
 
 use crate::complex::{Complex, PlaneItems};
 use nef_index::passed_from;
@@ -32,7 +32,7 @@ impl PlaneItems<'_> {
     /// The last of the first `count` edges whose upper end isn't below `least`, by its number in the row, counted from
     /// 1; 0 where each upper end is below.
     pub fn last_reaching(&self, c: &Complex, count: usize, least: usize) -> usize
-        requires within { AreWithin c.now.edges self.now.edges.now }
+        requires within { AreNumbersOf c.now.edges self.now.edges.now }
         requires peaks { ArePeaks c.now.edges self.now.edges.now self.now.peaks.now }
         requires count { count ≤ length self.now.edges.now }
         ensures count { result ≤ count }

@@ -1,7 +1,7 @@
 //! The carriers that hold each vertex of a result, taken over from its two operands: where each operand's carriers
 //! stand among the result's carriers, and which carriers of the result aren't the operand's.
 
-ghost use Rattle.nef_complex.specs.Prelude.{false, length, IsTrue, IfSome, IfOk, OnOk, IsAt, Set, place_of, Vertex as VertexValue, ShowsSet, AreWithin, AreVertexHolders, AreInOrder, AreAdded, IsSourceAmong, IsRowAdded};
+ghost use Rattle.nef_complex.specs.Prelude.{false, length, IsTrue, IfSome, IfOk, OnOk, IsAt, Set, point_of, Vertex as VertexValue, ShowsSet, AreNumbersOf, AreVertexHolders, AreInOrder, AreAdded, IsSourceAmong, IsRowAdded};
 ghost use Rattle.std.specs.Prelude.{◌≡◌, ◌<◌};
 
 use crate::OutOfMemory;
@@ -14,7 +14,7 @@ use std::cmp::Ordering;
 
 // An operand, with the numbers of its carriers among all carriers; and the other carriers, with their numbers.
 #[derive(Drop)]
-struct Source<'a> {
+struct CarrierSource<'a> {
     complex: &'a Complex,
     numbers: Vec<usize>,
     others: SortedCarriers,
@@ -37,7 +37,7 @@ fn source_of<'a>(
     alloc: Global,
     complex: &'a Complex,
     all: &[Plane],
-) -> Result<Option<Source<'a>>, OutOfMemory>
+) -> Result<Option<CarrierSource<'a>>, OutOfMemory>
     requires shows { (s : Set) × ShowsSet s complex.now }
     requires ordered { AreInOrder all.now }
     ensures source { IfOk result (λ o. IfSome o (IsSourceAmong all.now)) }
@@ -60,7 +60,7 @@ fn source_of<'a>(
         return Ok(None);
     }
     let others = SortedCarriers::of(alloc, others)?;
-    Ok(Some(Source {
+    Ok(Some(CarrierSource {
         complex,
         numbers,
         others,
@@ -70,7 +70,7 @@ fn source_of<'a>(
 
 // Adds those of the table's numbers that stand under the listed numbers.
 fn add_numbers(table: &[usize], listed: &[usize], row: &mut Vec<usize>) -> Result<(), OutOfMemory>
-    requires within { AreWithin table.now listed.now }
+    requires within { AreNumbersOf table.now listed.now }
     ensures added { OnOk result (AreAdded table.now listed.now (length listed.now) row.old.items row.new.items) }
 {
     for place in listed {
@@ -102,21 +102,25 @@ fn number_at(vertices: &[Vertex], next: &mut usize, point: &Point) -> Option<usi
 // A way through the vertices of a source, if there is one: the vertices before number `next` are passed. `found` and
 // `row` are room for the search, without meaning between two searches.
 #[derive(Drop)]
-struct Way<'a> {
-    source: Option<Source<'a>>,
+struct VertexWay<'a> {
+    source: Option<CarrierSource<'a>>,
     next: usize,
     found: Vec<usize>,
     row: Vec<usize>,
 }
 
 // The way from the first vertex of the complex on.
-fn way_of<'a>(alloc: Global, complex: &'a Complex, all: &[Plane]) -> Result<Way<'a>, OutOfMemory>
+fn way_of<'a>(
+    alloc: Global,
+    complex: &'a Complex,
+    all: &[Plane],
+) -> Result<VertexWay<'a>, OutOfMemory>
     requires shows { (s : Set) × ShowsSet s complex.now }
     requires ordered { AreInOrder all.now }
     ensures source { IfOk result (λ w. IfSome w.source (IsSourceAmong all.now)) }
 {
     let source = source_of(alloc, complex, all)?;
-    Ok(Way {
+    Ok(VertexWay {
         source,
         next: 0,
         found: Vec::new(alloc),
@@ -128,7 +132,7 @@ fn way_of<'a>(alloc: Global, complex: &'a Complex, all: &[Plane]) -> Result<Way<
 // and of the other carriers that hold the vertex, which are asked.
 fn push_vertex_row(
     carriers: &SortedCarriers,
-    source: &Source,
+    source: &CarrierSource,
     number: usize,
     found: &mut Vec<usize>,
     row: &mut Vec<usize>,
@@ -136,7 +140,7 @@ fn push_vertex_row(
 ) -> Result<(), OutOfMemory>
     requires source { IsSourceAmong carriers.now source.now }
     requires within { number < length source.now.complex.now.vertices }
-    ensures added { OnOk result ((v : VertexValue) → IsAt source.now.complex.now.vertices number v → IsRowAdded carriers.now (place_of v.point) rows.old rows.new) }
+    ensures added { OnOk result ((v : VertexValue) → IsAt source.now.complex.now.vertices number v → IsRowAdded carriers.now (point_of v.point) rows.old rows.new) }
 {
     let complex = source.complex;
     let vertices = complex.vertices.as_slice();
@@ -155,7 +159,7 @@ fn push_vertex_row(
     rows.push(row.as_slice())
 }
 
-impl<'a> Way<'a> {
+impl<'a> VertexWay<'a> {
     // Adds the row of the point where a vertex of the source stands at the point, and says whether one does.
     fn push_row(
         &mut self,
@@ -165,7 +169,7 @@ impl<'a> Way<'a> {
     ) -> Result<bool, OutOfMemory>
         requires source { IfSome self.old.source (IsSourceAmong carriers.now) }
         ensures same { OnOk result (self.new.source ≡ self.old.source) }
-        ensures added { IfOk result (λ b. IsTrue b → IsRowAdded carriers.now (place_of point.now) rows.old rows.new) }
+        ensures added { IfOk result (λ b. IsTrue b → IsRowAdded carriers.now (point_of point.now) rows.old rows.new) }
         ensures kept { IfOk result (λ b. (b ≡ false) → rows.new ≡ rows.old) }
     {
         match &self.source {
@@ -194,8 +198,8 @@ impl<'a> Way<'a> {
 // Adds the numbers of all carriers that hold the point as a row, by a source with a vertex there, or by asking all.
 fn push_row_at(
     carriers: &SortedCarriers,
-    first: &mut Way,
-    second: &mut Way,
+    first: &mut VertexWay,
+    second: &mut VertexWay,
     point: &Point,
     row: &mut Vec<usize>,
     rows: &mut Table,
@@ -204,7 +208,7 @@ fn push_row_at(
     requires second { IfSome second.old.source (IsSourceAmong carriers.now) }
     ensures first { OnOk result (first.new.source ≡ first.old.source) }
     ensures second { OnOk result (second.new.source ≡ second.old.source) }
-    ensures added { OnOk result (IsRowAdded carriers.now (place_of point.now) rows.old rows.new) }
+    ensures added { OnOk result (IsRowAdded carriers.now (point_of point.now) rows.old rows.new) }
 {
     if first.push_row(carriers, point, rows)? {
         return Ok(());
@@ -221,8 +225,8 @@ fn rows_by(
     alloc: Global,
     carriers: &SortedCarriers,
     vertices: &[Vertex],
-    first: &mut Way,
-    second: &mut Way,
+    first: &mut VertexWay,
+    second: &mut VertexWay,
 ) -> Result<Table, OutOfMemory>
     requires first { IfSome first.old.source (IsSourceAmong carriers.now) }
     requires second { IfSome second.old.source (IsSourceAmong carriers.now) }

@@ -3,7 +3,7 @@
 ghost use Rattle.std.specs.Prelude.{◌≡◌, ◌<◌};
 ghost use Rattle.nef_geo.specs.Prelude.{ℕ, length, Option, None, IsTrue, IsAt, Set};
 ghost use Rattle.nef_complex.specs.Complexes.{ShowsSet, LiesOutside};
-ghost use Rattle.nef_index.specs.Numbers.{AreWithin};
+ghost use Rattle.nef_index.specs.Numbers.{AreNumbersOf};
 ghost use Rattle.nef_index.specs.Groups.{IsInGroup, IsInCluster};
 ghost use Rattle.nef_index.specs.Index.{AreSpanned};
 ghost use Rattle.nef_index.specs.declared.groups.Group.{Group as GroupValue};
@@ -51,7 +51,7 @@ pub trait Search {
 // Asks the carriers of the group whose spans, which hold all that a carrier has of the skeleton, meet the window.
 fn ask_group<S: Search>(search: &S, c: &Complex, group: &Group, found: &mut Option<S::Found>)
     requires shows { (s : Set) × ShowsSet s c.now }
-    requires within { AreWithin c.now.carriers group.now.carriers }
+    requires within { AreNumbersOf c.now.carriers group.now.carriers }
     requires right { S.right search.now c.now found.old }
     ensures right { S.right search.now c.now found.new }
     ensures kept { (k : ℕ) → S.passed search.now c.now found.old k → S.passed search.now c.now found.new k }

@@ -1,5 +1,5 @@
 -- From a vertex beside which z lies, whose item goes on ahead, to a point of the facet there.
-use Rattle.nef_conn.proofs.Prelude.{◌≡◌, pos, arith, inl, inr, ints, Chained, FlatDim, Place, Form, form_at, normal_of, toward, IsBetween, Set, Vector, opposite, dot, IsDirection, SameDirection, plane_dir, between-turned, item_normal, OnItem, ahead, on-direction, normal-is, Vertex, Complex, Corner, Shows, IsInFacetOf, item_plane, RayNames, IsFlatIn, plane-ahead, LinkAcross, FacetLink, through-same, facet-near, ahead-toward, even-after, on_item-way, way_inward, level-of_opposite, SameDirection-turned, SameDirection-trans, opposite-same}
+use Rattle.nef_conn.proofs.Prelude.{◌≡◌, pos, arith, inl, inr, ints, Chained, FlatDim, SpacePoint, Form, form_at, normal_of, toward, IsBetween, Set, Vector, opposite, dot, IsDirection, SameDirection, plane_dir, between-turned, item_normal, OnItem, ahead, on-direction, normal-is, Vertex, Complex, Corner, Shows, IsInFacetOf, item_plane, RayNames, IsFlatIn, plane-ahead, LinkAcross, FacetLink, through-same, facet-near, ahead-toward, even-after, on_item-way, way_inward, level-of_opposite, SameDirection-turned, SameDirection-trans, opposite-same}
 use Rattle.nef_conn.proofs.Onward.{level-kept}
 use Rattle.nef_conn.proofs.WayInward.{dir-same, names-same}
 use Rattle.nef_conn.proofs.Named
@@ -8,7 +8,7 @@ use Rattle.nef_conn.proofs.Sector.{Through, Stops}
 use Rattle.nef_conn.proofs.FacetStrip.{Strip, m-some, short-of, angle-ahead}
 use Rattle.nef_conn.proofs.Beside.{turn-to, near, near-onward, Beside, off-edges, fan-beside}
 
-module _ (s : Set) (C : Complex) (S : Shows s C) (h g : Form) (d : Vector) (y z : Place) (T : Strip s C h g d y z) where
+module _ (s : Set) (C : Complex) (S : Shows s C) (h g : Form) (d : Vector) (y z : SpacePoint) (T : Strip s C h g d y z) where
   abbrev n : Vector
   n = normal_of h
 
@@ -28,7 +28,7 @@ module _ (s : Set) (C : Complex) (S : Shows s C) (h g : Form) (d : Vector) (y z 
     abbrev v : Vertex
     v = N.vertex
 
-    abbrev w : Place
+    abbrev w : SpacePoint
     w = v.point
 
     abbrev Ends_before : Type 0
@@ -37,13 +37,13 @@ module _ (s : Set) (C : Complex) (S : Shows s C) (h g : Form) (d : Vector) (y z 
     -- ---- where the item goes on ahead, z is beside the facet that lies there
     -- a facet point ahead, with a clear way to z, whose ray names a linked corner
     pub record Facet_ahead : Type 0 where
-      pub place : Place
+      pub place : SpacePoint
       pub corner : Corner
       pub on_plane : form_at h place ≡ pos 0
       pub on_line : form_at (near s C S h g d y z T) place ≡ pos 0
       pub flat : IsFlatIn s h place
       pub ahead : SameDirection (toward w place) d
-      pub clear : (r : Place) → IsBetween place r z → FlatDim s r 2
+      pub clear : (r : SpacePoint) → IsBetween place r z → FlatDim s r 2
       pub named : RayNames C h place d corner
       pub chain : Chained (FacetLink C) k corner
 
@@ -57,7 +57,7 @@ module _ (s : Set) (C : Complex) (S : Shows s C) (h g : Form) (d : Vector) (y z 
       o : OnItem v.map N.item e
       o = on_item-way v.map N.item d e (SameDirection-turned e d one-way) E.on
 
-      abbrev q : Place
+      abbrev q : SpacePoint
       q = ahead s w e
 
       F : IsInFacetOf s N.item q
@@ -75,7 +75,7 @@ module _ (s : Set) (C : Complex) (S : Shows s C) (h g : Form) (d : Vector) (y z 
       q-flat : IsFlatIn s h q
       q-flat = (F.dim, λ f. (λ x. level-kept (item_normal N.item) n f N.same ((F.flat f).0 x), λ x. (F.flat f).1 (level-kept n (item_normal N.item) f (SameDirection-turned (item_normal N.item) n N.same) x)))
 
-      reach : (r : Place) → IsBetween z r q → FlatDim s r 2
+      reach : (r : SpacePoint) → IsBetween z r q → FlatDim s r 2
       reach = fan-beside s C S h g d y z T k N q q-on (let x = q-near in omega (arith, ints)) (let l = short-of s C S h g d y z T q q-near in omega (arith, ints)) (angle-ahead s C S h g d y z T w q N.on_line up)
           (inl (inl (off-edges s C S h g d y z T k N, λ r b. even-after s 2 w e F.dim r (inl b)))) (λ f i x p r. E.between f i x p (turn-to m f (toward w q) d up r))
 

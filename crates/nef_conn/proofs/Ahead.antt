@@ -1,5 +1,5 @@
 -- From vertex to vertex along y's line, to the corner that z's ray names.
-use Rattle.nef_conn.proofs.Prelude.{◌≡◌, ℕ, ◌<◌, ◌≤◌, ◌+◌, zero, suc, pos, length, arith, ◌∙◌, ◌⊎◌, inl, inr, ⊎_elim, subst, cases_order, Chained, FlatDim, Place, Form, form_at, normal_of, SamePlace, toward, IsBetween, IsPlaceBelow, Set, Vector, opposite, cross, SameDirection, plane_dir, place-toward, At, at-one, normal-direction, Vertex, Complex, Corner, Shows, RayNames, IsFlatIn, between-way, same-itself, through-at, ahead-back, FacetLink, dot-zero, SameDirection-turned, SameDirection-trans, dir-self, direction-left}
+use Rattle.nef_conn.proofs.Prelude.{◌≡◌, ℕ, ◌<◌, ◌≤◌, ◌+◌, zero, suc, pos, length, arith, ◌∙◌, ◌⊎◌, inl, inr, ⊎_elim, subst, cases_order, Chained, FlatDim, SpacePoint, Form, form_at, normal_of, SamePoint, toward, IsBetween, IsPointBelow, Set, Vector, opposite, cross, SameDirection, plane_dir, point-toward, IsAt, at-one, normal-direction, Vertex, Complex, Corner, Shows, RayNames, IsFlatIn, between-way, same-itself, through-at, ahead-back, FacetLink, dot-zero, SameDirection-turned, SameDirection-trans, dir-self, direction-left}
 use Rattle.law_sphere.proofs.Builder.{normal-either}
 use Rattle.nef_conn.proofs.Reached.{Rises, never-both, toward-normal, within}
 use Rattle.nef_conn.proofs.Chain.{chain-both}
@@ -12,7 +12,7 @@ use Rattle.nef_conn.proofs.OverEdge.{over-edge}
 use Rattle.nef_conn.proofs.AcrossFacet.{facet-ahead}
 use Rattle.nef_conn.proofs.FromFacet.{from-facet}
 
-module _ (s : Set) (C : Complex) (S : Shows s C) (h g : Form) (d : Vector) (y z : Place) (T : Strip s C h g d y z) (inward : SameDirection (opposite (plane_dir (normal_of h))) d) (l : Corner) (named : RayNames C h z d l) where
+module _ (s : Set) (C : Complex) (S : Shows s C) (h g : Form) (d : Vector) (y z : SpacePoint) (T : Strip s C h g d y z) (inward : SameDirection (opposite (plane_dir (normal_of h))) d) (l : Corner) (named : RayNames C h z d l) where
   abbrev n : Vector
   n = normal_of h
 
@@ -26,7 +26,7 @@ module _ (s : Set) (C : Complex) (S : Shows s C) (h g : Form) (d : Vector) (y z 
   step k N = ⊎_elim (λ E. through E) (λ E. stops E)
       (turned n m T.seen (m-some s C S h g d y z T) N.vertex.map (S.cones k.vertex N.vertex N.corner.vertex).valid.shaped (toward w z) d T.some T.level (turn-z s C S h g d y z T w N.on_line) k.item N.item N.corner.item N.same N.on)
     where
-      w : Place
+      w : SpacePoint
       w = N.vertex.point
 
       stops : Stops N.vertex.map N.item n m (toward N.vertex.point z) d T.seen → Chained (FacetLink C) k l ⊎ Goes_on s C S h g d y z T k N
@@ -42,7 +42,7 @@ module _ (s : Set) (C : Complex) (S : Shows s C) (h g : Form) (d : Vector) (y z 
           (from-facet s C S h g d y z T A.place A.on_plane A.on_line A.flat A.clear A.corner l A.named named)
 
   -- so one comes to an end, where there is a number of steps that gets less with each
-  module _ (Left : ℕ → ℕ → Type 0) (burn : (i j f : ℕ) (u v : Vertex) → At C.vertices i u → At C.vertices j v → SameDirection (toward u.point v.point) d → Left i (suc f) → Left j f) (spent : (i : ℕ) (u : Vertex) → At C.vertices i u → Left i zero → ⊥) where
+  module _ (Left : ℕ → ℕ → Type 0) (burn : (i j f : ℕ) (u v : Vertex) → IsAt C.vertices i u → IsAt C.vertices j v → SameDirection (toward u.point v.point) d → Left i (suc f) → Left j f) (spent : (i : ℕ) (u : Vertex) → IsAt C.vertices i u → Left i zero → ⊥) where
     run : (f : ℕ) (k : Corner) → Is_beside k → Left k.vertex f → Chained (FacetLink C) k l
     run zero k N e = absurd (spent k.vertex N.vertex N.corner.vertex e)
     run (suc f) k N e = ⊎_elim (λ c. c)
@@ -50,17 +50,17 @@ module _ (s : Set) (C : Complex) (S : Shows s C) (h g : Form) (d : Vector) (y z 
         (step k N)
 
   -- vertices ahead have greater numbers, or smaller
-  ahead-order : (i j : ℕ) (u v : Vertex) → At C.vertices i u → At C.vertices j v → SameDirection (toward u.point v.point) d → ((i < j) × IsPlaceBelow u.point v.point) ⊎ ((j < i) × IsPlaceBelow v.point u.point)
-  ahead-order i j u v a b w = ⊎_elim (λ e. absurd (direction-left (toward u.point v.point) d w (place-toward u.point v.point (one (at-one C.vertices j u v (subst (λ (x : ℕ). At C.vertices x u) e a) b)))))
+  ahead-order : (i j : ℕ) (u v : Vertex) → IsAt C.vertices i u → IsAt C.vertices j v → SameDirection (toward u.point v.point) d → ((i < j) × IsPointBelow u.point v.point) ⊎ ((j < i) × IsPointBelow v.point u.point)
+  ahead-order i j u v a b w = ⊎_elim (λ e. absurd (direction-left (toward u.point v.point) d w (point-toward u.point v.point (one (at-one C.vertices j u v (subst (λ (x : ℕ). IsAt C.vertices x u) e a) b)))))
       (λ o. ⊎_elim (λ x. inl (x, S.ordered i j u v x a b)) (λ x. inr (x, S.ordered j i v u x b a)) o) (cases_order i j)
     where
-      one : u ≡ v → SamePlace u.point v.point
-      one e = subst (λ (x : Vertex). SamePlace u.point x.point) e (same-itself u.point)
+      one : u ≡ v → SamePoint u.point v.point
+      one e = subst (λ (x : Vertex). SamePoint u.point x.point) e (same-itself u.point)
 
-  upward : (u v : Vertex) → IsPlaceBelow u.point v.point → SameDirection (toward u.point v.point) d → Rises d
+  upward : (u v : Vertex) → IsPointBelow u.point v.point → SameDirection (toward u.point v.point) d → Rises d
   upward u v b w = (toward u.point v.point, toward-normal u.point v.point b, w)
 
-  downward : (u v : Vertex) → IsPlaceBelow v.point u.point → SameDirection (toward u.point v.point) d → Rises (opposite d)
+  downward : (u v : Vertex) → IsPointBelow v.point u.point → SameDirection (toward u.point v.point) d → Rises (opposite d)
   downward u v b w = (toward v.point u.point, toward-normal v.point u.point b, ahead-back u.point v.point d w)
 
   rising : Rises d → (k : Corner) → Is_beside k → Chained (FacetLink C) k l
@@ -77,8 +77,8 @@ module _ (s : Set) (C : Complex) (S : Shows s C) (h g : Form) (d : Vector) (y z 
   comes-to k N = ⊎_elim (λ M. rising (d, M, dir-self d T.some) k N)
       (λ M. falling (opposite d, M, dir-self (opposite d) (normal-direction (opposite d) M)) k N) (normal-either d T.some)
 
-  pub strip-names : (on : form_at h y ≡ pos 0) (F : IsFlatIn s h y) → ((r : Place) → IsBetween y r z → FlatDim s r 2) → (k : Corner) → RayNames C h y d k → Chained (FacetLink C) k l
+  pub strip-names : (on : form_at h y ≡ pos 0) (F : IsFlatIn s h y) → ((r : SpacePoint) → IsBetween y r z → FlatDim s r 2) → (k : Corner) → RayNames C h y d k → Chained (FacetLink C) k l
   strip-names on F clear k a = ⊎_elim (λ c. c) (λ r. comes-to k r.0) (from-facet s C S h g d y z T y on start F clear k l a named)
     where
       start : form_at (near s C S h g d y z T) y ≡ pos 0
-      start = through-at (cross d m) y y ∙ dot-zero (cross d m) (toward y y) (place-toward y y (same-itself y))
+      start = through-at (cross d m) y y ∙ dot-zero (cross d m) (toward y y) (point-toward y y (same-itself y))

@@ -1,8 +1,8 @@
 -- From a vertex beside which z lies, whose arc goes on along an edge ahead, to the vertex at the edge's other end.
-use Rattle.nef_conn.proofs.Prelude.{◌≡◌, ℕ, pos, neg_ℤ, ◌<ℤ◌, arith, refl, ◌⊎◌, inl, inr, ⊎_elim, subst, ints, Chained, FlatDim, Place, Form, form_at, normal_of, toward, IsBetween, Set, Vector, opposite, dot, triple, IsDirection, SameDirection, cross, between-turned, Arc, Item, item_normal, OnItem, Shaped, Vertex, Complex, Corner, IsCorner, Shows, plane-ahead, FacetLink, on_item-way, level-of_opposite, triple-turned, SameDirection-turned, SameDirection-trans, opposite-same, direction-opposite, right-turn, opposite-dot}
+use Rattle.nef_conn.proofs.Prelude.{◌≡◌, ℕ, pos, neg_ℤ, ◌<ℤ◌, arith, refl, ◌⊎◌, inl, inr, ⊎_elim, subst, ints, Chained, FlatDim, SpacePoint, Form, form_at, normal_of, toward, IsBetween, Set, Vector, opposite, dot, triple, IsDirection, SameDirection, cross, between-turned, Arc, Item, item_normal, OnItem, Shaped, Vertex, Complex, Corner, IsCorner, Shows, plane-ahead, FacetLink, on_item-way, level-of_opposite, triple-turned, SameDirection-turned, SameDirection-trans, opposite-same, direction-opposite, right-turn, opposite-dot}
 use Rattle.nef_conn.proofs.Chain.{chain-here, chain-before}
-use Rattle.nef_conn.proofs.Sector.{Seen, end_of, seen-back, Through, Stops, turned}
-use Rattle.nef_conn.proofs.Leads.{Leads, leads, link-of}
+use Rattle.nef_conn.proofs.Sector.{Seen, sector_end, seen-back, Through, Stops, turned}
+use Rattle.nef_conn.proofs.Leads.{LeadsFrom, leads, link-of}
 use Rattle.nef_conn.proofs.FacetStrip.{Strip, m-some, short-of, angle-ahead, turn-z}
 use Rattle.nef_conn.proofs.Beside.{turn-to, near, near-onward, hidden, Beside, off-edges, fan-beside, seen-beside}
 
@@ -14,11 +14,11 @@ both-opposite : (m a b : Vector) → triple (opposite m) a (opposite b) ≡ trip
 both-opposite m a b = let e = right-turn (opposite m) a b in let f = opposite-normal m a b in omega (arith, ints)
 
 -- where an arc ends counterclockwise, and where another ends clockwise
-ends-match : (n m : Vector) (O : Seen n m) (c b : Arc) (a e : ℕ) → end_of n m O c ≡ a → end_of n (opposite m) (seen-back n m O) b ≡ e → ((c.target ≡ a) × (b.source ≡ e)) ⊎ ((c.source ≡ a) × (b.target ≡ e))
+ends-match : (n m : Vector) (O : Seen n m) (c b : Arc) (a e : ℕ) → sector_end n m O c ≡ a → sector_end n (opposite m) (seen-back n m O) b ≡ e → ((c.target ≡ a) × (b.source ≡ e)) ⊎ ((c.source ≡ a) × (b.target ≡ e))
 ends-match n m (inl w) c b a e x y = inl (x, y)
 ends-match n m (inr w) c b a e x y = inr (x, y)
 
-module _ (s : Set) (C : Complex) (S : Shows s C) (h g : Form) (d : Vector) (y z : Place) (T : Strip s C h g d y z) where
+module _ (s : Set) (C : Complex) (S : Shows s C) (h g : Form) (d : Vector) (y z : SpacePoint) (T : Strip s C h g d y z) where
   abbrev n : Vector
   n = normal_of h
 
@@ -42,7 +42,7 @@ module _ (s : Set) (C : Complex) (S : Shows s C) (h g : Form) (d : Vector) (y z 
     abbrev v : Vertex
     v = N.vertex
 
-    abbrev w : Place
+    abbrev w : SpacePoint
     w = v.point
 
     abbrev Ends_before : Type 0
@@ -51,9 +51,9 @@ module _ (s : Set) (C : Complex) (S : Shows s C) (h g : Form) (d : Vector) (y z 
     -- ---- where the item is an arc that ends at a svertex in the direction d
     module _ (E : Ends_before) (way : SameDirection E.svertex.dir d) where
       abbrev a : ℕ
-      a = end_of n m T.seen E.arc
+      a = sector_end n m T.seen E.arc
 
-      L : Leads s C k.vertex a v E.svertex
+      L : LeadsFrom s C k.vertex a v E.svertex
       L = leads s C S k.vertex a v E.svertex N.corner.vertex E.end
 
       abbrev v1 : Vertex
@@ -68,7 +68,7 @@ module _ (s : Set) (C : Complex) (S : Shows s C) (h g : Form) (d : Vector) (y z 
       near1 : form_at (near s C S h g d y z T) v1.point ≡ pos 0
       near1 = near-onward s C S h g d y z T w v1.point up N.on_line
 
-      reach : (r : Place) → IsBetween z r v1.point → FlatDim s r 2
+      reach : (r : SpacePoint) → IsBetween z r v1.point → FlatDim s r 2
       reach = fan-beside s C S h g d y z T k N v1.point on1 (let e = near1 in omega (arith, ints)) (let l = short-of s C S h g d y z T v1.point near1 in omega (arith, ints)) (angle-ahead s C S h g d y z T w v1.point N.on_line up)
           (inr (off-edges s C S h g d y z T k N, L.along)) (λ e i q p r. E.between e i q p (turn-to m e (toward w v1.point) E.svertex.dir L.onward r))
 
@@ -90,12 +90,12 @@ module _ (s : Set) (C : Complex) (S : Shows s C) (h g : Form) (d : Vector) (y z 
         linked t = ⊎_elim at-end (λ q. absurd (amid q)) t.before
           where
             amid : pos 0 <ℤ triple (opposite m) t.svertex.dir (opposite d) → ⊥
-            amid q = hidden s C S h g d y z T l.vertex (end_of n (opposite m) Back t.arc) v1 t.svertex K.vertex t.end on1 near1 t.level (let e = both-opposite m t.svertex.dir d in omega (arith, ints)) w N.on_plane N.on_line up N.all
+            amid q = hidden s C S h g d y z T l.vertex (sector_end n (opposite m) Back t.arc) v1 t.svertex K.vertex t.end on1 near1 t.level (let e = both-opposite m t.svertex.dir d in omega (arith, ints)) w N.on_plane N.on_line up N.all
                 (inr (let e = opposite-normal m (toward v1.point z) t.svertex.dir in let f = triple-turned m t.svertex.dir (toward v1.point z) in let l = t.left in omega (arith, ints)))
 
             at-end : SameDirection t.svertex.dir (opposite d) → FacetLink C k l ⊎ FacetLink C l k
             at-end q =
-                let one = V.svertices_apart (end_of n (opposite m) Back t.arc) L.there_end t.svertex L.end t.end L.is_end (SameDirection-trans t.svertex.dir (opposite d) L.end.dir q back-way) in
+                let one = V.svertices_apart (sector_end n (opposite m) Back t.arc) L.there_end t.svertex L.end t.end L.is_end (SameDirection-trans t.svertex.dir (opposite d) L.end.dir q back-way) in
                 link-of s C k.vertex a v E.svertex L n k l E.arc t.arc refl is (subst (λ (r : Item). IsCorner C k v r) E.is_arc N.corner) (subst (λ (r : Item). IsCorner C l v1 r) t.is_arc K)
                 (subst (λ (r : Item). SameDirection (item_normal r) n) E.is_arc N.same) (subst (λ (r : Item). SameDirection (item_normal r) n) t.is_arc same) (ends-match n m T.seen E.arc t.arc a L.there_end refl one)
 

@@ -1,11 +1,11 @@
 -- A point with three flat directions is joined to a point close to a vertex: beside the first vertex, edge point or facet point that some way from it meets.
 -- Off the vertex all germs are one, so toward it the map has no svertex and no item, and a side sees it.
-use Rattle.nef_conn.proofs.Prelude.{◌≡◌, ℕ, zero, suc, ◌*◌, ℤ, pos, ◌+ℤ◌, ◌*ℤ◌, arith, refl, sym, inl, ◌∷◌, subst, [], ring, at, num, ◌⊕◌, ◌⊗◌, Germ, FlatDim, Joined, Place, SamePlace, toward, Set, Vector, zero_vector, blend, IsZero, IsDirection, Label, carriers, flat-germ, FlatDim-by_germs, FlatDim-one, label_of, ahead, near-ahead, joined-germs, flat_dim-of, sample, steep, signs-same, same-place_sym, near-germ_zero, NearPlain, At, MapLabel, at_svertex, on_item, seen, SeenAs, on-direction, svertex-neither, Vertex, Complex, Shows, VertexSide, germ-label, near-label, edges-complete, dim-same, facet-of, IsAtSide, ahead-cells, IsTied, tied-cell, tied-both, tied-ahead, tied-ray, facet-near, corner_of, edge-ways, tied-low, tied-turn, at-side, PointsReachSides, dir-self}
+use Rattle.nef_conn.proofs.Prelude.{◌≡◌, ℕ, zero, suc, ◌*◌, ℤ, pos, ◌+ℤ◌, ◌*ℤ◌, arith, refl, sym, inl, ◌∷◌, subst, [], ring, at, num, ◌⊕◌, ◌⊗◌, Germ, FlatDim, Joined, SpacePoint, SamePoint, toward, Set, Vector, zero_vector, blend, IsZero, IsDirection, Label, carriers, flat-germ, FlatDim-by_germs, FlatDim-one, label_of, ahead, near-ahead, joined-germs, flat_dim-of, sample, steep, signs-same, same-point_sym, near-germ_zero, NearPlain, IsAt, MapLabel, at_svertex, on_item, seen, SeenAs, on-direction, svertex-neither, Vertex, Complex, Shows, VertexSide, germ-label, near-label, edges-complete, dim-same, facet-of, IsAtSide, ahead-cells, IsTied, tied-cell, tied-both, tied-ahead, tied-ray, facet-near, corner_of_numbers, edge-ways, tied-low, tied-turn, at-side, PointsReachSides, dir-self}
 use Rattle.nef_conn.proofs.AtItems.{facet-even}
 use Rattle.nef_conn.proofs.FirstMet.{all-flat, first-met}
 
 -- no way leads from a point to itself
-pub ahead-zero : (s : Set) (p : Place) (d : Vector) → IsZero d → SamePlace p (ahead s p d)
+pub ahead-zero : (s : Set) (p : SpacePoint) (d : Vector) → IsZero d → SamePoint p (ahead s p d)
 ahead-zero s p d z = record { along_x = one p.x d.x z.0; along_y = one p.y d.y z.1; along_z = one p.z d.z z.2 }
   where
     one : (x e : ℤ) → e ≡ pos 0 → x *ℤ pos (p.w * (sample s p d).b) ≡ (x *ℤ pos (sample s p d).b +ℤ pos 1 *ℤ pos p.w *ℤ e) *ℤ pos p.w
@@ -14,16 +14,16 @@ ahead-zero s p d z = record { along_x = one p.x d.x z.0; along_y = one p.y d.y z
 
 -- ---- points close to a vertex
 -- p is tied to the point close to a vertex in some direction
-record NearVertex (s : Set) (C : Complex) (p : Place) : Type 0 where
+record NearVertex (s : Set) (C : Complex) (p : SpacePoint) : Type 0 where
   number : ℕ
   vertex : Vertex
-  listed : At C.vertices number vertex
+  listed : IsAt C.vertices number vertex
   dir : Vector
   tied : IsTied s p (ahead s vertex.point dir)
 
 module _ (s : Set) (C : Complex) (S : Shows s C) where
   -- what lies off a point that is tied to one close to a vertex, lies close to the vertex
-  module _ (y : Place) (f : Vector) (i : ℕ) (v : Vertex) (a : At C.vertices i v) (u : Vector) (t : IsTied s y (ahead s v.point u)) where
+  module _ (y : SpacePoint) (f : Vector) (i : ℕ) (v : Vertex) (a : IsAt C.vertices i v) (u : Vector) (t : IsTied s y (ahead s v.point u)) where
     turned-near : NearVertex s C (ahead s y f)
     turned-near =
         let n = steep (carriers s) f in
@@ -35,7 +35,7 @@ module _ (s : Set) (C : Complex) (S : Shows s C) where
           tied = tied-both s (ahead s y f) (ahead s (ahead s v.point u) f) (ahead s v.point (blend n u 1 f)) (tied-ahead s y (ahead s v.point u) f t) (tied-turn s v.point u f n (omega arith));
         }
 
-  off-met : (y : Place) → (FlatDim s y 3 → ⊥) → (f : Vector) → NearVertex s C (ahead s y f)
+  off-met : (y : SpacePoint) → (FlatDim s y 3 → ⊥) → (f : Vector) → NearVertex s C (ahead s y f)
   off-met y not f = let k = flat_dim-of s y in by k.0 k.1
     where
       by : (k : ℕ) → FlatDim s y k → NearVertex s C (ahead s y f)
@@ -46,7 +46,7 @@ module _ (s : Set) (C : Complex) (S : Shows s C) where
             vertex = v;
             listed = a;
             dir = f;
-            tied = tied-cell s (ahead s y f) (ahead s v.point f) (ahead-cells s y v.point f (signs-same (carriers s) y v.point (same-place_sym v.point y e)));
+            tied = tied-cell s (ahead s y f) (ahead s v.point f) (ahead-cells s y v.point f (signs-same (carriers s) y v.point (same-point_sym v.point y e)));
           }
       by (suc zero) g =
           let (k, p) = edges-complete s C S y g in
@@ -60,7 +60,7 @@ module _ (s : Set) (C : Complex) (S : Shows s C) where
       by (suc (suc (suc zero))) g = absurd (not g)
       by (suc (suc (suc (suc k)))) g = absurd g.0
 
-  near-vertex : (p : Place) → FlatDim s p 3 → NearVertex s C p
+  near-vertex : (p : SpacePoint) → FlatDim s p 3 → NearVertex s C p
   near-vertex p f =
       let M = first-met s p f in
       let d = toward M.place p in
@@ -76,7 +76,7 @@ module _ (s : Set) (C : Complex) (S : Shows s C) where
 
   -- ---- some side sees the direction
   -- off the vertex toward d all germs are l
-  module _ (i : ℕ) (v : Vertex) (a : At C.vertices i v) (d : Vector) (f : FlatDim s (ahead s v.point d) 3) (l : Label) (germs : (e : Vector) → Germ s (ahead s v.point d) e l) where
+  module _ (i : ℕ) (v : Vertex) (a : IsAt C.vertices i v) (d : Vector) (f : FlatDim s (ahead s v.point d) 3) (l : Label) (germs : (e : Vector) → Germ s (ahead s v.point d) e l) where
     -- the vertex itself isn't flat
     some : IsDirection d
     some z =
@@ -96,7 +96,7 @@ module _ (s : Set) (C : Complex) (S : Shows s C) where
     seen-by : (m : Label) → MapLabel v.map d m → SeenAs v.map d m
     seen-by m (at_svertex k u b w e) = absurd (svertex-neither v.map (S.cones i v a).valid (S.least i v a) d k u b w (inl plain))
     seen-by m (on_item k x b o e) =
-        let F = facet-near s C S (corner_of i k) v x (record { vertex = a; item = b }) d o in
+        let F = facet-near s C S (corner_of_numbers i k) v x (record { vertex = a; item = b }) d o in
         let z = FlatDim-one s (ahead s v.point d) 2 3 F.dim f in
         absurd (omega arith)
     seen-by m (seen h) = h
@@ -105,7 +105,7 @@ module _ (s : Set) (C : Complex) (S : Shows s C) where
     side-toward = seen-by l label-there
 
   -- so the point is at some side
-  reaches : (p : Place) → FlatDim s p 3 → NearVertex s C p → (x : VertexSide) × (q : Place) × IsAtSide s C x q × Joined s p q
+  reaches : (p : SpacePoint) → FlatDim s p 3 → NearVertex s C p → (x : VertexSide) × (q : SpacePoint) × IsAtSide s C x q × Joined s p q
   reaches p f N =
       let v = N.vertex in
       let q = ahead s v.point N.dir in

@@ -1,5 +1,5 @@
 -- Where the fall from y ends at y', what falls from b beside it names a side of the class of what lies above y', if that is known for y' where it is a vertex of the plane; and so what falls from b beside a vertex of the plane names a side of the class of what touches it, if that is known of what lies below it, and of what touches it downward and what the ray down from it names.
-use Rattle.nef_conn.proofs.Prelude.{◌≡◌, ℕ, zero, suc, ◌<◌, ℤ, pos, ◌-ℤ◌, ◌*ℤ◌, ◌<ℤ◌, neg_ℤ, arith, ap, sym, ◌∙◌, ◌⊎◌, inl, inr, ⊎_elim, ◌∷◌, subst, [], ints, sign, by_order, sign-plus, sign-minus, sign-scaled, ring, at, num, neg, ◌⊕◌, ◌⊖◌, ◌⊗◌, same-nought, same-plus, same-minus, Chained, Flat, FlatDim, Place, Form, form_at, normal_of, slope, plane_through, SamePlace, InFrame, toward, IsBetween, Set, Vector, blend, opposite, dot, cross, IsZero, IsDirection, SameDirection, up, carriers, SameGerms, FlatDim-one, FlatDim-by_germs, germs-by_cell, between-turned, between-inner, ray-cell, ahead, near-ahead, start-close, start-toward, even-germs, flat_dim-of, near-of_flat, FlatCone-from_flat, same-place_sym, flat_dim-nearby, flat-plane, reach_all, slope-toward, Complex, Shows, VertexSide, RayDown, IsFlatIn, near_point, near-between, through-at, through-slope, ahead-back, plane-between, dim-same, plane-ahead, even-by, between-way, between-outer, same-itself, VolumeLink, IsUpright, IsEvenAfter, ahead-close, ahead-toward, tied-ray, AreLinkedWhereJoined, sliced, dot-comm, zero-decided, triple-dot, triple-turned, SameDirection-turned, SameDirection-trans, dir-self, dir-signs, in-span, dot-opposite, level-way, opposite-twice, direction-left, blend-turned}
+use Rattle.nef_conn.proofs.Prelude.{◌≡◌, ℕ, zero, suc, ◌<◌, ℤ, pos, ◌-ℤ◌, ◌*ℤ◌, ◌<ℤ◌, neg_ℤ, arith, ap, sym, ◌∙◌, ◌⊎◌, inl, inr, ⊎_elim, ◌∷◌, subst, [], ints, sign, by_order, sign-plus, sign-minus, sign-scaled, ring, at, num, neg, ◌⊕◌, ◌⊖◌, ◌⊗◌, same-nought, same-plus, same-minus, Chained, Flat, FlatDim, SpacePoint, Form, form_at, normal_of, slope, plane_through, SamePoint, InFrame, toward, IsBetween, Set, Vector, blend, opposite, dot, cross, IsZero, IsDirection, SameDirection, up, carriers, SameGerms, FlatDim-one, FlatDim-by_germs, germs-by_cell, between-turned, between-inner, ray-cell, ahead, near-ahead, start-close, start-toward, even-germs, flat_dim-of, near-of_flat, FlatCone-from_flat, same-point_sym, flat_dim-nearby, flat-plane, reach_all, slope-toward, Complex, Shows, VertexSide, RayDown, IsFlatIn, near_point, near-between, through-at, through-slope, ahead-back, plane-between, dim-same, plane-ahead, even-by, between-way, between-outer, same-itself, VolumeLink, IsUpright, IsEvenAfter, ahead-close, ahead-toward, tied-ray, AreLinkedWhereJoined, sliced, dot-comm, zero-decided, triple-dot, triple-turned, SameDirection-turned, SameDirection-trans, dir-self, dir-signs, in-span, dot-opposite, level-way, opposite-twice, direction-left, blend-turned}
 use Rattle.nef_conn.proofs.Chain.{chain-both}
 use Rattle.nef_conn.proofs.Fall.{corner-two, corner-wedge, lam-down, lam-zero}
 use Rattle.nef_conn.proofs.Fans.{off-close}
@@ -21,19 +21,19 @@ module _ (s : Set) (C : Complex) (S : Shows s C) (upright : IsUpright C) (linked
   t = sliced s h
 
   -- what falls from a point that y sees, beside no vertex of the plane, names a side of the class of each that touches y toward it
-  abbrev pub Claim : Place → Type 0
-  Claim y = (b : Place) (x z : VertexSide) → form_at h b ≡ pos 0 → pos 0 <ℤ lam (normal_of h) y b → Clear (sliced s h) h hn level y b → ((r : Place) → IsBetween y r b → FlatDim s r 3) → FlatDim s b 3 → InFrame b
+  abbrev pub Claim : SpacePoint → Type 0
+  Claim y = (b : SpacePoint) (x z : VertexSide) → form_at h b ≡ pos 0 → pos 0 <ℤ lam (normal_of h) y b → Clear (sliced s h) h hn level y b → ((r : SpacePoint) → IsBetween y r b → FlatDim s r 3) → FlatDim s b 3 → InFrame b
       → Beside-point s C S upright linked y (toward y b) x → RayDown C b z → Chained (VolumeLink C) x z
 
   -- a start: within a facet of the slice, or with free directions toward b and downward
-  abbrev pub IsStart : Place → Place → Type 0
+  abbrev pub IsStart : SpacePoint → SpacePoint → Type 0
   IsStart y b = FlatDim (sliced s h) y 2 ⊎ Wedge (sliced s h) 2 y (toward y b) (opposite up)
 
   down-some : IsDirection (opposite up)
   down-some z = let e = z.2 in omega (arith, ints)
 
   -- the way from b to c below it, and to c, has up on one side
-  pub up-side : (y b c : Place) (g : Vector) → SameDirection (toward y c) g → SameDirection (toward b c) (opposite up) → Above s C S upright g (toward y b)
+  pub up-side : (y b c : SpacePoint) (g : Vector) → SameDirection (toward y c) g → SameDirection (toward b c) (opposite up) → Above s C S upright g (toward y b)
   up-side y b c g to below m z =
       let at-c : form_at (plane_through m y) c ≡ pos 0 = through-at m y c ∙ level-way m g (toward y c) (SameDirection-turned (toward y c) g to) z in
       let at-b = through-at m y b in
@@ -58,7 +58,7 @@ module _ (s : Set) (C : Complex) (S : Shows s C) (upright : IsUpright C) (linked
           zero-of v k = omega (arith, ints)
 
   -- at a vertex of the plane no direction of the plane is flat for the set
-  pub not-flat : (y : Place) (d : Vector) → form_at h y ≡ pos 0 → slope h d ≡ pos 0 → IsDirection d → FlatDim (sliced s h) y 0 → Flat s y d → ⊥
+  pub not-flat : (y : SpacePoint) (d : Vector) → form_at h y ≡ pos 0 → slope h d ≡ pos 0 → IsDirection d → FlatDim (sliced s h) y 0 → Flat s y d → ⊥
   not-flat y d on-y along i zero-flat f =
       no-vertices (sliced s h) y (ahead s y d) to-q-some (FlatDim-by_germs (sliced s h) (sliced s h) y (near_point (sliced s h) y (ahead s y d)) (resliced s h y (near_point (sliced s h) y (ahead s y d)) on-y on-w same) 0 zero-flat)
     where
@@ -84,13 +84,13 @@ module _ (s : Set) (C : Complex) (S : Shows s C) (upright : IsUpright C) (linked
           let c = germs-by_cell s (ahead s y d) (near_point (sliced s h) y (ahead s y d)) (ray-cell (carriers s) y (ahead s y d) (near_point (sliced s h) y (ahead s y d)) (ahead-close s y d) amid) v l in
           (λ g. c.0 (b.1 (a.0 g)), λ g. a.1 (b.0 (c.1 g)))
 
-  over-three : (y : Place) (x : VertexSide) → Over s C S y x → FlatDim s y 3 → ⊥
+  over-three : (y : SpacePoint) (x : VertexSide) → Over s C S y x → FlatDim s y 3 → ⊥
   over-three y x (inl A) f = let e = FlatDim-one s y 0 3 (vertex-dim s C S y x A) f in absurd (omega arith)
   over-three y x (inr (inl A)) f = let e = FlatDim-one s y 1 3 (edge-dim s C S y x A) f in absurd (omega arith)
   over-three y x (inr (inr A)) f = let e = FlatDim-one s y 2 3 (facet-dim s C S y x A) f in absurd (omega arith)
 
   -- a facet of the set has a direction of the plane, so a vertex of the plane lies in none
-  pub not-facet : (y : Place) → form_at h y ≡ pos 0 → FlatDim (sliced s h) y 0 → FlatDim s y 2 → ⊥
+  pub not-facet : (y : SpacePoint) → form_at h y ≡ pos 0 → FlatDim (sliced s h) y 0 → FlatDim s y 2 → ⊥
   not-facet y on-y zero-flat two =
       let P = flat-plane s y two in
       ⊎_elim (λ o. not-flat y up on-y level up-some zero-flat ((P.2 up).1 (in-plane P.0 o)))
@@ -107,23 +107,23 @@ module _ (s : Set) (C : Complex) (S : Shows s C) (upright : IsUpright C) (linked
       square-second m = ring (n.x ∷ n.y ∷ n.z ∷ m.x ∷ m.y ∷ m.z ∷ []) (at 3 ⊗ (at 1 ⊗ at 5 ⊖ at 2 ⊗ at 4) ⊕ at 4 ⊗ (at 2 ⊗ at 3 ⊖ at 0 ⊗ at 5) ⊕ at 5 ⊗ (at 0 ⊗ at 4 ⊖ at 1 ⊗ at 3)) (num (pos 0)) tt
 
   -- ---- beside a fall from y to y'
-  module _ (y y' b : Place) (on-y : form_at h y ≡ pos 0) (on-y' : form_at h y' ≡ pos 0) (on-b : form_at h b ≡ pos 0) (down : SameDirection (toward y y') (opposite up)) (side : pos 0 <ℤ lam (normal_of h) y b) (clear : Clear (sliced s h) h hn level y b)
-      (first : (r : Place) → IsBetween y r b → FlatDim s r 3) (second : (r : Place) → IsBetween y r y' → FlatDim s r 3 × InFrame r) (three : FlatDim s b 3) (inside : InFrame b) (start : IsStart y b)
+  module _ (y y' b : SpacePoint) (on-y : form_at h y ≡ pos 0) (on-y' : form_at h y' ≡ pos 0) (on-b : form_at h b ≡ pos 0) (down : SameDirection (toward y y') (opposite up)) (side : pos 0 <ℤ lam (normal_of h) y b) (clear : Clear (sliced s h) h hn level y b)
+      (first : (r : SpacePoint) → IsBetween y r b → FlatDim s r 3) (second : (r : SpacePoint) → IsBetween y r y' → FlatDim s r 3 × InFrame r) (three : FlatDim s b 3) (inside : InFrame b) (start : IsStart y b)
       (x z : VertexSide) (A : Over s C S y' x) (R : RayDown C b z) (claim : FlatDim (sliced s h) y' 0 → Claim y') where
     F : IsFlatIn (sliced s h) h b
     F = two-of s h hn b on-b three inside
 
     -- the way from y to b lies in the frame
-    inside-first : (r : Place) → IsBetween y r b → InFrame r
+    inside-first : (r : SpacePoint) → IsBetween y r b → InFrame r
     inside-first r m = germs-inside s b r (λ d l. let e = even-germs s 3 r b (even-by s 3 r b (first r m) (λ u k. first u (between-outer y r u b m k)) three) d l in (e.1, e.0)) inside
 
-    first-two : (r : Place) → IsBetween y r b → FlatDim (sliced s h) r 2
+    first-two : (r : SpacePoint) → IsBetween y r b → FlatDim (sliced s h) r 2
     first-two r m = let f = two-of s h hn r (plane-between h y r b m on-y on-b) (first r m) (inside-first r m) in f.0
 
-    second-two : (r : Place) → IsBetween y r y' → FlatDim (sliced s h) r 2
+    second-two : (r : SpacePoint) → IsBetween y r y' → FlatDim (sliced s h) r 2
     second-two r m = let f = second r m in let g = two-of s h hn r (plane-between h y r y' m on-y on-y') f.0 f.1 in g.0
 
-    corner : (u : Place) → (SamePlace y u → ⊥) → ((r : Place) → IsBetween u r y → FlatDim (sliced s h) r 1) → (c : Place) → SameDirection (toward y c) (opposite up) → IsBetween b u c → ⊥
+    corner : (u : SpacePoint) → (SamePoint y u → ⊥) → ((r : SpacePoint) → IsBetween u r y → FlatDim (sliced s h) r 1) → (c : SpacePoint) → SameDirection (toward y c) (opposite up) → IsBetween b u c → ⊥
     corner u off edge c way m = ⊎_elim (λ two. corner-two (sliced s h) y u off edge two)
         (λ w. corner-wedge (sliced s h) y u off edge b c m (wedge-way (sliced s h) 2 y (toward y b) (toward y b) (opposite up) (toward y c) (dir-self (toward y b) some-b) (SameDirection-turned (toward y c) (opposite up) way)
         (λ i j si sj. blend-rises (cross n up) (toward y b) (toward y c) i j si (subst (λ (v : ℤ). pos 0 <ℤ v) (triple-dot n up (toward y b)) side) (let e = triple-dot n up (toward y c) in let l = lam-down n y c way in omega (arith, ints))) w)) start
@@ -131,10 +131,10 @@ module _ (s : Set) (C : Complex) (S : Shows s C) (upright : IsUpright C) (linked
         some-b : IsDirection (toward y b)
         some-b z = let e = lam-zero n y b z in let l = side in omega (arith, ints)
 
-    abbrev q : Place
+    abbrev q : SpacePoint
     q = q0 (sliced s h) h hn level y y' b on-y on-y' on-b down side clear first-two second-two F corner
 
-    abbrev r : Place
+    abbrev r : SpacePoint
     r = r0 (sliced s h) h hn level y y' b on-y on-y' on-b down side clear first-two second-two F corner
 
     on-q : form_at h q ≡ pos 0
@@ -143,7 +143,7 @@ module _ (s : Set) (C : Complex) (S : Shows s C) (upright : IsUpright C) (linked
     on-r : form_at h r ≡ pos 0
     on-r = on-r0 (sliced s h) h hn level y y' b on-y on-y' on-b down side clear first-two second-two F corner
 
-    free-b : (u : Place) → IsBetween b u y' → FlatDim s u 3
+    free-b : (u : SpacePoint) → IsBetween b u y' → FlatDim s u 3
     free-b u m = three-of s h hn 2 b u on-b (plane-between h b u y' m on-b on-y') (even-by (sliced s h) 2 b u F.0 (λ v k. to-b (sliced s h) h hn level y y' b on-y on-y' on-b down side clear first-two second-two F corner v (between-inner b u y' v m k))
         (to-b (sliced s h) h hn level y y' b on-y on-y' on-b down side clear first-two second-two F corner u m)) three
 
@@ -157,7 +157,7 @@ module _ (s : Set) (C : Complex) (S : Shows s C) (upright : IsUpright C) (linked
     three-q : FlatDim s q 3
     three-q = free-b (near_point (sliced s h) y' b) amid-q
 
-    fan-three : (u : Place) → IsBetween r u q → FlatDim s u 3
+    fan-three : (u : SpacePoint) → IsBetween r u q → FlatDim s u 3
     fan-three u m = three-of s h hn 2 q u on-q (plane-between h r u q m on-r on-q)
         (even-by (sliced s h) 2 q u (two-q0 (sliced s h) h hn level y y' b on-y on-y' on-b down side clear first-two second-two F corner)
         (λ v k. even-fan (sliced s h) h hn level y y' b on-y on-y' on-b down side clear first-two second-two F corner v (between-inner q u r v (between-turned r q u m) k))
@@ -182,7 +182,7 @@ module _ (s : Set) (C : Complex) (S : Shows s C) (upright : IsUpright C) (linked
     free-up : FlatDim s (ahead s y' up) 3
     free-up = tied-dim s q' (ahead s y' up) 3 (tied-ray s 3 y' q' up near-way (λ u o. by-part u o)) (second q' amid-r).0
       where
-        q' : Place
+        q' : SpacePoint
         q' = near_point (sliced s h) y' y
 
         some-back : IsDirection (toward y' y)
@@ -197,16 +197,16 @@ module _ (s : Set) (C : Complex) (S : Shows s C) (upright : IsUpright C) (linked
         near-way : SameDirection (toward y' (near_point (sliced s h) y' y)) up
         near-way = SameDirection-trans (toward y' (near_point (sliced s h) y' y)) (toward y' y) up (between-way y' (near_point (sliced s h) y' y) y on-line) back
 
-        by-part : (u : Place) → IsBetween y' u (near_point (sliced s h) y' y) ⊎ SamePlace u (near_point (sliced s h) y' y) → FlatDim s u 3
+        by-part : (u : SpacePoint) → IsBetween y' u (near_point (sliced s h) y' y) ⊎ SamePoint u (near_point (sliced s h) y' y) → FlatDim s u 3
         by-part u (inl m) = (second u (between-turned y' y u (between-inner y' (near_point (sliced s h) y' y) y u on-line m))).0
-        by-part u (inr e) = dim-same s (near_point (sliced s h) y' y) u 3 (same-place_sym u (near_point (sliced s h) y' y) e) (second (near_point (sliced s h) y' y) amid-r).0
+        by-part u (inr e) = dim-same s (near_point (sliced s h) y' y) u 3 (same-point_sym u (near_point (sliced s h) y' y) e) (second (near_point (sliced s h) y' y) amid-r).0
 
     pub free-toward : FlatDim s (ahead s y' (toward y' b)) 3
     free-toward = tied-dim s b (ahead s y' (toward y' b)) 3 (tied-ray s 3 y' b (toward y' b) (dir-self (toward y' b) some-y') even) three
       where
         even : IsEvenAfter s 3 y' b
         even u (inl m) = free-b u (between-turned y' b u m)
-        even u (inr e) = dim-same s b u 3 (same-place_sym u b e) three
+        even u (inr e) = dim-same s b u 3 (same-point_sym u b e) three
 
     -- at a vertex of the plane
     by-vertex : FlatDim (sliced s h) y' 0 → Chained (VolumeLink C) x z

@@ -1,33 +1,33 @@
 -- Components are counted by a point of each class.
-use Rattle.nef_conn.proofs.Prelude.{◌≡◌, ℕ, zero, suc, ◌<◌, arith, refl, ap, List, ◌∷◌, length, subst, [], FlatDim, Joined, Place, toward, Set, joined-itself, joined-both, At, IsVertexPoint, IsEdgePoint, near_point, near-between, edge-points, dim-same, edges-complete, same-itself, HasComponents, VerticesCounted, EdgesCounted, direction-left, is-at_none, is-at_first}
+use Rattle.nef_conn.proofs.Prelude.{◌≡◌, ℕ, zero, suc, ◌<◌, arith, refl, ap, List, ◌∷◌, length, subst, [], FlatDim, Joined, SpacePoint, toward, Set, joined-itself, joined-both, IsAt, IsVertexPoint, IsEdgePoint, near_point, near-between, edge-points, dim-same, edges-complete, same-itself, HasComponents, VerticesCounted, EdgesCounted, direction-left, is-at_none, is-at_first}
 use Rattle.nef_conn.proofs.OnEdges.{joined-vertices, joined-edges}
 use Rattle.nef_conn.proofs.Reached.{within}
 
 -- ---- a list with a point for each number
-record Chosen (n : ℕ) (P : ℕ → Place → Type 0) : Type 0 where
-  points : List Place
+record Chosen (n : ℕ) (P : ℕ → SpacePoint → Type 0) : Type 0 where
+  points : List SpacePoint
   as_many : length points ≡ n
-  each : (i : ℕ) (p : Place) → At points i p → P i p
-  all : (i : ℕ) → i < n → (p : Place) × At points i p
+  each : (i : ℕ) (p : SpacePoint) → IsAt points i p → P i p
+  all : (i : ℕ) → i < n → (p : SpacePoint) × IsAt points i p
 
-one-more : (n : ℕ) (P : ℕ → Place → Type 0) → (p : Place) → P 0 p → Chosen n (λ i. P (suc i)) → Chosen (suc n) P
+one-more : (n : ℕ) (P : ℕ → SpacePoint → Type 0) → (p : SpacePoint) → P 0 p → Chosen n (λ i. P (suc i)) → Chosen (suc n) P
 one-more n P p here rest = record { points = p ∷ rest.points; as_many = ap suc rest.as_many; each = each; all = all }
   where
-    each : (i : ℕ) (q : Place) → At (p ∷ rest.points) i q → P i q
-    each zero q e = subst (λ (r : Place). P 0 r) (is-at_first e) here
+    each : (i : ℕ) (q : SpacePoint) → IsAt (p ∷ rest.points) i q → P i q
+    each zero q e = subst (λ (r : SpacePoint). P 0 r) (is-at_first e) here
     each (suc i) q a = rest.each i q a
 
-    all : (i : ℕ) → i < suc n → (q : Place) × At (p ∷ rest.points) i q
+    all : (i : ℕ) → i < suc n → (q : SpacePoint) × IsAt (p ∷ rest.points) i q
     all zero l = (p, refl)
     all (suc i) l = rest.all i (omega arith)
 
-choose : (n : ℕ) (P : ℕ → Place → Type 0) → ((i : ℕ) → i < n → (p : Place) × P i p) → Chosen n P
+choose : (n : ℕ) (P : ℕ → SpacePoint → Type 0) → ((i : ℕ) → i < n → (p : SpacePoint) × P i p) → Chosen n P
 choose zero P f = record { points = []; as_many = refl; each = λ i p a. absurd (is-at_none a); all = λ i l. absurd (omega arith) }
 choose (suc n) P f = let p = f 0 (omega arith) in one-more n P p.0 p.1 (choose n (λ i. P (suc i)) (λ i l. f (suc i) (omega arith)))
 
 -- where points of one number are joined and those of two aren't, and some have each number below n, the components are n
-pub components-by : (s : Set) (k n : ℕ) (P : ℕ → Place → Type 0) → ((i : ℕ) → i < n → (p : Place) × P i p) → ((i : ℕ) (p : Place) → P i p → FlatDim s p k)
-    → ((i j : ℕ) (p q : Place) → P i p → P j q → (Joined s p q → i ≡ j) × (i ≡ j → Joined s p q)) → ((q : Place) → FlatDim s q k → (i : ℕ) × (r : Place) × (i < n) × P i r × Joined s q r) → HasComponents s k n
+pub components-by : (s : Set) (k n : ℕ) (P : ℕ → SpacePoint → Type 0) → ((i : ℕ) → i < n → (p : SpacePoint) × P i p) → ((i : ℕ) (p : SpacePoint) → P i p → FlatDim s p k)
+    → ((i j : ℕ) (p q : SpacePoint) → P i p → P j q → (Joined s p q → i ≡ j) × (i ≡ j → Joined s p q)) → ((q : SpacePoint) → FlatDim s q k → (i : ℕ) × (r : SpacePoint) × (i < n) × P i r × Joined s q r) → HasComponents s k n
 components-by s k n P some flat one reach =
     let L = choose n P some in (
       L.points,
@@ -42,7 +42,7 @@ components-by s k n P some flat one reach =
       },
     )
 
-pub at-some : {A : Type 0} (xs : List A) (k : ℕ) → k < length xs → (x : A) × At xs k x
+pub at-some : {A : Type 0} (xs : List A) (k : ℕ) → k < length xs → (x : A) × IsAt xs k x
 at-some [] k l = absurd (omega arith)
 at-some (x ∷ xs) zero l = (x, refl)
 at-some (x ∷ xs) (suc k) l = at-some xs k (omega arith)
@@ -59,7 +59,7 @@ edges-counted s C S = components-by s 1 (length C.edges) (IsEdgePoint C) some
     (λ i j p q a b. joined-edges s C i j p q S a b)
     (λ q f. let P = edges-complete s C S q f in let e = P.1 in (P.0, q, within C.edges P.0 e.0 e.3, e, joined-itself s q))
   where
-    some : (i : ℕ) → i < length C.edges → (p : Place) × IsEdgePoint C i p
+    some : (i : ℕ) → i < length C.edges → (p : SpacePoint) × IsEdgePoint C i p
     some i l =
         let e = at-some C.edges i l in
         let E = S.edges.edges i e.0 e.1 in

@@ -1,5 +1,5 @@
 -- Where no edge runs along up, the direction down is free at each vertex and edge; and a side that sees down from a vertex is linked with what the ray down names.
-use Rattle.nef_conn.proofs.Prelude.{◌≡◌, ℕ, ◌≤◌, ℤ, pos, ◌+ℤ◌, ◌-ℤ◌, ◌*ℤ◌, ◌<ℤ◌, neg_ℤ, arith, sym, ◌∙◌, ◌⊎◌, inl, inr, ⊎_elim, ◌∷◌, subst, [], ints, ring, at, num, neg, ◌⊕◌, ◌⊖◌, ◌⊗◌, Chained, FlatDim, Place, InFrame, toward, IsBetween, Set, Vector, blend, dot, cross, opposite, IsZero, IsDirection, SameDirection, up, Out, same-place_sym, between-same, same-nought, forms, Keeps, between-inner, At, MapVertex, Map, Item, items, item_normal, IsFree, Sees, Shaped, direction-around, svertex-around, PlaceOf, svertex_place, item_place, free_place, place_of, item-forms, normal-form, on-level, amount, far-keeps, far-level, Vertex, Complex, Shows, VertexSide, RayDown, near_point, near-between, dim-same, between-way, same-itself, VolumeLink, IsUpright, IsEvenAfter, IsAtSide, sees-way, AreLinkedWhereJoined, nought-or, SameDirection-turned, SameDirection-trans, dot-opposite, direction-left}
+use Rattle.nef_conn.proofs.Prelude.{◌≡◌, ℕ, ◌≤◌, ℤ, pos, ◌+ℤ◌, ◌-ℤ◌, ◌*ℤ◌, ◌<ℤ◌, neg_ℤ, arith, sym, ◌∙◌, ◌⊎◌, inl, inr, ⊎_elim, ◌∷◌, subst, [], ints, ring, at, num, neg, ◌⊕◌, ◌⊖◌, ◌⊗◌, Chained, FlatDim, SpacePoint, InFrame, toward, IsBetween, Set, Vector, blend, dot, cross, opposite, IsZero, IsDirection, SameDirection, up, Out, same-point_sym, between-same, same-nought, forms, Keeps, between-inner, IsAt, MapVertex, Map, Item, items, item_normal, IsFree, Sees, Shaped, direction-around, svertex-around, PlaceOf, svertex_place, item_place, free_place, place_of, item-forms, normal-form, on-level, amount, far-keeps, far-level, Vertex, Complex, Shows, VertexSide, RayDown, near_point, near-between, dim-same, between-way, same-itself, VolumeLink, IsUpright, IsEvenAfter, IsAtSide, sees-way, AreLinkedWhereJoined, nought-or, SameDirection-turned, SameDirection-trans, dot-opposite, direction-left}
 use Rattle.nef_conn.proofs.Chain.{chain-one}
 use Rattle.nef_conn.proofs.SidePaths.{side-label, inside-label}
 use Rattle.nef_conn.proofs.Leaves.{BesideVertex, toward-same}
@@ -16,27 +16,27 @@ along-up d z = (each d.y d.z up.y up.z z.0, each d.z d.x up.z up.x z.1, each d.x
     each a b c e z = let r = ring (a ∷ b ∷ c ∷ e ∷ []) (at 0 ⊗ neg (at 3) ⊖ at 1 ⊗ neg (at 2)) (neg (at 0 ⊗ at 3 ⊖ at 1 ⊗ at 2)) tt in omega (arith, ints)
 
 module _ (s : Set) (C : Complex) (S : Shows s C) (upright : IsUpright C) (linked : AreLinkedWhereJoined s C) where
-  module _ (i : ℕ) (v : Vertex) (a : At C.vertices i v) where
+  module _ (i : ℕ) (v : Vertex) (a : IsAt C.vertices i v) where
     M : Map
     M = v.map
 
     V : Shaped v.map
     V = (S.cones i v a).valid.shaped
 
-    low : (k : ℕ) (x : Item) → At (items v.map) k x → dot (item_normal x) (opposite up) <ℤ pos 0
+    low : (k : ℕ) (x : Item) → IsAt (items v.map) k x → dot (item_normal x) (opposite up) <ℤ pos 0
     low k x h = let e = dot-opposite (item_normal x) up in let u = upright (record { vertex = i; item = k }) v x (record { vertex = a; item = h }) in omega (arith, ints)
 
     -- from a vertex down is free, or an edge runs down
-    pub vertex-down : IsFree v.map (opposite up) ⊎ ((k : ℕ) × (u : MapVertex) × At v.map.svertices k u × SameDirection u.dir (opposite up))
+    pub vertex-down : IsFree v.map (opposite up) ⊎ ((k : ℕ) × (u : MapVertex) × IsAt v.map.svertices k u × SameDirection u.dir (opposite up))
     vertex-down = by (place_of v.map (opposite up) down-some)
       where
-        by : PlaceOf v.map (opposite up) → IsFree v.map (opposite up) ⊎ ((k : ℕ) × (u : MapVertex) × At v.map.svertices k u × SameDirection u.dir (opposite up))
+        by : PlaceOf v.map (opposite up) → IsFree v.map (opposite up) ⊎ ((k : ℕ) × (u : MapVertex) × IsAt v.map.svertices k u × SameDirection u.dir (opposite up))
         by (free_place f) = inl f
         by (item_place k x h o) = let l = low k x h in let e = on-level v.map x (opposite up) o in absurd (omega (arith, ints))
         by (svertex_place k u h w) = inr (k, u, h, w)
 
     -- close to a svertex
-    pub svertex-down : (j : ℕ) (u : MapVertex) → At v.map.svertices j u → IsDirection (cross u.dir up) → (K : ℕ) → amount (forms v.map) (opposite up) ≤ K → IsFree v.map (blend K u.dir 1 (opposite up))
+    pub svertex-down : (j : ℕ) (u : MapVertex) → IsAt v.map.svertices j u → IsDirection (cross u.dir up) → (K : ℕ) → amount (forms v.map) (opposite up) ≤ K → IsFree v.map (blend K u.dir 1 (opposite up))
     svertex-down j u b aside K large = by (place_of v.map (blend K u.dir 1 (opposite up)) (direction-around v.map V u.dir (blend K u.dir 1 (opposite up)) keeps (V.svertex_dirs j u b)))
       where
         keeps : Keeps (forms v.map) u.dir (blend K u.dir 1 (opposite up))
@@ -62,7 +62,7 @@ module _ (s : Set) (C : Complex) (S : Shows s C) (upright : IsUpright C) (linked
             absurd (aside (along-up d (one d.y d.z (neg_ℤ up.y) (neg_ℤ up.z) z.0, one d.z d.x (neg_ℤ up.z) (neg_ℤ up.x) z.1, one d.x d.y (neg_ℤ up.x) (neg_ℤ up.y) z.2)))
 
   -- the link down
-  pub vertex-falls : (y : Place) (x x2 : VertexSide) → BesideVertex s C S upright linked y (opposite up) x → (R : RayDown C y x2) → ((r : Place) → IsBetween y r R.place → FlatDim s r 3 × InFrame r) → Chained (VolumeLink C) x x2
+  pub vertex-falls : (y : SpacePoint) (x x2 : VertexSide) → BesideVertex s C S upright linked y (opposite up) x → (R : RayDown C y x2) → ((r : SpacePoint) → IsBetween y r R.place → FlatDim s r 3 × InFrame r) → Chained (VolumeLink C) x x2
   vertex-falls y x x2 (i, v, a, e, T) R second = chain-one (VolumeLink C) x x2 (inr (inr (inr (inl (record {
     vertex = v;
     is_vertex = listed;
@@ -82,22 +82,22 @@ module _ (s : Set) (C : Complex) (S : Shows s C) (upright : IsUpright C) (linked
     };
   })))))
     where
-      listed : At C.vertices x.vertex v
-      listed = subst (λ (n : ℕ). At C.vertices n v) (sym T.seer.here) a
+      listed : IsAt C.vertices x.vertex v
+      listed = subst (λ (n : ℕ). IsAt C.vertices n v) (sym T.seer.here) a
 
       sees : Sees v.map x.side (opposite up)
       sees = subst (λ (d : Vector). Sees v.map x.side d) (no-way T.steps (opposite up)) T.seer.sees
 
-      moved : (r : Place) → IsBetween v.point r R.place → IsBetween y r R.place
+      moved : (r : SpacePoint) → IsBetween v.point r R.place → IsBetween y r R.place
       moved r m = between-same v.point r R.place y r R.place e (same-itself r) (same-itself R.place) m
 
       some : IsDirection (toward y R.place)
       some = direction-left (toward y R.place) (opposite up) R.ahead
 
       to-v : SameDirection (toward v.point R.place) (opposite up)
-      to-v = SameDirection-trans (toward v.point R.place) (toward y R.place) (opposite up) (SameDirection-turned (toward y R.place) (toward v.point R.place) (toward-same y v.point R.place (same-place_sym v.point y e) some)) R.ahead
+      to-v = SameDirection-trans (toward v.point R.place) (toward y R.place) (opposite up) (SameDirection-turned (toward y R.place) (toward v.point R.place) (toward-same y v.point R.place (same-point_sym v.point y e) some)) R.ahead
 
-      half : Place
+      half : SpacePoint
       half = near_point s v.point R.place
 
       amid : IsBetween v.point (near_point s v.point R.place) R.place
@@ -105,7 +105,7 @@ module _ (s : Set) (C : Complex) (S : Shows s C) (upright : IsUpright C) (linked
 
       even : IsEvenAfter s 3 v.point (near_point s v.point R.place)
       even r (inl m) = (second r (moved r (between-inner v.point (near_point s v.point R.place) R.place r amid m))).0
-      even r (inr f) = dim-same s (near_point s v.point R.place) r 3 (same-place_sym r (near_point s v.point R.place) f) (second (near_point s v.point R.place) (moved (near_point s v.point R.place) amid)).0
+      even r (inr f) = dim-same s (near_point s v.point R.place) r 3 (same-point_sym r (near_point s v.point R.place) f) (second (near_point s v.point R.place) (moved (near_point s v.point R.place) amid)).0
 
       to-half : SameDirection (toward v.point (near_point s v.point R.place)) (opposite up)
       to-half = SameDirection-trans (toward v.point (near_point s v.point R.place)) (toward v.point R.place) (opposite up) (between-way v.point (near_point s v.point R.place) R.place amid) to-v

@@ -1,5 +1,5 @@
 -- What touches an edge downward is linked with what the ray down from a point of the edge names: the points just below the edge lead to its lower end, and what falls from them is known, as are the claims at the lower end.
-use Rattle.nef_conn.proofs.Prelude.{◌≡◌, ℕ, ◌+◌, ◌<◌, ◌≤◌, ℤ, pos, ◌-ℤ◌, ◌*ℤ◌, ◌<ℤ◌, ◌≤ℤ◌, neg_ℤ, arith, refl, ap, sym, ◌∙◌, ◌⊎◌, inl, inr, ⊎_elim, List, ◌∷◌, subst, [], ints, nought, sign, Lies, each, lies-each, ring, at, num, ◌⊕◌, ◌⊖◌, ◌⊗◌, by_order, nought-is, sign-scaled, nought-or, Chained, Flat, FlatDim, IsVertex, IsEven, Place, Form, form_at, normal_of, slope, plane_through, SamePlace, InFrame, Within, toward, IsBetween, Set, Vector, blend, dot, cross, triple, opposite, IsDirection, SameDirection, up, sign_at, carriers, SameGerms, FlatDim-one, FlatDim-by_germs, germs-by_cell, between-turned, between-inner, ray-cell, keeps-all, is_nought, ahead, near-ahead, start, start-close, start-between, start-toward, even-germs, flat-nearby, flat-way, joined-germs, joined-turned, span-2, flat_dim-of, near-of_flat, Flat-from_cone, FlatCone-from_flat, steep, signs-same, same-place_sym, all-vertices, reach_all, slope-toward, place-toward, between-same, same-nought, forms, SameSigns, At, cross-self, amount, far-keeps, far-level, turn-last, turn-same, same-plus, same-minus, Vertex, Edge, Complex, HasEnds, Shows, VertexSide, RayDown, IsFlatIn, near_point, near-between, edge-points, through-at, through-slope, angle, turn_form, turn-at, angle-turned, angle-self, between-minus, through-level, plane-between, dim-same, plane-ahead, even-by, between-way, between-outer, between-start, same-itself, VolumeLink, IsUpright, IsEvenAfter, through-same, EdgeWays, edge-ways, free-dim, ahead-close, ahead-toward, dim-cell, tied-ray, tied-turned, AreLinkedWhereJoined, IsInTriangle, sliced, dot-zero, self-pos, cross-turned, triple-turned, SameDirection-turned, SameDirection-trans, dir-self, dir-signs, parallel-trans, dot-opposite, triple-in_plane, direction-left, direction-right, apart}
+use Rattle.nef_conn.proofs.Prelude.{◌≡◌, ℕ, ◌+◌, ◌<◌, ◌≤◌, ℤ, pos, ◌-ℤ◌, ◌*ℤ◌, ◌<ℤ◌, ◌≤ℤ◌, neg_ℤ, arith, refl, ap, sym, ◌∙◌, ◌⊎◌, inl, inr, ⊎_elim, List, ◌∷◌, subst, [], ints, nought, sign, Lies, each, lies-each, ring, at, num, ◌⊕◌, ◌⊖◌, ◌⊗◌, by_order, nought-is, sign-scaled, nought-or, Chained, Flat, FlatDim, IsVertex, IsEven, SpacePoint, Form, form_at, normal_of, slope, plane_through, SamePoint, InFrame, Within, toward, IsBetween, Set, Vector, blend, dot, cross, triple, opposite, IsDirection, SameDirection, up, sign_at, carriers, SameGerms, FlatDim-one, FlatDim-by_germs, germs-by_cell, between-turned, between-inner, ray-cell, keeps-all, is_nought, ahead, near-ahead, start, start-close, start-between, start-toward, even-germs, flat-nearby, flat-way, joined-germs, joined-turned, span-2, flat_dim-of, near-of_flat, Flat-from_cone, FlatCone-from_flat, steep, signs-same, same-point_sym, all-vertices, reach_all, slope-toward, point-toward, between-same, same-nought, forms, SameSigns, IsAt, cross-self, amount, far-keeps, far-level, turn-last, turn-same, same-plus, same-minus, Vertex, Edge, Complex, HasEnds, Shows, VertexSide, RayDown, IsFlatIn, near_point, near-between, edge-points, through-at, through-slope, angle, turn_form, turn-at, angle-turned, angle-self, between-minus, through-level, plane-between, dim-same, plane-ahead, even-by, between-way, between-outer, between-start, same-itself, VolumeLink, IsUpright, IsEvenAfter, through-same, EdgeWays, edge-ways, free-dim, ahead-close, ahead-toward, dim-cell, tied-ray, tied-turned, AreLinkedWhereJoined, IsInTriangle, sliced, dot-zero, self-pos, cross-turned, triple-turned, SameDirection-turned, SameDirection-trans, dir-self, dir-signs, parallel-trans, dot-opposite, triple-in_plane, direction-left, direction-right, apart}
 use Rattle.nef_conn.proofs.Chain.{chain-both}
 use Rattle.nef_conn.proofs.Claims.{Claim}
 use Rattle.nef_conn.proofs.Downs.{svertex-down, down-some}
@@ -16,17 +16,17 @@ use Rattle.nef_conn.proofs.SliceStrip.{lam, up_line, lam-at, lam-turned, down-tu
 use Rattle.nef_conn.proofs.Touch.{Seer, bound, Frame, Touch, edge-frame, vertex-frame, same-seers, touched, no-way}
 
 -- the plane along up through two points
-abbrev pub plane_of : Place → Place → Form
+abbrev pub plane_of : SpacePoint → SpacePoint → Form
 plane_of p q = plane_through (cross up (toward p q)) p
 
 -- ---- how flat a slice is at a point beside which it has just the plane's directions
 module _ (s : Set) (h : Form) (hn : IsDirection (normal_of h)) (level : slope h up ≡ pos 0) where
   -- what is flat at p is flat close to p, so it lies in the plane
-  in-plane : (p q : Place) → Within (reach_all (carriers (sliced s h)) p) p q → IsFlatIn (sliced s h) h q → (d : Vector) → Flat (sliced s h) p d → slope h d ≡ pos 0
+  in-plane : (p q : SpacePoint) → Within (reach_all (carriers (sliced s h)) p) p q → IsFlatIn (sliced s h) h q → (d : Vector) → Flat (sliced s h) p d → slope h d ≡ pos 0
   in-plane p q close F d f = (F.1 d).0 (Flat-from_cone (sliced s h) q d (flat-nearby (sliced s h) p q close d (FlatCone-from_flat (sliced s h) p d f)))
 
   -- a vertex of the set is one of the slice
-  pub vertex-slice : (v q : Place) → form_at h v ≡ pos 0 → FlatDim s v 0 → Within (reach_all (carriers (sliced s h)) v) v q → IsFlatIn (sliced s h) h q → FlatDim (sliced s h) v 0
+  pub vertex-slice : (v q : SpacePoint) → form_at h v ≡ pos 0 → FlatDim s v 0 → Within (reach_all (carriers (sliced s h)) v) v q → IsFlatIn (sliced s h) h q → FlatDim (sliced s h) v 0
   vertex-slice v q on-v vertex close F = (tt, λ g. none g.0 g.1 g.2)
     where
       none : (d : Vector) → IsDirection d → Flat (sliced s h) v d → ⊥
@@ -52,7 +52,7 @@ module _ (s : Set) (h : Form) (hn : IsDirection (normal_of h)) (level : slope h 
               (λ x. c.0 (b.1 (a.0 x)), λ x. a.1 (b.0 (c.1 x)))
 
   -- a point of an edge that lies in the plane, beside which all is free toward a direction of the plane, lies on an edge of the slice
-  pub edge-slice : (f : Vector) → IsDirection f → slope h f ≡ pos 0 → (r w : Place) → form_at h r ≡ pos 0 → form_at h w ≡ pos 0 → IsDirection (toward r w) → FlatDim s r 1 → ((u : Place) → IsBetween r u w → FlatDim s u 1) → FlatDim s (ahead (sliced s h) r f) 3 → InFrame (ahead (sliced s h) r f) → FlatDim (sliced s h) r 1
+  pub edge-slice : (f : Vector) → IsDirection f → slope h f ≡ pos 0 → (r w : SpacePoint) → form_at h r ≡ pos 0 → form_at h w ≡ pos 0 → IsDirection (toward r w) → FlatDim s r 1 → ((u : SpacePoint) → IsBetween r u w → FlatDim s u 1) → FlatDim s (ahead (sliced s h) r f) 3 → InFrame (ahead (sliced s h) r f) → FlatDim (sliced s h) r 1
   edge-slice f f-some level-down r w on-r on-w i one all free inside = ((toward r (near_point (sliced s h) r w), direction-q, flat-q), λ g. two g.0 g.1 g.2 g.3 g.4)
     where
       to-below : SameDirection (toward r (ahead (sliced s h) r f)) f
@@ -100,7 +100,7 @@ ways-toward gs d e f g k l w alike h i p m = ⊎_elim
     (λ n. far-keeps gs e g l i p m (λ z. n (same-nought (dot p e) (dot p d) (sym (dir-signs d e p (direction-left d e w) w)) z)) ∙ dir-signs d e p (direction-left d e w) w ∙ sym (far-keeps gs d f k h p m n))
     (nought-or (dot p d))
 
-module _ (s : Set) (C : Complex) (S : Shows s C) (upright : IsUpright C) (linked : AreLinkedWhereJoined s C) (k : ℕ) (e : Edge) (v w : Vertex) (a : At C.edges k e) (H : HasEnds C e v w) (aside : IsDirection (cross (edge-ways s C S k e v w a H).low.dir up)) where
+module _ (s : Set) (C : Complex) (S : Shows s C) (upright : IsUpright C) (linked : AreLinkedWhereJoined s C) (k : ℕ) (e : Edge) (v w : Vertex) (a : IsAt C.edges k e) (H : HasEnds C e v w) (aside : IsDirection (cross (edge-ways s C S k e v w a H).low.dir up)) where
   abbrev W : EdgeWays e v w
   W = edge-ways s C S k e v w a H
 
@@ -126,7 +126,7 @@ module _ (s : Set) (C : Complex) (S : Shows s C) (upright : IsUpright C) (linked
   level = (through-level m up v.point).0 (cross-self up D)
 
   on-v : form_at h v.point ≡ pos 0
-  on-v = through-at m v.point v.point ∙ dot-zero m (toward v.point v.point) (place-toward v.point v.point (same-itself v.point))
+  on-v = through-at m v.point v.point ∙ dot-zero m (toward v.point v.point) (point-toward v.point v.point (same-itself v.point))
 
   on-w : form_at h w.point ≡ pos 0
   on-w = through-at m v.point w.point ∙ ring (up.x ∷ up.y ∷ up.z ∷ D.x ∷ D.y ∷ D.z ∷ []) ((at 1 ⊗ at 5 ⊖ at 2 ⊗ at 4) ⊗ at 3 ⊕ (at 2 ⊗ at 3 ⊖ at 0 ⊗ at 5) ⊗ at 4 ⊕ (at 0 ⊗ at 4 ⊖ at 1 ⊗ at 3) ⊗ at 5) (num (pos 0)) tt
@@ -134,14 +134,14 @@ module _ (s : Set) (C : Complex) (S : Shows s C) (upright : IsUpright C) (linked
   abbrev t : Set
   t = sliced s h
 
-  abbrev E : List Place
+  abbrev E : List SpacePoint
   E = (all-vertices (sliced s h)).0
 
-  edge-dim : (r : Place) → IsBetween v.point r w.point → FlatDim s r 1
+  edge-dim : (r : SpacePoint) → IsBetween v.point r w.point → FlatDim s r 1
   edge-dim r c = (edge-points s C k e v w r S a H c).0
 
   -- below each point of the edge all is free
-  free-below : (r : Place) → IsBetween v.point r w.point → FlatDim s (ahead s r (opposite up)) 3
+  free-below : (r : SpacePoint) → IsBetween v.point r w.point → FlatDim s (ahead s r (opposite up)) 3
   free-below r c =
       let F = edge-frame s C S k e v w r a H c in
       let K = amount (forms v.map) (opposite up) + steep (carriers s) (opposite up) in
@@ -149,7 +149,7 @@ module _ (s : Set) (C : Complex) (S : Shows s C) (upright : IsUpright C) (linked
       (free-dim v.map s v.point (S.cones e.low v H.low) (blend K W.low.dir 1 (opposite up)) (svertex-down s C S upright linked e.low v H.low e.low_svertex W.low W.is_low aside K (omega arith)))
 
   -- in the frame or not all along it
-  inside-along : (p r : Place) → IsBetween v.point p w.point → IsBetween v.point r w.point → InFrame (ahead s p (opposite up)) → InFrame (ahead s r (opposite up))
+  inside-along : (p r : SpacePoint) → IsBetween v.point p w.point → IsBetween v.point r w.point → InFrame (ahead s p (opposite up)) → InFrame (ahead s r (opposite up))
   inside-along p r c d i =
       let F = edge-frame s C S k e v w p a H c in
       let G = edge-frame s C S k e v w r a H d in
@@ -158,16 +158,16 @@ module _ (s : Set) (C : Complex) (S : Shows s C) (upright : IsUpright C) (linked
       germs-inside s u (ahead s r (opposite up)) (joined-germs s u (ahead s r (opposite up)) (joined-turned s (ahead s r (opposite up)) u (G.tied (opposite up) K (omega arith)).0))
       (germs-inside s (ahead s p (opposite up)) u (joined-germs s (ahead s p (opposite up)) u (F.tied (opposite up) K (omega arith)).0) i)
 
-  slice-edge : (p r : Place) → IsBetween v.point p w.point → IsBetween v.point r w.point → InFrame (ahead s p (opposite up)) → FlatDim (sliced s h) r 1
+  slice-edge : (p r : SpacePoint) → IsBetween v.point p w.point → IsBetween v.point r w.point → InFrame (ahead s p (opposite up)) → FlatDim (sliced s h) r 1
   slice-edge p r c d i =
       let same = sliced-ahead s h r (opposite up) in
       edge-slice s h hn level (opposite up) down-some (let f = dot-opposite n up in let l = level in omega (arith, ints)) r w.point (plane-between h v.point r w.point d on-v on-w) on-w (direction-right (toward v.point r) (toward r w.point) d) (edge-dim r d) (λ u g. edge-dim u (between-outer v.point r u w.point d g))
       (dim-cell s (ahead s r (opposite up)) (ahead (sliced s h) r (opposite up)) 3 (λ f l. sym (same f l)) (free-below r d))
       (germs-inside s (ahead s r (opposite up)) (ahead (sliced s h) r (opposite up)) (germs-by_cell s (ahead s r (opposite up)) (ahead (sliced s h) r (opposite up)) (λ f l. sym (same f l))) (inside-along p r c d i))
 
-  module _ (y : Place) (b : IsBetween v.point y w.point) (x x2 : VertexSide) (T : Touch s C y (edge-frame s C S k e v w y a H b) x (opposite up)) (R : RayDown C y x2) (second : (r : Place) → IsBetween y r R.place → FlatDim s r 3 × InFrame r)
+  module _ (y : SpacePoint) (b : IsBetween v.point y w.point) (x x2 : VertexSide) (T : Touch s C y (edge-frame s C S k e v w y a H b) x (opposite up)) (R : RayDown C y x2) (second : (r : SpacePoint) → IsBetween y r R.place → FlatDim s r 3 × InFrame r)
       (claim : FlatDim (sliced s (plane_of v.point w.point)) v.point 0 → Claim s C S upright linked (plane_of v.point w.point) hn level v.point)
-      (names : (p q : Place) (z z' : VertexSide) → form_at (plane_of v.point w.point) p ≡ pos 0 → form_at (plane_of v.point w.point) q ≡ pos 0 → InFrame p → IsEven s 3 p q → IsBetween v.point p q → SameDirection (toward y q) (opposite up) → RayDown C p z → RayDown C q z' → Chained (VolumeLink C) z z') where
+      (names : (p q : SpacePoint) (z z' : VertexSide) → form_at (plane_of v.point w.point) p ≡ pos 0 → form_at (plane_of v.point w.point) q ≡ pos 0 → InFrame p → IsEven s 3 p q → IsBetween v.point p q → SameDirection (toward y q) (opposite up) → RayDown C p z → RayDown C q z' → Chained (VolumeLink C) z z') where
     on-y : form_at h y ≡ pos 0
     on-y = plane-between h v.point y w.point b on-v on-w
 
@@ -185,7 +185,7 @@ module _ (s : Set) (C : Complex) (S : Shows s C) (upright : IsUpright C) (linked
     abbrev hs : List Form
     hs = each (λ q. turn_form n v.point q) E
 
-    abbrev r0 : Place
+    abbrev r0 : SpacePoint
     r0 = start (reach_all hs y) y R.place
 
     amid : IsBetween y r0 R.place
@@ -195,14 +195,14 @@ module _ (s : Set) (C : Complex) (S : Shows s C) (upright : IsUpright C) (linked
     to-r0 = SameDirection-trans (toward y r0) (toward y R.place) (opposite up) (between-way y r0 R.place amid) R.ahead
 
     -- a point of the way to r0
-    abbrev Part : Place → Type 0
-    Part u = IsBetween y u r0 ⊎ SamePlace u r0
+    abbrev Part : SpacePoint → Type 0
+    Part u = IsBetween y u r0 ⊎ SamePoint u r0
 
-    part-down : (u : Place) → Part u → IsBetween y u R.place
+    part-down : (u : SpacePoint) → Part u → IsBetween y u R.place
     part-down u (inl c) = between-inner y r0 R.place u amid c
-    part-down u (inr f) = between-same y r0 R.place y u R.place (same-itself y) (same-place_sym u r0 f) (same-itself R.place) amid
+    part-down u (inr f) = between-same y r0 R.place y u R.place (same-itself y) (same-point_sym u r0 f) (same-itself R.place) amid
 
-    part-signs : (u : Place) → Part u → (q : Place) → Lies E q → (sign_at (turn_form n v.point q) y ≡ nought → ⊥) → sign_at (turn_form n v.point q) u ≡ sign_at (turn_form n v.point q) y
+    part-signs : (u : SpacePoint) → Part u → (q : SpacePoint) → Lies E q → (sign_at (turn_form n v.point q) y ≡ nought → ⊥) → sign_at (turn_form n v.point q) u ≡ sign_at (turn_form n v.point q) y
     part-signs u o q l off =
         let f = turn_form n v.point q in
         let i = lies-each (λ q. turn_form n v.point q) E q l in
@@ -211,7 +211,7 @@ module _ (s : Set) (C : Complex) (S : Shows s C) (upright : IsUpright C) (linked
         ⊎_elim (λ g. sym (ray-cell hs y r0 u close g f i) ∙ c) (λ g. signs-same hs u r0 g f i ∙ c) o
 
     -- ---- the ways from v to the points below y
-    module _ (u : Place) (o : Part u) where
+    module _ (u : SpacePoint) (o : Part u) where
       down-u : SameDirection (toward y u) (opposite up)
       down-u = SameDirection-trans (toward y u) (toward y R.place) (opposite up) (between-way y u R.place (part-down u o)) R.ahead
 
@@ -227,7 +227,7 @@ module _ (s : Set) (C : Complex) (S : Shows s C) (upright : IsUpright C) (linked
       F : IsFlatIn (sliced s h) h u
       F = two-of s h hn u on-u three-u inside-u
 
-      near-y : (r : Place) → IsBetween y r u → FlatDim (sliced s h) r 2
+      near-y : (r : SpacePoint) → IsBetween y r u → FlatDim (sliced s h) r 2
       near-y r c = let d = between-inner y u R.place r (part-down u o) c in let f = second r d in let g = two-of s h hn r (plane-between h y r u c on-y on-u) f.0 f.1 in g.0
 
       -- below y all is in the frame
@@ -236,9 +236,9 @@ module _ (s : Set) (C : Complex) (S : Shows s C) (upright : IsUpright C) (linked
         where
           even : IsEvenAfter s 3 y u
           even r (inl c) = (second r (between-inner y u R.place r (part-down u o) c)).0
-          even r (inr f) = dim-same s u r 3 (same-place_sym r u f) three-u
+          even r (inr f) = dim-same s u r 3 (same-point_sym r u f) three-u
 
-      edge-y : (r : Place) → IsBetween y r v.point → FlatDim (sliced s h) r 1
+      edge-y : (r : SpacePoint) → IsBetween y r v.point → FlatDim (sliced s h) r 1
       edge-y r c = slice-edge y r b (between-inner v.point y w.point r b (between-turned y v.point r c)) inside-y
 
       one-y : FlatDim (sliced s h) y 1
@@ -256,7 +256,7 @@ module _ (s : Set) (C : Complex) (S : Shows s C) (upright : IsUpright C) (linked
       to-v : IsDirection (toward y v.point)
       to-v z = let f = lam-zero n y v.point z in let l = behind in omega (arith, ints)
 
-      corner : (p : Place) → IsBetween u p v.point → ((r : Place) → IsBetween p r y → FlatDim (sliced s h) r 1) → ⊥
+      corner : (p : SpacePoint) → IsBetween u p v.point → ((r : SpacePoint) → IsBetween p r y → FlatDim (sliced s h) r 1) → ⊥
       corner p c edge =
           let z = corner-edge (sliced s h) y p off edge v.point one-y to-v edge-y in
           let f = turn-at n y v.point p ∙ dot-zero n (cross (toward y v.point) (toward y p)) z in
@@ -267,17 +267,17 @@ module _ (s : Set) (C : Complex) (S : Shows s C) (upright : IsUpright C) (linked
           let q = between-minus (turn_form n y v.point) v.point p u (between-turned u v.point p c) g (omega (arith, ints)) in
           omega (arith, ints)
         where
-          off : SamePlace y p → ⊥
+          off : SamePoint y p → ⊥
           off f =
               let g = between-minus (up_line n y) u p v.point c (lam-at n y u ∙ lam-down n y u down-u) (let i = lam-at n y v.point in let l = behind in omega (arith, ints)) in
               let i = lam-at n y p in
-              let z = lam-zero n y p (place-toward y p f) in
+              let z = lam-zero n y p (point-toward y p f) in
               omega (arith, ints)
 
-      none-in : (r : Place) → IsVertex (sliced s h) r → form_at h r ≡ pos 0 → IsInTriangle n y u v.point r → (SamePlace y r → ⊥) → ⊥
+      none-in : (r : SpacePoint) → IsVertex (sliced s h) r → form_at h r ≡ pos 0 → IsInTriangle n y u v.point r → (SamePoint y r → ⊥) → ⊥
       none-in r vertex on (p, q, g) apart = by (is_nought (sign_at (turn_form n v.point A.0) y))
         where
-          A : (q : Place) × Lies (all-vertices (sliced s h)).0 q × SamePlace q r
+          A : (q : SpacePoint) × Lies (all-vertices (sliced s h)).0 q × SamePoint q r
           A = (all-vertices (sliced s h)).2 r vertex
 
           -- seen from v, y lies to the one side of r, and u to the other
@@ -301,10 +301,10 @@ module _ (s : Set) (C : Complex) (S : Shows s C) (upright : IsUpright C) (linked
                   omega (arith, ints)
 
           -- as forms through the listed vertex
-          value : (p : Place) → form_at (turn_form n v.point A.0) p ≡ neg_ℤ (angle n v.point p A.0)
+          value : (p : SpacePoint) → form_at (turn_form n v.point A.0) p ≡ neg_ℤ (angle n v.point p A.0)
           value p = let f = turn-at n v.point A.0 p in let c = angle-turned n v.point A.0 p in omega (arith, ints)
 
-          moved : (p : Place) → sign (angle n v.point p A.0) ≡ sign (angle n v.point p r)
+          moved : (p : SpacePoint) → sign (angle n v.point p A.0) ≡ sign (angle n v.point p r)
           moved p = ap sign (sym (turn-at n v.point p A.0)) ∙ signs-same (turn_form n v.point p ∷ []) A.0 r A.2 (turn_form n v.point p) (inl refl) ∙ ap sign (turn-at n v.point p r)
 
           at-y : form_at (turn_form n v.point A.0) y ≤ℤ pos 0
@@ -378,10 +378,10 @@ module _ (s : Set) (C : Complex) (S : Shows s C) (upright : IsUpright C) (linked
               (λ d. omega (arith, ints))
 
       -- so the way from v to u is free
-      pub way-two : (r : Place) → IsBetween u r v.point → FlatDim (sliced s h) r 2
+      pub way-two : (r : SpacePoint) → IsBetween u r v.point → FlatDim (sliced s h) r 2
       way-two = third-side (sliced s h) h hn y u v.point on-y on-u on-v turn near-y (inr edge-y) F (never-passes (sliced s h) y u v.point corner) none-in
 
-      pub way-three : (r : Place) → IsBetween v.point r u → FlatDim s r 3
+      pub way-three : (r : SpacePoint) → IsBetween v.point r u → FlatDim s r 3
       way-three r c =
           let d = between-turned v.point u r c in
           three-of s h hn 2 u r on-u (plane-between h v.point r u c on-v on-u) (even-by (sliced s h) 2 u r F.0 (λ p i. way-two p (between-inner u r v.point p d i)) (way-two r d)) three-u
@@ -393,27 +393,27 @@ module _ (s : Set) (C : Complex) (S : Shows s C) (upright : IsUpright C) (linked
     abbrev d : Vector
     d = toward v.point r0
 
-    side-u : (u : Place) → Part u → pos 0 <ℤ lam n v.point u
+    side-u : (u : SpacePoint) → Part u → pos 0 <ℤ lam n v.point u
     side-u u o = slope-to n v.point y u side (lam-down n y u (SameDirection-trans (toward y u) (toward y R.place) (opposite up) (between-way y u R.place (part-down u o)) R.ahead))
 
-    way-some : (u : Place) → Part u → IsDirection (toward v.point u)
+    way-some : (u : SpacePoint) → Part u → IsDirection (toward v.point u)
     way-some u o z = let f = lam-zero n v.point u z in let l = side-u u o in omega (arith, ints)
 
-    free-to : (u : Place) (o : Part u) → FlatDim s (ahead s v.point (toward v.point u)) 3
+    free-to : (u : SpacePoint) (o : Part u) → FlatDim s (ahead s v.point (toward v.point u)) 3
     free-to u o = tied-dim s u (ahead s v.point (toward v.point u)) 3 (tied-ray s 3 v.point u (toward v.point u) (dir-self (toward v.point u) (way-some u o)) even) (three-u u o)
       where
         even : IsEvenAfter s 3 v.point u
         even r (inl c) = way-three u o r c
-        even r (inr f) = dim-same s u r 3 (same-place_sym r u f) (three-u u o)
+        even r (inr f) = dim-same s u r 3 (same-point_sym r u f) (three-u u o)
 
     -- a point of the way from v to r0
-    germs-way : (r : Place) → IsBetween v.point r r0 → SameGerms s r0 r
+    germs-way : (r : SpacePoint) → IsBetween v.point r r0 → SameGerms s r0 r
     germs-way r c = even-germs s 3 r0 r (even-by s 3 r0 r (three-u r0 at-r0) (λ p i. way-three r0 at-r0 p (between-turned r0 v.point p (between-inner r0 r v.point p (between-turned v.point r0 r c) i))) (way-three r0 at-r0 r c))
 
-    on-way : (r : Place) → IsBetween v.point r r0 → form_at h r ≡ pos 0
+    on-way : (r : SpacePoint) → IsBetween v.point r r0 → form_at h r ≡ pos 0
     on-way r c = plane-between h v.point r r0 c on-v (on-u r0 at-r0)
 
-    inside-way : (r : Place) → IsBetween v.point r r0 → InFrame r
+    inside-way : (r : SpacePoint) → IsBetween v.point r r0 → InFrame r
     inside-way r c = germs-inside s r0 r (germs-way r c) (inside-u r0 at-r0)
 
     vertex-v : FlatDim (sliced s h) v.point 0
@@ -430,7 +430,7 @@ module _ (s : Set) (C : Complex) (S : Shows s C) (upright : IsUpright C) (linked
     K-some : 0 < bound s v (toward v.point r0) + 1
     K-some = omega arith
 
-    abbrev r' : Place
+    abbrev r' : SpacePoint
     r' = mixed (bound s v (toward v.point r0) + 1) y 1 r0 K-some
 
     amid-r' : IsBetween y r' r0
@@ -484,7 +484,7 @@ module _ (s : Set) (C : Complex) (S : Shows s C) (upright : IsUpright C) (linked
     abbrev hs' : List Form
     hs' = each (λ q. up_line n q) E
 
-    abbrev b1 : Place
+    abbrev b1 : SpacePoint
     b1 = start (reach_all hs' v.point) v.point r0
 
     amid1 : IsBetween v.point b1 r0

@@ -1,18 +1,18 @@
 -- The strip between two lines along d in the plane of h: on y's line lie vertices, between it and z's line and on z's line none. g is h or its opposite, so that z lies to the right of y's line.
-use Rattle.nef_conn.proofs.Prelude.{◌≡◌, ℕ, ◌+◌, ℤ, pos, ◌+ℤ◌, ◌-ℤ◌, ◌*ℤ◌, ◌<ℤ◌, ◌≤ℤ◌, arith, refl, ap, sym, ◌∙◌, ◌⊎◌, inl, inr, ⊎_elim, ◌∷◌, subst, [], ints, sign, ring, at, num, ◌⊕◌, ◌⊖◌, ◌⊗◌, Poly, mul_pos, mul_nonneg, cancel_le, by_order, sign-scaled, nought-is, nonneg-of, minus-of, plus-of, mul_neg, Flat, FlatDim, IsVertex, Place, Form, form_at, normal_of, slope, plane_through, SamePlace, toward, IsBetween, Set, Vector, opposite, dot, cross, triple, IsZero, IsDirection, IsNormal, SameDirection, FlatDim-one, between-turned, signs-same, same-place_sym, slope-toward, toward-place, place-toward, between-same, At, same-plus, same-minus, Beside, same_way, other_way, beside, turn-last, turn-same, turns, Vertex, Complex, Shows, IsVertexPoint, IsFlatIn, same-itself, same-place_trans, dim-same, plane-way, same-by, aligned, through-at, through-slope, angle, turn_form, turn-at, angle-turned, angle-self, angle-start, angle-inside, between-plus, between-minus, angle-cyclic, HalfEdge, plane-between, below-or, weight, toward-turned, IsInTriangle, LiesAlong, zero-decided, dot-zero, triple-dot, level-opposite-back, triple-middle, triple-turned, SameDirection-turned, SameDirection-trans, dir-self, parallel-in_plane, opposite-same, dot-opposite, opposite-way, opposite-twice, direction-right, right-turn}
+use Rattle.nef_conn.proofs.Prelude.{◌≡◌, ℕ, ◌+◌, ℤ, pos, ◌+ℤ◌, ◌-ℤ◌, ◌*ℤ◌, ◌<ℤ◌, ◌≤ℤ◌, arith, refl, ap, sym, ◌∙◌, ◌⊎◌, inl, inr, ⊎_elim, ◌∷◌, subst, [], ints, sign, ring, at, num, ◌⊕◌, ◌⊖◌, ◌⊗◌, Poly, mul_pos, mul_nonneg, cancel_le, by_order, sign-scaled, nought-is, nonneg-of, minus-of, plus-of, mul_neg, Flat, FlatDim, IsVertex, SpacePoint, Form, form_at, normal_of, slope, plane_through, SamePoint, toward, IsBetween, Set, Vector, opposite, dot, cross, triple, IsZero, IsDirection, IsNormal, SameDirection, FlatDim-one, between-turned, signs-same, same-point_sym, slope-toward, toward-point, point-toward, between-same, IsAt, same-plus, same-minus, Beside, same_way, other_way, beside, turn-last, turn-same, turns, Vertex, Complex, Shows, IsVertexPoint, IsFlatIn, same-itself, same-point_trans, dim-same, plane-way, same-by, aligned, through-at, through-slope, angle, turn_form, turn-at, angle-turned, angle-self, angle-start, angle-inside, between-plus, between-minus, angle-cyclic, HalfEdge, plane-between, below-or, weight, toward-turned, IsInTriangle, LiesAlong, zero-decided, dot-zero, triple-dot, level-opposite-back, triple-middle, triple-turned, SameDirection-turned, SameDirection-trans, dir-self, parallel-in_plane, opposite-same, dot-opposite, opposite-way, opposite-twice, direction-right, right-turn}
 use Rattle.nef_conn.proofs.Onward.{level-kept}
 use Rattle.nef_conn.proofs.Sweep.{minus-any, cut-of}
 use Rattle.nef_conn.proofs.Triangles.{half-to, never-along, third-side, at-corner, on-second}
 use Rattle.nef_conn.proofs.Sector.{Seen, seen-level}
 
 -- from a to c, both left out, the points lie within a facet, a itself being on no edge, or on an edge: on that of a, or a is on none
-abbrev pub SideWithin : Set → Place → Place → Type 0
-SideWithin s a c = (((FlatDim s a 1 → ⊥) × ((r : Place) → IsBetween a r c → FlatDim s r 2)) ⊎ (FlatDim s a 1 × Flat s a (toward a c) × ((r : Place) → IsBetween a r c → FlatDim s r 1)))
-    ⊎ ((FlatDim s a 1 → ⊥) × ((r : Place) → IsBetween a r c → FlatDim s r 1 × Flat s r (toward a c)))
+abbrev pub SideWithin : Set → SpacePoint → SpacePoint → Type 0
+SideWithin s a c = (((FlatDim s a 1 → ⊥) × ((r : SpacePoint) → IsBetween a r c → FlatDim s r 2)) ⊎ (FlatDim s a 1 × Flat s a (toward a c) × ((r : SpacePoint) → IsBetween a r c → FlatDim s r 1)))
+    ⊎ ((FlatDim s a 1 → ⊥) × ((r : SpacePoint) → IsBetween a r c → FlatDim s r 1 × Flat s r (toward a c)))
 
 -- ---- forms with one normal
 -- on its plane, a form has the sign of the slope from there
-sign-through : (k : Vector) (b p q : Place) → form_at (plane_through k b) p ≡ pos 0 → sign (dot k (toward p q)) ≡ sign (form_at (plane_through k b) q)
+sign-through : (k : Vector) (b p q : SpacePoint) → form_at (plane_through k b) p ≡ pos 0 → sign (dot k (toward p q)) ≡ sign (form_at (plane_through k b) q)
 sign-through k b p q e =
     let F = plane_through k b in
     sym (sign-scaled (pos b.w) (dot k (toward p q)) (weight b)) ∙ ap sign (sym (through-slope k b (toward p q)) ∙ slope-toward F p q ∙ plain (form_at F p) (form_at F q) e) ∙ sign-scaled (pos p.w) (form_at F q) (weight p)
@@ -28,28 +28,28 @@ abbrev turn-p : ℕ → ℕ → ℕ → Poly
 turn-p y p q = at 0 ⊗ (way y p 1 ⊗ way y q 2 ⊖ way y p 2 ⊗ way y q 1) ⊕ at 1 ⊗ (way y p 2 ⊗ way y q 0 ⊖ way y p 0 ⊗ way y q 2) ⊕ at 2 ⊗ (way y p 0 ⊗ way y q 1 ⊖ way y p 1 ⊗ way y q 0)
 
 -- from y over z
-shift : (k : Vector) (y z q : Place) → pos z.w *ℤ dot k (toward y q) ≡ pos y.w *ℤ dot k (toward z q) +ℤ pos q.w *ℤ dot k (toward y z)
+shift : (k : Vector) (y z q : SpacePoint) → pos z.w *ℤ dot k (toward y q) ≡ pos y.w *ℤ dot k (toward z q) +ℤ pos q.w *ℤ dot k (toward y z)
 shift k y z q = ring (k.x ∷ k.y ∷ k.z ∷ y.x ∷ y.y ∷ y.z ∷ pos y.w ∷ z.x ∷ z.y ∷ z.z ∷ pos z.w ∷ q.x ∷ q.y ∷ q.z ∷ pos q.w ∷ [])
     (at 10 ⊗ (at 0 ⊗ way 3 11 0 ⊕ at 1 ⊗ way 3 11 1 ⊕ at 2 ⊗ way 3 11 2))
     (at 6 ⊗ (at 0 ⊗ way 7 11 0 ⊕ at 1 ⊗ way 7 11 1 ⊕ at 2 ⊗ way 7 11 2) ⊕ at 14 ⊗ (at 0 ⊗ way 3 7 0 ⊕ at 1 ⊗ way 3 7 1 ⊕ at 2 ⊗ way 3 7 2)) tt
 
 -- a form is nought at equal points
-level-same_place : (F : Form) (p q : Place) → SamePlace p q → form_at F p ≡ pos 0 → form_at F q ≡ pos 0
-level-same_place F p q e z = nought-is (form_at F q) (sym (signs-same (F ∷ []) p q e F (inl refl)) ∙ ap sign z)
+level-same_point : (F : Form) (p q : SpacePoint) → SamePoint p q → form_at F p ≡ pos 0 → form_at F q ≡ pos 0
+level-same_point F p q e z = nought-is (form_at F q) (sym (signs-same (F ∷ []) p q e F (inl refl)) ∙ ap sign z)
 
-plus-same_place : (F : Form) (p q : Place) → SamePlace p q → pos 0 <ℤ form_at F p → pos 0 <ℤ form_at F q
-plus-same_place F p q e h = same-plus (form_at F p) (form_at F q) (sym (signs-same (F ∷ []) p q e F (inl refl))) h
+plus-same_point : (F : Form) (p q : SpacePoint) → SamePoint p q → pos 0 <ℤ form_at F p → pos 0 <ℤ form_at F q
+plus-same_point F p q e h = same-plus (form_at F p) (form_at F q) (sym (signs-same (F ∷ []) p q e F (inl refl))) h
 
-no-minus : (F : Form) (p q : Place) → SamePlace p q → pos 0 ≤ℤ form_at F p → pos 0 ≤ℤ form_at F q
-no-minus F p q e h = by_order (form_at F p) (pos 0) (λ l. omega (arith, ints)) (λ z. let w = level-same_place F p q e z in omega (arith, ints)) (λ l. let w = plus-same_place F p q e l in omega (arith, ints))
+no-minus : (F : Form) (p q : SpacePoint) → SamePoint p q → pos 0 ≤ℤ form_at F p → pos 0 ≤ℤ form_at F q
+no-minus F p q e h = by_order (form_at F p) (pos 0) (λ l. omega (arith, ints)) (λ z. let w = level-same_point F p q e z in omega (arith, ints)) (λ l. let w = plus-same_point F p q e l in omega (arith, ints))
 
-no-plus : (F : Form) (p q : Place) → SamePlace p q → form_at F p ≤ℤ pos 0 → form_at F q ≤ℤ pos 0
-no-plus F p q e h = by_order (form_at F q) (pos 0) (λ l. omega (arith, ints)) (λ z. omega (arith, ints)) (λ l. let w = plus-same_place F q p (same-place_sym p q e) l in omega (arith, ints))
+no-plus : (F : Form) (p q : SpacePoint) → SamePoint p q → form_at F p ≤ℤ pos 0 → form_at F q ≤ℤ pos 0
+no-plus F p q e h = by_order (form_at F q) (pos 0) (λ l. omega (arith, ints)) (λ z. omega (arith, ints)) (λ l. let w = plus-same_point F q p (same-point_sym p q e) l in omega (arith, ints))
 
 -- an edge that ends at an equal point
-half-same : (s : Set) (t x y : Place) → SamePlace x y → HalfEdge s t x → HalfEdge s t y
-half-same s t x y e E = half-to s t y (λ z. E.leads (place-toward t x (same-place_trans t y x (toward-place t y z) (same-place_sym x y e)))) E.one
-    (λ r m. E.all r (between-same t r y t r x (same-itself t) (same-itself r) (same-place_sym x y e) m))
+half-same : (s : Set) (t x y : SpacePoint) → SamePoint x y → HalfEdge s t x → HalfEdge s t y
+half-same s t x y e E = half-to s t y (λ z. E.leads (point-toward t x (same-point_trans t y x (toward-point t y z) (same-point_sym x y e)))) E.one
+    (λ r m. E.all r (between-same t r y t r x (same-itself t) (same-itself r) (same-point_sym x y e) m))
 
 -- ---- in plain numbers, so that no tactic sees what a triple is made of
 first-plain : (ac vd av cd ad cv : ℤ) → ac *ℤ vd ≡ av *ℤ cd -ℤ ad *ℤ cv → pos 0 <ℤ ac → pos 0 ≤ℤ av → pos 0 ≤ℤ cd → pos 0 <ℤ ad → cv ≤ℤ pos 0 → pos 0 ≤ℤ vd
@@ -82,19 +82,19 @@ shift-plain zw yw qw a b c e h i j k l =
     plus-of zw a h (omega (arith, ints))
 
 -- ---- the strip
-pub record Strip (s : Set) (C : Complex) (h g : Form) (d : Vector) (y z : Place) : Type 0 where
+pub record Strip (s : Set) (C : Complex) (h g : Form) (d : Vector) (y z : SpacePoint) : Type 0 where
   pub normal : IsNormal (normal_of h)
   pub seen : Seen (normal_of h) (normal_of g)
-  pub too : (p : Place) → form_at h p ≡ pos 0 → form_at g p ≡ pos 0
-  pub back : (p : Place) → form_at g p ≡ pos 0 → form_at h p ≡ pos 0
+  pub too : (p : SpacePoint) → form_at h p ≡ pos 0 → form_at g p ≡ pos 0
+  pub back : (p : SpacePoint) → form_at g p ≡ pos 0 → form_at h p ≡ pos 0
   pub some : IsDirection d
   pub level : slope h d ≡ pos 0
   pub on_z : form_at h z ≡ pos 0
   pub flat : IsFlatIn s h z
   pub right : pos 0 <ℤ triple (normal_of g) (toward y z) d
-  pub clear : (i : ℕ) (u : Vertex) → At C.vertices i u → form_at h u.point ≡ pos 0 → pos 0 <ℤ triple (normal_of g) (toward y u.point) d → pos 0 <ℤ triple (normal_of g) (toward z u.point) d
+  pub clear : (i : ℕ) (u : Vertex) → IsAt C.vertices i u → form_at h u.point ≡ pos 0 → pos 0 <ℤ triple (normal_of g) (toward y u.point) d → pos 0 <ℤ triple (normal_of g) (toward z u.point) d
 
-module _ (s : Set) (C : Complex) (S : Shows s C) (h g : Form) (d : Vector) (y z : Place) (T : Strip s C h g d y z) where
+module _ (s : Set) (C : Complex) (S : Shows s C) (h g : Form) (d : Vector) (y z : SpacePoint) (T : Strip s C h g d y z) where
   abbrev m : Vector
   m = normal_of g
 
@@ -132,55 +132,55 @@ module _ (s : Set) (C : Complex) (S : Shows s C) (h g : Form) (d : Vector) (y z 
   pub turn-k : (v : Vector) → triple m v d ≡ dot k v
   turn-k v = triple-middle m v d
 
-  near-at : (q : Place) → form_at Near_line q ≡ triple m (toward y q) d
+  near-at : (q : SpacePoint) → form_at Near_line q ≡ triple m (toward y q) d
   near-at q = through-at k y q ∙ sym (turn-k (toward y q))
 
-  far-at : (q : Place) → form_at Far_line q ≡ triple m (toward z q) d
+  far-at : (q : SpacePoint) → form_at Far_line q ≡ triple m (toward z q) d
   far-at q = through-at k z q ∙ sym (turn-k (toward z q))
 
   near-z : pos 0 <ℤ form_at Near_line z
   near-z = subst (λ (r : ℤ). pos 0 <ℤ r) (sym (near-at z)) T.right
 
   far-z : form_at Far_line z ≡ pos 0
-  far-z = through-at k z z ∙ dot-zero k (toward z z) (place-toward z z (same-itself z))
+  far-z = through-at k z z ∙ dot-zero k (toward z z) (point-toward z z (same-itself z))
 
-  pub strip : (i : ℕ) (u : Vertex) → At C.vertices i u → form_at h u.point ≡ pos 0 → pos 0 <ℤ form_at Near_line u.point → pos 0 <ℤ form_at Far_line u.point
+  pub strip : (i : ℕ) (u : Vertex) → IsAt C.vertices i u → form_at h u.point ≡ pos 0 → pos 0 <ℤ form_at Near_line u.point → pos 0 <ℤ form_at Far_line u.point
   strip i u a on l = subst (λ (r : ℤ). pos 0 <ℤ r) (sym (far-at u.point)) (T.clear i u a on (subst (λ (r : ℤ). pos 0 <ℤ r) (near-at u.point) l))
 
   -- from a point of a line the sign of the turn is that of the line's form
-  pub near-turn : (a q : Place) → form_at Near_line a ≡ pos 0 → sign (triple m (toward a q) d) ≡ sign (form_at Near_line q)
+  pub near-turn : (a q : SpacePoint) → form_at Near_line a ≡ pos 0 → sign (triple m (toward a q) d) ≡ sign (form_at Near_line q)
   near-turn a q e = ap sign (turn-k (toward a q)) ∙ sign-through k y a q e
 
-  far-turn : (a q : Place) → form_at Far_line a ≡ pos 0 → sign (triple m (toward a q) d) ≡ sign (form_at Far_line q)
+  far-turn : (a q : SpacePoint) → form_at Far_line a ≡ pos 0 → sign (triple m (toward a q) d) ≡ sign (form_at Far_line q)
   far-turn a q e = ap sign (turn-k (toward a q)) ∙ sign-through k z a q e
 
   -- what isn't to the left of z's line lies to the right of y's
-  pub beyond : (q : Place) → pos 0 ≤ℤ form_at Far_line q → pos 0 <ℤ form_at Near_line q
+  pub beyond : (q : SpacePoint) → pos 0 ≤ℤ form_at Far_line q → pos 0 <ℤ form_at Near_line q
   beyond q l = subst (λ (r : ℤ). pos 0 <ℤ r) (sym (through-at k y q)) (shift-plain (pos z.w) (pos y.w) (pos q.w) (dot k (toward y q)) (dot k (toward z q)) (dot k (toward y z)) (shift k y z q) (weight z) (weight y) (weight q)
       (subst (λ (r : ℤ). pos 0 ≤ℤ r) (through-at k z q) l) (subst (λ (r : ℤ). pos 0 <ℤ r) (turn-k (toward y z)) T.right))
 
-  pub short-of : (q : Place) → form_at Near_line q ≡ pos 0 → form_at Far_line q <ℤ pos 0
+  pub short-of : (q : SpacePoint) → form_at Near_line q ≡ pos 0 → form_at Far_line q <ℤ pos 0
   short-of q e = ⊎_elim (λ l. l) (λ l. absurd (let b = beyond q l in omega (arith, ints))) (below-or (form_at Far_line q))
 
   -- ---- angles from y's line
-  pub turn-z : (a : Place) → form_at Near_line a ≡ pos 0 → pos 0 <ℤ triple m (toward a z) d
+  pub turn-z : (a : SpacePoint) → form_at Near_line a ≡ pos 0 → pos 0 <ℤ triple m (toward a z) d
   turn-z a e = same-plus (form_at Near_line z) (triple m (toward a z) d) (near-turn a z e) near-z
 
-  pub angle-ahead : (a c : Place) → form_at Near_line a ≡ pos 0 → SameDirection (toward a c) d → pos 0 <ℤ angle m a z c
+  pub angle-ahead : (a c : SpacePoint) → form_at Near_line a ≡ pos 0 → SameDirection (toward a c) d → pos 0 <ℤ angle m a z c
   angle-ahead a c e w = same-plus (triple m (toward a z) d) (angle m a z c) (turn-last m (toward a z) d (toward a c) (SameDirection-turned (toward a c) d w)) (turn-z a e)
 
   -- from z to a the way leads to the left
-  turn-back : (a : Place) → form_at Near_line a ≡ pos 0 → triple m (toward z a) d <ℤ pos 0
+  turn-back : (a : SpacePoint) → form_at Near_line a ≡ pos 0 → triple m (toward z a) d <ℤ pos 0
   turn-back a e = same-minus (form_at Far_line a) (triple m (toward z a) d) (far-turn z a far-z) (short-of a e)
 
-  pub angle-over : (a x : Place) → form_at Near_line a ≡ pos 0 → SameDirection (toward z x) d → pos 0 <ℤ angle m a z x
+  pub angle-over : (a x : SpacePoint) → form_at Near_line a ≡ pos 0 → SameDirection (toward z x) d → pos 0 <ℤ angle m a z x
   angle-over a x e w =
       let t = turn-back a e in
       let r = triple-turned m d (toward z a) in
       let u = turn-same m m d (toward z x) (toward z a) (toward z a) (dir-self m m-some) (SameDirection-turned (toward z x) d w) (dir-self (toward z a) (λ n. let q = dot-zero k (toward z a) n in let i = turn-k (toward z a) in omega (arith, ints))) in
       angle-inside m x a z (angle-inside m z x a (same-plus (triple m d (toward z a)) (angle m z x a) u (omega (arith, ints))))
 
-  pub angle-under : (a x : Place) → form_at Near_line a ≡ pos 0 → SameDirection (toward z x) (opposite d) → angle m a z x <ℤ pos 0
+  pub angle-under : (a x : SpacePoint) → form_at Near_line a ≡ pos 0 → SameDirection (toward z x) (opposite d) → angle m a z x <ℤ pos 0
   angle-under a x e w =
       let t = turn-back a e in
       let v = turn-last m (toward z a) (opposite d) (toward z x) (SameDirection-turned (toward z x) (opposite d) w) in
@@ -190,13 +190,13 @@ module _ (s : Set) (C : Complex) (S : Shows s C) (h g : Form) (d : Vector) (y z 
       omega (arith, ints)
 
   -- ---- points of z's line
-  pub data On_far_line (x : Place) : Type 0 where
-    at_start : SamePlace z x → On_far_line x
+  pub data On_far_line (x : SpacePoint) : Type 0 where
+    at_start : SamePoint z x → On_far_line x
     ahead_of : SameDirection (toward z x) d → On_far_line x
     behind_of : SameDirection (toward z x) (opposite d) → On_far_line x
 
-  pub on-far_line : (x : Place) → form_at h x ≡ pos 0 → form_at Far_line x ≡ pos 0 → On_far_line x
-  on-far_line x on e = ⊎_elim (λ o. at_start (toward-place z x o)) (λ i. by (beside (toward z x) d i T.some along)) (zero-decided (toward z x))
+  pub on-far_line : (x : SpacePoint) → form_at h x ≡ pos 0 → form_at Far_line x ≡ pos 0 → On_far_line x
+  on-far_line x on e = ⊎_elim (λ o. at_start (toward-point z x o)) (λ i. by (beside (toward z x) d i T.some along)) (zero-decided (toward z x))
     where
       along : IsZero (cross (toward z x) d)
       along = parallel-in_plane m (toward z x) d m-some (plane-way g z x (T.too z T.on_z) (T.too x on)) level-m (sym (far-at x) ∙ e)
@@ -206,23 +206,23 @@ module _ (s : Set) (C : Complex) (S : Shows s C) (h g : Form) (d : Vector) (y z 
       by (other_way o) = behind_of (subst (λ (r : Vector). SameDirection r (opposite d)) (opposite-twice (toward z x)) (opposite-same (opposite (toward z x)) d (opposite-way (toward z x) d o)))
 
   -- ---- the third side of a triangle with one side from y's line to z
-  module _ (a c : Place) (on-a : form_at h a ≡ pos 0) (on-c : form_at h c ≡ pos 0) (start : form_at Near_line a ≡ pos 0) (near-c : pos 0 ≤ℤ form_at Near_line c) (far-c : form_at Far_line c ≤ℤ pos 0) (turn : pos 0 <ℤ angle m a z c)
-      (first : (r : Place) → IsBetween a r z → FlatDim s r 2) (second : SideWithin s a c) (corner : (i : ℕ) (v : Vertex) (t : Place) → At C.vertices i v → SamePlace a v.point → IsBetween z t c → HalfEdge s t v.point → ⊥) where
-    none-between : (r : Place) → IsBetween z r c → (i : ℕ) → IsVertexPoint C i r → ⊥
+  module _ (a c : SpacePoint) (on-a : form_at h a ≡ pos 0) (on-c : form_at h c ≡ pos 0) (start : form_at Near_line a ≡ pos 0) (near-c : pos 0 ≤ℤ form_at Near_line c) (far-c : form_at Far_line c ≤ℤ pos 0) (turn : pos 0 <ℤ angle m a z c)
+      (first : (r : SpacePoint) → IsBetween a r z → FlatDim s r 2) (second : SideWithin s a c) (corner : (i : ℕ) (v : Vertex) (t : SpacePoint) → IsAt C.vertices i v → SamePoint a v.point → IsBetween z t c → HalfEdge s t v.point → ⊥) where
+    none-between : (r : SpacePoint) → IsBetween z r c → (i : ℕ) → IsVertexPoint C i r → ⊥
     none-between r b i (v, at-i, e) =
-        let back = same-place_sym v.point r e in
-        let on = level-same_place h r v.point back (plane-between h z r c b T.on_z on-c) in
-        let near = plus-same_place Near_line r v.point back (between-plus Near_line z r c b near-z near-c) in
-        let far = plus-same_place Far_line v.point r e (strip i v at-i on near) in
+        let back = same-point_sym v.point r e in
+        let on = level-same_point h r v.point back (plane-between h z r c b T.on_z on-c) in
+        let near = plus-same_point Near_line r v.point back (between-plus Near_line z r c b near-z near-c) in
+        let far = plus-same_point Far_line v.point r e (strip i v at-i on near) in
         by_order (form_at Far_line c) (pos 0)
         (λ l. let x = between-minus Far_line z r c b far-z l in omega (arith, ints))
         (λ l. let x = plane-between Far_line z r c b far-z l in omega (arith, ints))
         (λ l. omega (arith, ints))
 
     -- a vertex of the triangle is its corner on y's line
-    module _ (i : ℕ) (v : Vertex) (at-i : At C.vertices i v) (on-g : form_at g v.point ≡ pos 0) (P : pos 0 ≤ℤ form_at (turn_form m a z) v.point) (R : form_at (turn_form m a c) v.point ≤ℤ pos 0) (G : pos 0 <ℤ form_at (turn_form m z c) v.point)
-        (apart : SamePlace a v.point → ⊥) where
-      abbrev p : Place
+    module _ (i : ℕ) (v : Vertex) (at-i : IsAt C.vertices i v) (on-g : form_at g v.point ≡ pos 0) (P : pos 0 ≤ℤ form_at (turn_form m a z) v.point) (R : form_at (turn_form m a c) v.point ≤ℤ pos 0) (G : pos 0 <ℤ form_at (turn_form m z c) v.point)
+        (apart : SamePoint a v.point → ⊥) where
+      abbrev p : SpacePoint
       p = v.point
 
       left-of_first : pos 0 ≤ℤ angle m a z p
@@ -298,7 +298,7 @@ module _ (s : Set) (C : Complex) (S : Shows s C) (h g : Form) (d : Vector) (y z 
           (λ l. not-amid (on-second s g m-some a z c (T.too a on-a) (T.too z T.on_z) (T.too c on-c) turn p on-g on-second_line l G))
 
     -- an edge from the third side that comes to a vertex doesn't pass a, nor end there
-    passes : (t x : Place) → IsBetween z t c → IsVertex s x → HalfEdge s t x → IsBetween t a x ⊎ SamePlace a x → ⊥
+    passes : (t x : SpacePoint) → IsBetween z t c → IsVertex s x → HalfEdge s t x → IsBetween t a x ⊎ SamePoint a x → ⊥
     passes t x amid vertex E (inl d) = by second
       where
         by : SideWithin s a c → ⊥
@@ -307,18 +307,18 @@ module _ (s : Set) (C : Complex) (S : Shows s C) (h g : Form) (d : Vector) (y z 
         by (inr w) = w.0 (E.all a d)
     passes t x amid vertex E (inr o) =
         let (i, v, at-i, e) = S.complete x vertex in
-        corner i v t at-i (same-place_trans a x v.point o (same-place_sym v.point x e)) amid (half-same s t x v.point (same-place_sym v.point x e) E)
+        corner i v t at-i (same-point_trans a x v.point o (same-point_sym v.point x e)) amid (half-same s t x v.point (same-point_sym v.point x e) E)
 
-    none : (r : Place) → IsVertex s r → form_at g r ≡ pos 0 → IsInTriangle (normal_of g) a z c r → (SamePlace a r → ⊥) → ⊥
+    none : (r : SpacePoint) → IsVertex s r → form_at g r ≡ pos 0 → IsInTriangle (normal_of g) a z c r → (SamePoint a r → ⊥) → ⊥
     none r vertex on (p, q, o) apart =
         let (i, v, at-i, e) = S.complete r vertex in
-        let back = same-place_sym v.point r e in
+        let back = same-point_sym v.point r e in
         ⊎_elim
-        (λ l. ends-not i v at-i (level-same_place g r v.point back on)
+        (λ l. ends-not i v at-i (level-same_point g r v.point back on)
         (no-minus (turn_form m a z) r v.point back (subst (λ x. pos 0 ≤ℤ x) (sym (turn-at m a z r)) p))
         (no-plus (turn_form m a c) r v.point back (subst (λ x. x ≤ℤ pos 0) (sym (turn-at m a c r)) q))
-        (plus-same_place (turn_form m z c) r v.point back (subst (λ x. pos 0 <ℤ x) (sym (turn-at m z c r)) l))
-        (λ z. apart (same-place_trans a v.point r z e)))
+        (plus-same_point (turn_form m z c) r v.point back (subst (λ x. pos 0 <ℤ x) (sym (turn-at m z c r)) l))
+        (λ z. apart (same-point_trans a v.point r z e)))
         (λ d. none-between r d i (v, at-i, e)) o
 
     along-second : SideWithin s a c → LiesAlong s a c
@@ -326,19 +326,19 @@ module _ (s : Set) (C : Complex) (S : Shows s C) (h g : Form) (d : Vector) (y z 
     along-second (inl (inr w)) = inr w.2
     along-second (inr w) = inr (λ r d. (w.1 r d).0)
 
-    pub fan : (r : Place) → IsBetween z r c → FlatDim s r 2
+    pub fan : (r : SpacePoint) → IsBetween z r c → FlatDim s r 2
     fan = third-side s g m-some a z c (T.too a on-a) (T.too z T.on_z) (T.too c on-c) turn first (along-second second) flat-g passes none
 
   -- ---- an edge that leads from y's line to z's line, at z or behind it, would cross the way to z
-  module _ (p b x : Place) (on-p : form_at h p ≡ pos 0) (on-b : form_at h b ≡ pos 0) (on-x : form_at h x ≡ pos 0) (near-p : form_at Near_line p ≡ pos 0) (near-b : form_at Near_line b ≡ pos 0) (upward : SameDirection (toward b p) d) (far-x : form_at Far_line x ≡ pos 0)
-      (clear : (r : Place) → IsBetween b r z → FlatDim s r 2) (edge : (r : Place) → IsBetween p r x ⊎ SamePlace r x → FlatDim s r 1) where
+  module _ (p b x : SpacePoint) (on-p : form_at h p ≡ pos 0) (on-b : form_at h b ≡ pos 0) (on-x : form_at h x ≡ pos 0) (near-p : form_at Near_line p ≡ pos 0) (near-b : form_at Near_line b ≡ pos 0) (upward : SameDirection (toward b p) d) (far-x : form_at Far_line x ≡ pos 0)
+      (clear : (r : SpacePoint) → IsBetween b r z → FlatDim s r 2) (edge : (r : SpacePoint) → IsBetween p r x ⊎ SamePoint r x → FlatDim s r 1) where
     abbrev Q : Form
     Q = turn_form m b z
 
-    one-two : (r : Place) → FlatDim s r 1 → FlatDim s r 2 → ⊥
+    one-two : (r : SpacePoint) → FlatDim s r 1 → FlatDim s r 2 → ⊥
     one-two r e f = let j = FlatDim-one s r 1 2 e f in cc
 
-    pub not-at : SamePlace z x → ⊥
+    pub not-at : SamePoint z x → ⊥
     not-at e = one-two x (edge x (inr (same-itself x))) (dim-same s z x 2 e T.flat.0)
 
     Q-p : pos 0 <ℤ form_at Q p
@@ -355,7 +355,7 @@ module _ (s : Set) (C : Complex) (S : Shows s C) (h g : Form) (d : Vector) (y z 
         let q = same-minus (triple m (toward b z) (opposite d)) (triple m (toward b z) (toward z x)) u (omega (arith, ints)) in
         same-minus (dot (cross m (toward b z)) (toward z x)) (form_at Q x) (sym (sign-through (cross m (toward b z)) b z x Q-z)) (subst (λ (r : ℤ). r <ℤ pos 0) (triple-dot m (toward b z) (toward z x)) q)
 
-    crossed : (r : Place) → IsBetween p r x → form_at Q r ≡ pos 0 → IsBetween b r z
+    crossed : (r : SpacePoint) → IsBetween p r x → form_at Q r ≡ pos 0 → IsBetween b r z
     crossed r c e =
         let on-r = plane-between h p r x c on-p on-x in
         let near = between-plus Near_line x r p (between-turned p x r c) (beyond x (omega (arith, ints))) (omega (arith, ints)) in

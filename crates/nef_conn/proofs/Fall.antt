@@ -1,16 +1,16 @@
 -- In a plane that holds up: an edge that leaves a point to the side of b, beside no vertex, runs under b or over it; where the points between are free it runs under b, and what falls from b comes down to it.
-use Rattle.nef_conn.proofs.Prelude.{◌≡◌, ℕ, ℤ, pos, ◌+ℤ◌, ◌-ℤ◌, ◌*ℤ◌, ◌<ℤ◌, ◌≤ℤ◌, arith, ap, sym, ◌∙◌, ◌⊎◌, inl, inr, ⊎_elim, ◌∷◌, subst, [], ints, ring, at, num, ◌⊕◌, ◌⊖◌, ◌⊗◌, by_order, nought-or, given, none, follows, product-off, ahead-back, Flat, FlatDim, IsVertex, Place, Form, form_at, normal_of, slope, SamePlace, Within, toward, IsBetween, Set, Vector, blend, opposite, cross, triple, IsZero, IsDirection, SameDirection, up, carriers, EdgeAround, FlatDim-one, between-turned, between-inner, mixed-of, ray-cell, ahead, start-close, start-toward, edge-around, flat-nearby, flat-toward, Flat-from_cone, FlatCone-from_flat, same-place_sym, flat_dim-nearby, reach_all, toward-place, place-toward, factor-same, same-nought, Beside, same_way, other_way, beside, turn-last, same-plus, IsFlatIn, near_point, near-between, between-level, HalfEdge, plane-between, below-or, dim-same, plane-onward, plane-way, between-way, between-cases, same-itself, ahead-way, dim-cell, zero-decided, dot-zero, triple-turned, SameDirection-turned, SameDirection-trans, opposite-turned, parallel-in_plane, level-way, opposite-way, cross-none, direction-left, direction-right}
+use Rattle.nef_conn.proofs.Prelude.{◌≡◌, ℕ, ℤ, pos, ◌+ℤ◌, ◌-ℤ◌, ◌*ℤ◌, ◌<ℤ◌, ◌≤ℤ◌, arith, ap, sym, ◌∙◌, ◌⊎◌, inl, inr, ⊎_elim, ◌∷◌, subst, [], ints, ring, at, num, ◌⊕◌, ◌⊖◌, ◌⊗◌, by_order, nought-or, given, none, follows, product-off, ahead-back, Flat, FlatDim, IsVertex, SpacePoint, Form, form_at, normal_of, slope, SamePoint, Within, toward, IsBetween, Set, Vector, blend, opposite, cross, triple, IsZero, IsDirection, SameDirection, up, carriers, EdgeAround, FlatDim-one, between-turned, between-inner, mixed-of, ray-cell, ahead, start-close, start-toward, edge-around, flat-nearby, flat-toward, Flat-from_cone, FlatCone-from_flat, same-point_sym, flat_dim-nearby, reach_all, toward-point, point-toward, factor-same, same-nought, Beside, same_way, other_way, beside, turn-last, same-plus, IsFlatIn, near_point, near-between, between-level, HalfEdge, plane-between, below-or, dim-same, plane-onward, plane-way, between-way, between-cases, same-itself, ahead-way, dim-cell, zero-decided, dot-zero, triple-turned, SameDirection-turned, SameDirection-trans, opposite-turned, parallel-in_plane, level-way, opposite-way, cross-none, direction-left, direction-right}
 use Rattle.nef_conn.proofs.Fans.{off-close, off-dim}
 use Rattle.nef_conn.proofs.Near.{Wedge}
 use Rattle.nef_conn.proofs.Triangles.{cut-up, half-to, around-halves, across-way, ends-level}
 use Rattle.nef_conn.proofs.SliceStrip.{lam, up_line, lam-at, lam-turned, lam-sum, down-turn, Clear}
 
 -- ---- where an edge comes to a corner of a triangle
-module _ (t : Set) (a x : Place) (apart : SamePlace a x → ⊥) (edge : (r : Place) → IsBetween x r a → FlatDim t r 1) where
+module _ (t : Set) (a x : SpacePoint) (apart : SamePoint a x → ⊥) (edge : (r : SpacePoint) → IsBetween x r a → FlatDim t r 1) where
   some : IsDirection (toward a x)
-  some z = apart (toward-place a x z)
+  some z = apart (toward-point a x z)
 
-  abbrev q : Place
+  abbrev q : SpacePoint
   q = near_point t a x
 
   one : FlatDim t q 1
@@ -21,7 +21,7 @@ module _ (t : Set) (a x : Place) (apart : SamePlace a x → ⊥) (edge : (r : Pl
   corner-two two = let l = flat_dim-nearby t a q (start-close (reach_all (carriers t) a) a x) 1 2 two one in absurd (omega arith)
 
   -- nor from where all directions are within a facet
-  pub corner-wedge : (b c : Place) → IsBetween b x c → Wedge t 2 a (toward a b) (toward a c) → ⊥
+  pub corner-wedge : (b c : SpacePoint) → IsBetween b x c → Wedge t 2 a (toward a b) (toward a c) → ⊥
   corner-wedge b c m all =
       let u = mixed-of b x c m in
       let there = subst (λ (v : Vector). FlatDim t (ahead t a v) 1) (start-toward (reach_all (carriers t) a) a x) (off-dim t a q 1 (off-close t a q (start-close (reach_all (carriers t) a) a x)) one) in
@@ -46,7 +46,7 @@ module _ (t : Set) (a x : Place) (apart : SamePlace a x → ⊥) (edge : (r : Pl
           (given (at 3) (at 0 ⊗ at 8) (at 1 ⊗ at 9 ⊕ at 2 ⊗ at 10) e (given (num (pos 0) ⊖ at 7) (at 0 ⊗ at 4) (at 1 ⊗ at 5 ⊕ at 2 ⊗ at 6) w none)) tt
 
   -- nor across an edge from it
-  pub corner-edge : (c : Place) → FlatDim t a 1 → IsDirection (toward a c) → ((r : Place) → IsBetween a r c → FlatDim t r 1) → IsZero (cross (toward a c) (toward a x))
+  pub corner-edge : (c : SpacePoint) → FlatDim t a 1 → IsDirection (toward a c) → ((r : SpacePoint) → IsBetween a r c → FlatDim t r 1) → IsZero (cross (toward a c) (toward a x))
   corner-edge c dim i all =
       let close = start-close (reach_all (carriers t) a) a x in
       let K = half-to t a c i dim all in
@@ -55,17 +55,17 @@ module _ (t : Set) (a x : Place) (apart : SamePlace a x → ⊥) (edge : (r : Pl
       let z = ⊎_elim (λ z. z) (λ n. absurd (one.1 (toward a c, toward a q, n, one-way, other))) (zero-decided (cross (toward a c) (toward a q))) in
       subst (λ (v : Vector). IsZero (cross (toward a c) v)) (start-toward (reach_all (carriers t) a) a x) z
 
-pub lam-zero : (n : Vector) (p q : Place) → IsZero (toward p q) → lam n p q ≡ pos 0
+pub lam-zero : (n : Vector) (p q : SpacePoint) → IsZero (toward p q) → lam n p q ≡ pos 0
 lam-zero n p q z = dot-zero n (cross up (toward p q)) (cross-none up (toward p q) z)
 
-pub lam-self : (n : Vector) (p : Place) → lam n p p ≡ pos 0
-lam-self n p = lam-zero n p p (place-toward p p (same-itself p))
+pub lam-self : (n : Vector) (p : SpacePoint) → lam n p p ≡ pos 0
+lam-self n p = lam-zero n p p (point-toward p p (same-itself p))
 
 cancel-positive : (k x : ℤ) → pos 0 <ℤ k → k *ℤ x ≡ pos 0 → x ≡ pos 0
 cancel-positive k x l e = ⊎_elim (λ z. z) (λ m. absurd (product-off k x l m e)) (nought-or x)
 
 -- points on one line along up
-pub lam-chain : (n : Vector) (y b c : Place) → lam n y b ≡ pos 0 → lam n b c ≡ pos 0 → lam n y c ≡ pos 0
+pub lam-chain : (n : Vector) (y b c : SpacePoint) → lam n y b ≡ pos 0 → lam n b c ≡ pos 0 → lam n y c ≡ pos 0
 lam-chain n y b c e f = plain (lam n y c) (lam n y b) (lam n b c) (lam-sum n y b c) e f
   where
     plain : (g a d : ℤ) → pos b.w *ℤ g ≡ pos c.w *ℤ a +ℤ pos y.w *ℤ d → a ≡ pos 0 → d ≡ pos 0 → g ≡ pos 0
@@ -73,7 +73,7 @@ lam-chain n y b c e f = plain (lam n y c) (lam n y b) (lam n b c) (lam-sum n y b
         ∙ ring (pos c.w ∷ pos y.w ∷ []) (at 0 ⊗ num (pos 0) ⊕ at 1 ⊗ num (pos 0)) (num (pos 0)) tt)
 
 -- what lies below lies on the line
-pub lam-down : (n : Vector) (p q : Place) → SameDirection (toward p q) (opposite up) → lam n p q ≡ pos 0
+pub lam-down : (n : Vector) (p q : SpacePoint) → SameDirection (toward p q) (opposite up) → lam n p q ≡ pos 0
 lam-down n p q down = same-nought (triple n up up) (lam n p q) (down-turn n up (toward p q) down) (let f = triple-turned n up up in omega (arith, ints))
 
 -- ---- edges that run past b's line
@@ -82,17 +82,17 @@ module _ (t : Set) (h : Form) (hn : IsDirection (normal_of h)) (level : slope h 
   n = normal_of h
 
   -- an edge from y, to its point on the line of b
-  pub record Run (y b : Place) (g : Vector) : Type 0 where
-    pub place : Place
+  pub record Run (y b : SpacePoint) (g : Vector) : Type 0 where
+    pub place : SpacePoint
     pub on : form_at h place ≡ pos 0
     pub line : lam n b place ≡ pos 0
     pub dir : SameDirection (toward y place) g
-    pub before : (r : Place) → IsBetween y r place → FlatDim t r 1
+    pub before : (r : SpacePoint) → IsBetween y r place → FlatDim t r 1
     pub here : FlatDim t place 1
 
-  module _ (y b : Place) (on-y : form_at h y ≡ pos 0) (on-b : form_at h b ≡ pos 0) (side : pos 0 <ℤ lam n y b) (clear : Clear t h hn level y b) where
+  module _ (y b : SpacePoint) (on-y : form_at h y ≡ pos 0) (on-b : form_at h b ≡ pos 0) (side : pos 0 <ℤ lam n y b) (clear : Clear t h hn level y b) where
     -- what ends beyond y's line ends beyond b's
-    run-to : (c : Place) → IsVertex t c → form_at h c ≡ pos 0 → IsDirection (toward y c) → pos 0 <ℤ lam n y c → ((r : Place) → IsBetween y r c → FlatDim t r 1) → Run y b (toward y c)
+    run-to : (c : SpacePoint) → IsVertex t c → form_at h c ≡ pos 0 → IsDirection (toward y c) → pos 0 <ℤ lam n y c → ((r : SpacePoint) → IsBetween y r c → FlatDim t r 1) → Run y b (toward y c)
     run-to c vertex on i l all =
         let k = cut-up (up_line n b) y c i low high in
         record {
@@ -115,7 +115,7 @@ module _ (t : Set) (h : Form) (hn : IsDirection (normal_of h)) (level : slope h 
         high = let e = lam-at n b c in let m = past (below-or (lam n c b)) in omega (arith, ints)
 
     -- an edge through y, which what falls to y from above doesn't run along
-    module _ (top : Place) (on-top : form_at h top ≡ pos 0) (down : SameDirection (toward top y) (opposite up)) (F : IsFlatIn t h top) (all : (r : Place) → IsBetween top r y → FlatDim t r 2) (one : FlatDim t y 1) where
+    module _ (top : SpacePoint) (on-top : form_at h top ≡ pos 0) (down : SameDirection (toward top y) (opposite up)) (F : IsFlatIn t h top) (all : (r : SpacePoint) → IsBetween top r y → FlatDim t r 2) (one : FlatDim t y 1) where
       pub run-edge : (g : Vector) × Run y b g
       run-edge = by_order (lam n y E.source) (pos 0)
           (λ l. (toward y E.target, run-to E.target E.target_is_vertex ends.1 halves.1.leads (higher l) (λ r d. halves.1.all r d)))
@@ -149,21 +149,21 @@ module _ (t : Set) (h : Form) (hn : IsDirection (normal_of h)) (level : slope h 
               across-way t top y E.source i all halves.0 (parallel-in_plane n (toward top y) (toward top E.source) hn (plane-way h top y on-top on-y) (plane-way h top E.source on-top ends.0) (omega (arith, ints)))
 
     -- an edge that leaves y toward a point close to it
-    module _ (q : Place) (on-q : form_at h q ≡ pos 0) (close : Within (reach_all (carriers t) y) y q) (one : FlatDim t q 1) (aside : pos 0 <ℤ lam n y q) where
+    module _ (q : SpacePoint) (on-q : form_at h q ≡ pos 0) (close : Within (reach_all (carriers t) y) y q) (one : FlatDim t q 1) (aside : pos 0 <ℤ lam n y q) where
       to-q : IsDirection (toward y q)
       to-q o = let e = lam-zero n y q o in let l = aside in omega (arith, ints)
 
       flat-q : Flat t q (toward y q)
       flat-q = Flat-from_cone t q (toward y q) (flat-toward t y q close)
 
-      end : (c : Place) → IsVertex t c → HalfEdge t q c → SameDirection (toward y q) (toward q c) → Run y b (toward y q)
+      end : (c : SpacePoint) → IsVertex t c → HalfEdge t q c → SameDirection (toward y q) (toward q c) → Run y b (toward y q)
       end c vertex K w =
           let on-c = plane-onward h q c (level-way n (toward y q) (toward q c) w (plane-way h y q on-y on-q)) on-q in
           let to-c = between-way y q c w in
           let l = same-plus (lam n y q) (lam n y c) (turn-last n up (toward y q) (toward y c) to-c) aside in
           let R = run-to c vertex on-c (direction-right (toward y q) (toward y c) to-c) l
           (λ r d. ⊎_elim (λ m. dim-cell t q r 1 (ray-cell (carriers t) y q r close m) one)
-          (λ o. ⊎_elim (λ m. dim-same t q r 1 (same-place_sym r q m) one) (λ m. K.all r m) o) (between-cases y q c r w d)) in
+          (λ o. ⊎_elim (λ m. dim-same t q r 1 (same-point_sym r q m) one) (λ m. K.all r m) o) (between-cases y q c r w d)) in
           record {
             place = R.place;
             on = R.on;

@@ -1,12 +1,12 @@
 -- From a point with three flat directions the way to a side of the frame first meets a point with fewer.
-use Rattle.nef_conn.proofs.Prelude.{ℕ, ◌+◌, ◌*◌, ◌<◌, pos, negsuc, ◌+ℤ◌, ◌*ℤ◌, nat_abs, arith, ⊎_elim, ints, half_side, Germ, Flat, FlatDim, Place, Ratio, toward, IsBetween, Set, Vector, vector, IsDirection, Out, Drop, flat-germ, FlatDim-one, between-turned, even-until, span-3, same-place_sym, toward-place, dim-same, IsEvenAfter}
+use Rattle.nef_conn.proofs.Prelude.{ℕ, ◌+◌, ◌*◌, ◌<◌, pos, negsuc, ◌+ℤ◌, ◌*ℤ◌, nat_abs, arith, ⊎_elim, ints, half_side, Germ, Flat, FlatDim, SpacePoint, Ratio, toward, IsBetween, Set, Vector, vector, IsDirection, Out, Drop, flat-germ, FlatDim-one, between-turned, even-until, span-3, same-point_sym, toward-point, dim-same, IsEvenAfter}
 
 -- where three directions are flat, all are
-pub all-flat : (s : Set) (p : Place) → FlatDim s p 3 → (d : Vector) → Flat s p d
+pub all-flat : (s : Set) (p : SpacePoint) → FlatDim s p 3 → (d : Vector) → Flat s p d
 all-flat s p f d = let h = f.0 in span-3 s p h.0 h.1 h.2 d h.3 h.4 h.5 h.6
 
 -- ---- a point on a side of the frame
-abbrev wall : Place
+abbrev wall : SpacePoint
 wall = record { x = pos half_side; y = pos 0; z = pos 0; w = 1; proper = omega arith }
 
 -- the label there is Out, but not close to it inward
@@ -26,19 +26,19 @@ wall-not_flat s f = inward (flat-germ s wall (vector (negsuc 0) (pos 0) (pos 0))
 
 -- ---- what is met first
 -- a point with fewer flat directions, from which on up to p three directions are flat
-pub record FirstMet (s : Set) (p : Place) : Type 0 where
-  pub place : Place
+pub record FirstMet (s : Set) (p : SpacePoint) : Type 0 where
+  pub place : SpacePoint
   pub not_flat : FlatDim s place 3 → ⊥
   pub even : IsEvenAfter s 3 place p
   pub apart : IsDirection (toward place p)
 
-module _ (s : Set) (p : Place) (f : FlatDim s p 3) where
-  met-at : (y : Place) → (FlatDim s y 3 → ⊥) → ((r : Place) → IsBetween p r y → FlatDim s r 3) → FirstMet s p
+module _ (s : Set) (p : SpacePoint) (f : FlatDim s p 3) where
+  met-at : (y : SpacePoint) → (FlatDim s y 3 → ⊥) → ((r : SpacePoint) → IsBetween p r y → FlatDim s r 3) → FirstMet s p
   met-at y not all = record {
     place = y;
     not_flat = not;
-    even = λ r o. ⊎_elim (λ b. all r (between-turned y p r b)) (λ e. dim-same s p r 3 (same-place_sym r p e) f) o;
-    apart = λ z. not (dim-same s p y 3 (same-place_sym y p (toward-place y p z)) f);
+    even = λ r o. ⊎_elim (λ b. all r (between-turned y p r b)) (λ e. dim-same s p r 3 (same-point_sym r p e) f) o;
+    apart = λ z. not (dim-same s p y 3 (same-point_sym y p (toward-point y p z)) f);
   }
 
   pub first-met : FirstMet s p

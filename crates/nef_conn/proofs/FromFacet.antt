@@ -1,5 +1,5 @@
 -- From a facet point of y's line, with a clear way to z: its ray and z's come to one edge, or its ray comes to a vertex beside which z lies.
-use Rattle.nef_conn.proofs.Prelude.{◌≡◌, ℕ, pos, ◌<ℤ◌, arith, ap, ◌∙◌, ◌⊎◌, inl, inr, ⊎_elim, subst, ints, sign, by_order, nought-is, Chained, Flat, FlatDim, Place, Form, form_at, normal_of, SamePlace, toward, IsBetween, Set, Vector, opposite, triple, SameDirection, Drop, FlatDim-one, between-turned, between-inner, even-until, span-1, same-place_sym, between-same, At, at-one, Vertex, Edge, Complex, Corner, Shows, IsVertexPoint, IsEdgePoint, LiesIn, PlaneMeet, meets_vertex, meets_edge, IsFirstInPlane, IsCornerAt, RayNames, IsFlatIn, plane-way, between-way, between-start, between-outer, same-itself, dim-same, plane-ahead, end-meets, ahead-same, between-level, Cut, HalfEdge, edge-halves, plane-between, FacetLink, level-of_opposite, triple-turned, SameDirection-turned, SameDirection-trans, parallel-trans, parallel-in_plane, level-way, direction-left}
+use Rattle.nef_conn.proofs.Prelude.{◌≡◌, ℕ, pos, ◌<ℤ◌, arith, ap, ◌∙◌, ◌⊎◌, inl, inr, ⊎_elim, subst, ints, sign, by_order, nought-is, Chained, Flat, FlatDim, SpacePoint, Form, form_at, normal_of, SamePoint, toward, IsBetween, Set, Vector, opposite, triple, SameDirection, Drop, FlatDim-one, between-turned, between-inner, even-until, span-1, same-point_sym, between-same, IsAt, at-one, Vertex, Edge, Complex, Corner, Shows, IsVertexPoint, IsEdgePoint, LiesIn, PlaneMeet, meets_vertex, meets_edge, IsFirstInPlane, IsCornerAt, RayNames, IsFlatIn, plane-way, between-way, between-start, between-outer, same-itself, dim-same, plane-ahead, end-meets, ahead-same, between-level, Cut, HalfEdge, edge-halves, plane-between, FacetLink, level-of_opposite, triple-turned, SameDirection-turned, SameDirection-trans, parallel-trans, parallel-in_plane, level-way, direction-left}
 use Rattle.nef_conn.proofs.Chain.{chain-here}
 use Rattle.nef_conn.proofs.Sweep.{cut-of}
 use Rattle.nef_conn.proofs.Triangles.{across-way}
@@ -8,7 +8,7 @@ use Rattle.nef_conn.proofs.FacetStrip.{Strip, m-some, level-m, strip, near-turn,
 use Rattle.nef_conn.proofs.Beside.{near, far, near-onward, Beside, beside-facet, vertex-not}
 use Rattle.nef_conn.proofs.OverEdge.{first-on}
 
-module _ (s : Set) (C : Complex) (S : Shows s C) (h g : Form) (d : Vector) (y z : Place) (T : Strip s C h g d y z) where
+module _ (s : Set) (C : Complex) (S : Shows s C) (h g : Form) (d : Vector) (y z : SpacePoint) (T : Strip s C h g d y z) where
   abbrev n : Vector
   n = normal_of h
 
@@ -21,12 +21,12 @@ module _ (s : Set) (C : Complex) (S : Shows s C) (h g : Form) (d : Vector) (y z 
   abbrev Far : Form
   Far = far s C S h g d y z T
 
-  module _ (b : Place) (on-b : form_at h b ≡ pos 0) (near-b : form_at Near b ≡ pos 0) (F : IsFlatIn s h b) (clear : (r : Place) → IsBetween b r z → FlatDim s r 2) where
+  module _ (b : SpacePoint) (on-b : form_at h b ≡ pos 0) (near-b : form_at Near b ≡ pos 0) (F : IsFlatIn s h b) (clear : (r : SpacePoint) → IsBetween b r z → FlatDim s r 2) where
     off-edges : FlatDim s b 1 → ⊥
     off-edges f = let j = FlatDim-one s b 1 2 f F.0 in cc
 
     -- up to what its ray first meets two directions are flat
-    until : (q : PlaneMeet) (I : IsFirstInPlane C h b d q) → (r : Place) → IsBetween b r I.place → FlatDim s r 2
+    until : (q : PlaneMeet) (I : IsFirstInPlane C h b d q) → (r : SpacePoint) → IsBetween b r I.place → FlatDim s r 2
     until q I = ⊎_elim (λ f. f) (λ D. absurd (none D)) (even-until s 2 b I.place F.0 ((F.1 (toward b I.place)).1 (level-way n d (toward b I.place) (SameDirection-turned (toward b I.place) d I.ahead) T.level)))
       where
         none : Drop s 2 b I.place → ⊥
@@ -40,8 +40,8 @@ module _ (s : Set) (C : Complex) (S : Shows s C) (h g : Form) (d : Vector) (y z 
     module _ (k : Corner) (i : ℕ) (I : IsFirstInPlane C h b d (meets_vertex i)) where
       at-vertex : IsVertexPoint C i I.place → IsCornerAt C h (opposite d) (meets_vertex i) k → (N : Beside s C S h g d y z T k) × SameDirection (toward b N.vertex.point) d
       at-vertex (u, a, e) (v, x, f, K, r, o) =
-          let one = at-one C.vertices i u v a (subst (λ (j : ℕ). At C.vertices j v) f K.vertex) in
-          let same = subst (λ (t : Vertex). SamePlace t.point I.place) one e in
+          let one = at-one C.vertices i u v a (subst (λ (j : ℕ). IsAt C.vertices j v) f K.vertex) in
+          let same = subst (λ (t : Vertex). SamePoint t.point I.place) one e in
           let up = ahead-same b I.place v.point d same I.ahead in
           let on = plane-ahead h b v.point d up T.level on-b in
           let N = beside-facet s C S h g d y z T b on-b near-b F.0 clear k v x K r on up
@@ -50,7 +50,7 @@ module _ (s : Set) (C : Complex) (S : Shows s C) (h g : Form) (d : Vector) (y z 
 
     -- ---- it meets an edge
     module _ (i : ℕ) (J : IsFirstInPlane C h b d (meets_edge i)) where
-      abbrev x : Place
+      abbrev x : SpacePoint
       x = J.place
 
       x-on : form_at h x ≡ pos 0
@@ -59,25 +59,25 @@ module _ (s : Set) (C : Complex) (S : Shows s C) (h g : Form) (d : Vector) (y z 
       x-near : form_at Near x ≡ pos 0
       x-near = near-onward s C S h g d y z T b x J.ahead near-b
 
-      reach : (r : Place) → IsBetween z r x → FlatDim s r 2
+      reach : (r : SpacePoint) → IsBetween z r x → FlatDim s r 2
       reach = fan s C S h g d y z T b x on-b x-on near-b (let e = x-near in omega (arith, ints)) (let l = short-of s C S h g d y z T x x-near in omega (arith, ints)) (angle-ahead s C S h g d y z T b x near-b J.ahead) clear
           (inl (inl (off-edges, until (meets_edge i) J))) (λ j v t at-j e _ _. vertex-not s C S h g d y z T 2 j b v at-j e (omega (arith, ints)) F.0)
 
       -- the edge goes on to the right
-      module _ (j : ℕ) (c : Vertex) (at-j : At C.vertices j c) (on-c : form_at h c.point ≡ pos 0) (E : HalfEdge s x c.point) (right : pos 0 <ℤ form_at Near c.point)
-          (points : (r : Place) → IsBetween x r c.point → IsEdgePoint C i r) (lies : LiesIn C h i) where
+      module _ (j : ℕ) (c : Vertex) (at-j : IsAt C.vertices j c) (on-c : form_at h c.point ≡ pos 0) (E : HalfEdge s x c.point) (right : pos 0 <ℤ form_at Near c.point)
+          (points : (r : SpacePoint) → IsBetween x r c.point → IsEdgePoint C i r) (lies : LiesIn C h i) where
         X : Cut Far x c.point
         X = cut-of Far x c.point (inr (short-of s C S h g d y z T x x-near, strip s C S h g d y z T j c at-j on-c right))
 
-        abbrev t : Place
+        abbrev t : SpacePoint
         t = X.place
 
         t-on : form_at h t ≡ pos 0
         t-on = plane-between h x t c.point X.between x-on on-c
 
-        edge : (r : Place) → IsBetween x r t ⊎ SamePlace r t → FlatDim s r 1
+        edge : (r : SpacePoint) → IsBetween x r t ⊎ SamePoint r t → FlatDim s r 1
         edge r (inl o) = E.all r (between-inner x t c.point r X.between o)
-        edge r (inr e) = dim-same s t r 1 (same-place_sym r t e) (E.all t X.between)
+        edge r (inr e) = dim-same s t r 1 (same-point_sym r t e) (E.all t X.between)
 
         along : Flat s x (toward x t)
         along = span-1 s x (toward x c.point) (toward x t) E.leads E.flat (let w = SameDirection-turned (toward x t) (toward x c.point) (between-way x t c.point X.between) in w.parallel)
@@ -93,7 +93,7 @@ module _ (s : Set) (C : Complex) (S : Shows s C) (h g : Form) (d : Vector) (y z 
         to-right = met (on-far_line s C S h g d y z T t t-on X.level)
 
       -- it doesn't lie on y's line
-      not-on_line : (c : Place) → form_at h c ≡ pos 0 → HalfEdge s x c → form_at Near c ≡ pos 0 → ⊥
+      not-on_line : (c : SpacePoint) → form_at h c ≡ pos 0 → HalfEdge s x c → form_at Near c ≡ pos 0 → ⊥
       not-on_line c on E e =
           let flat = nought-is (triple m (toward b c) d) (near-turn s C S h g d y z T b c near-b ∙ ap sign e) in
           let turn : triple m d (toward b c) ≡ pos 0 = (let r = triple-turned m d (toward b c) in omega (arith, ints)) in
@@ -103,8 +103,8 @@ module _ (s : Set) (C : Complex) (S : Shows s C) (h g : Form) (d : Vector) (y z 
       at-edge : IsEdgePoint C i x × LiesIn C h i → IsFirstInPlane C h z d (meets_edge i)
       at-edge ((e, v, w, a, H, o), (e', v', w', a', H', p, q)) =
           let one = at-one C.edges i e' e a' a in
-          let low = at-one C.vertices e.low v' v (subst (λ (r : Edge). At C.vertices r.low v') one H'.low) H.low in
-          let high = at-one C.vertices e.high w' w (subst (λ (r : Edge). At C.vertices r.high w') one H'.high) H.high in
+          let low = at-one C.vertices e.low v' v (subst (λ (r : Edge). IsAt C.vertices r.low v') one H'.low) H.low in
+          let high = at-one C.vertices e.high w' w (subst (λ (r : Edge). IsAt C.vertices r.high w') one H'.high) H.high in
           by (subst (λ (r : Vertex). form_at h r.point ≡ pos 0) low p) (subst (λ (r : Vertex). form_at h r.point ≡ pos 0) high q)
         where
           lies : LiesIn C h i

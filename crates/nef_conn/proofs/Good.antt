@@ -29,7 +29,7 @@
 -- The claims that are used come before. Events are the vertices of the set and those of the slices through two of them: finitely many. In the order of points,
 -- what lies below comes before, and so do an edge's points before its higher end. Claims at v, and at the vertices below an edge, are at events before y, so fewer events come before them.
 -- The claim at r needs no more events, and fewer carriers lie ahead of r downward than of y: r lies on one that up crosses, or up would be flat there. So induction on both, in that order, ends.
-use Rattle.nef_conn.proofs.Prelude.{◌≡◌, ℕ, zero, suc, ◌+◌, ◌<◌, ◌≤◌, ℤ, pos, ◌-ℤ◌, ◌*ℤ◌, ◌<ℤ◌, ◌≤ℤ◌, neg_ℤ, arith, refl, sym, ◌∙◌, ◌⊎◌, inl, inr, ⊎_elim, List, ◌∷◌, ◌++◌, subst, [], ints, nought, sign, Lies, lies-left, lies-right, ring, at, num, neg, ◌⊖◌, ◌⊗◌, by_order, nought-is, mul_nonneg, nought-or, plus-of, minus-of, Chained, Flat, FlatDim, IsVertex, IsEven, Place, Form, form_at, normal_of, slope, SamePlace, InFrame, toward, IsBetween, IsPlaceBelow, Set, Vector, blend, opposite, cross, IsZero, IsDirection, SameDirection, up, sign_at, carriers, between-inner, is_nought, Decided, decided-to, decided-both, decided-or, every, Flat-from_cone, FlatCone-from_flat, FlatCone-from_carriers, place_below-trans, same-place_below, place_below-apart, signs-same, same-place_sym, all-vertices, place-toward, between-same, slope-toward, gather, At, MapVertex, gather-has, same-plus, same-minus, Vertex, Edge, Complex, HasEnds, Shows, VertexSide, RayDown, through-at, between-way, between-outer, same-itself, same-place_trans, VolumeLink, IsUpright, edge-ways, AreLinkedWhereJoined, minus_form, sliced, FlatDim-one, FlatDim-by_germs, ahead, near-ahead, span-1, near-of_flat, steep, forms, amount, at-one, dir-at, near_point, near-between, edge-points, dim-same, IsEvenAfter, free-dim, ahead-cells, dim-cell, tied-ray, tied-turned, dot-zero, SameDirection-turned, SameDirection-trans, dir-self, dir-signs, dot-opposite, direction-left, direction-right}
+use Rattle.nef_conn.proofs.Prelude.{◌≡◌, ℕ, zero, suc, ◌+◌, ◌<◌, ◌≤◌, ℤ, pos, ◌-ℤ◌, ◌*ℤ◌, ◌<ℤ◌, ◌≤ℤ◌, neg_ℤ, arith, refl, sym, ◌∙◌, ◌⊎◌, inl, inr, ⊎_elim, List, ◌∷◌, ◌++◌, subst, [], ints, nought, sign, Lies, lies-left, lies-right, ring, at, num, neg, ◌⊖◌, ◌⊗◌, by_order, nought-is, mul_nonneg, nought-or, plus-of, minus-of, Chained, Flat, FlatDim, IsVertex, IsEven, SpacePoint, Form, form_at, normal_of, slope, SamePoint, InFrame, toward, IsBetween, IsPointBelow, Set, Vector, blend, opposite, cross, IsZero, IsDirection, SameDirection, up, sign_at, carriers, between-inner, is_nought, Decided, decided-to, decided-both, decided-or, every, Flat-from_cone, FlatCone-from_flat, FlatCone-from_carriers, point_below-trans, same-point_below, point_below-apart, signs-same, same-point_sym, all-vertices, point-toward, between-same, slope-toward, gather, IsAt, MapVertex, gather-has, same-plus, same-minus, Vertex, Edge, Complex, HasEnds, Shows, VertexSide, RayDown, through-at, between-way, between-outer, same-itself, same-point_trans, VolumeLink, IsUpright, edge-ways, AreLinkedWhereJoined, minus_form, sliced, FlatDim-one, FlatDim-by_germs, ahead, near-ahead, span-1, near-of_flat, steep, forms, amount, at-one, dir-at, near_point, near-between, edge-points, dim-same, IsEvenAfter, free-dim, ahead-cells, dim-cell, tied-ray, tied-turned, dot-zero, SameDirection-turned, SameDirection-trans, dir-self, dir-signs, dot-opposite, direction-left, direction-right}
 use Rattle.nef_conn.proofs.Claims.{Claim, not-flat}
 use Rattle.nef_conn.proofs.Downs.{vertex-down, svertex-down, vertex-falls, down-some}
 use Rattle.nef_conn.proofs.EdgeFalls.{plane_of, hn, level, edge-falls}
@@ -48,30 +48,30 @@ use Rattle.nef_conn.proofs.UprightVertex.{down-edge}
 use Rattle.nef_conn.proofs.Vertices.{claim-at}
 
 -- ---- the measures
-abbrev pub slice_events : Set → Place → Place → List Place
+abbrev pub slice_events : Set → SpacePoint → SpacePoint → List SpacePoint
 slice_events s p q = (all-vertices (sliced s (plane_of p q))).0
 
-abbrev pub events : Set → Complex → List Place
+abbrev pub events : Set → Complex → List SpacePoint
 events s C = (all-vertices s).0 ++ gather (λ v. gather (λ w. slice_events s v.point w.point) C.vertices) C.vertices
 
-abbrev pub before : Set → Complex → Place → ℕ
-before s C y = tally (λ q. IsPlaceBelow q y) (λ q. below-decided q y) (events s C)
+abbrev pub before : Set → Complex → SpacePoint → ℕ
+before s C y = tally (λ q. IsPointBelow q y) (λ q. below-decided q y) (events s C)
 
 -- the carrier lies ahead of y downward
-abbrev pub Ahead : Place → Form → Type 0
+abbrev pub Ahead : SpacePoint → Form → Type 0
 Ahead y f = ((pos 0 <ℤ form_at f y) × (slope f (opposite up) <ℤ pos 0)) ⊎ ((form_at f y <ℤ pos 0) × (pos 0 <ℤ slope f (opposite up)))
 
 pub less-decided : (a b : ℤ) → Decided (a <ℤ b)
 less-decided a b = by_order a b (λ l. inl l) (λ e. inr (λ l. omega (arith, ints))) (λ l. inr (λ m. omega (arith, ints)))
 
-pub ahead-decided : (y : Place) (f : Form) → Decided (Ahead y f)
+pub ahead-decided : (y : SpacePoint) (f : Form) → Decided (Ahead y f)
 ahead-decided y f = decided-or (decided-both (less-decided (pos 0) (form_at f y)) (less-decided (slope f (opposite up)) (pos 0))) (decided-both (less-decided (form_at f y) (pos 0)) (less-decided (pos 0) (slope f (opposite up))))
 
-abbrev pub ahead-of : Set → Place → ℕ
+abbrev pub ahead-of : Set → SpacePoint → ℕ
 ahead-of s y = tally (Ahead y) (ahead-decided y) (carriers s)
 
 -- ---- below a point fewer carriers lie ahead
-module _ (y r : Place) (down : SameDirection (toward y r) (opposite up)) where
+module _ (y r : SpacePoint) (down : SameDirection (toward y r) (opposite up)) where
   module _ (f : Form) where
     same : sign (slope f (toward y r)) ≡ sign (slope f (opposite up))
     same = dir-signs (opposite up) (toward y r) (normal_of f) down-some (SameDirection-turned (toward y r) (opposite up) down)
@@ -113,18 +113,18 @@ along-down d z = (each d.y d.z up.y up.z z.0, each d.z d.x up.z up.x z.1, each d
     each a b c e z = let r = ring (a ∷ b ∷ c ∷ e ∷ []) (at 0 ⊗ neg (at 3) ⊖ at 1 ⊗ neg (at 2)) (neg (at 0 ⊗ at 3 ⊖ at 1 ⊗ at 2)) tt in omega (arith, ints)
 
 -- ---- along an edge
-module _ (s : Set) (C : Complex) (S : Shows s C) (k : ℕ) (e : Edge) (v w : Vertex) (a : At C.edges k e) (H : HasEnds C e v w) where
+module _ (s : Set) (C : Complex) (S : Shows s C) (k : ℕ) (e : Edge) (v w : Vertex) (a : IsAt C.edges k e) (H : HasEnds C e v w) where
   edge-some : IsDirection (edge-ways s C S k e v w a H).low.dir
   edge-some = let W = edge-ways s C S k e v w a H in direction-right (toward v.point w.point) W.low.dir W.onward
 
-  edge-flat : (y : Place) → IsBetween v.point y w.point → Flat s y (edge-ways s C S k e v w a H).low.dir
+  edge-flat : (y : SpacePoint) → IsBetween v.point y w.point → Flat s y (edge-ways s C S k e v w a H).low.dir
   edge-flat y b =
       let W = edge-ways s C S k e v w a H in
       let E = edge-points s C k e v w y S a H b in
       (E.1 W.low.dir).1 (subst (λ (r : Vector). IsZero (cross r W.low.dir)) (sym (dir-at v.map.svertices e.low_svertex W.low W.is_low)) (let o = dir-self W.low.dir edge-some in o.parallel))
 
   -- toward a direction along it the set is no flatter
-  edge-not_up : (y : Place) → IsBetween v.point y w.point → (d : Vector) → IsZero (cross (edge-ways s C S k e v w a H).low.dir d) → FlatDim s (ahead s y d) 3 → ⊥
+  edge-not_up : (y : SpacePoint) → IsBetween v.point y w.point → (d : Vector) → IsZero (cross (edge-ways s C S k e v w a H).low.dir d) → FlatDim s (ahead s y d) 3 → ⊥
   edge-not_up y b d z f =
       let g = span-1 s y (edge-ways s C S k e v w a H).low.dir d edge-some (edge-flat y b) z in
       let one = (edge-points s C k e v w y S a H b).0 in
@@ -133,21 +133,21 @@ module _ (s : Set) (C : Complex) (S : Shows s C) (k : ℕ) (e : Edge) (v w : Ver
       absurd (omega arith)
 
 module _ (s : Set) (C : Complex) (S : Shows s C) (upright : IsUpright C) (linked : AreLinkedWhereJoined s C) where
-  abbrev pub Good : Place → Type 0
+  abbrev pub Good : SpacePoint → Type 0
   Good y = (h : Form) (hn : IsDirection (normal_of h)) (level : slope h up ≡ pos 0) → form_at h y ≡ pos 0 → FlatDim (sliced s h) y 0 → Claim s C S upright linked h hn level y
 
   -- ---- what comes before
-  before-mono : (p y : Place) → IsPlaceBelow p y → before s C p ≤ before s C y
-  before-mono p y l = tally-mono (λ q. IsPlaceBelow q p) (λ q. IsPlaceBelow q y) (λ q. below-decided q p) (λ q. below-decided q y) (events s C) (λ q i m. place_below-trans q p y m l)
+  before-mono : (p y : SpacePoint) → IsPointBelow p y → before s C p ≤ before s C y
+  before-mono p y l = tally-mono (λ q. IsPointBelow q p) (λ q. IsPointBelow q y) (λ q. below-decided q p) (λ q. below-decided q y) (events s C) (λ q i m. point_below-trans q p y m l)
 
-  before-strict : (p y q : Place) → IsPlaceBelow p y → Lies (events s C) q → SamePlace q p → before s C p < before s C y
-  before-strict p y q l i e = tally-strict (λ q. IsPlaceBelow q p) (λ q. IsPlaceBelow q y) (λ q. below-decided q p) (λ q. below-decided q y) (events s C) (λ q j m. place_below-trans q p y m l) q i
-      (same-place_below q p y e l) (λ m. place_below-apart q p m e)
+  before-strict : (p y q : SpacePoint) → IsPointBelow p y → Lies (events s C) q → SamePoint q p → before s C p < before s C y
+  before-strict p y q l i e = tally-strict (λ q. IsPointBelow q p) (λ q. IsPointBelow q y) (λ q. below-decided q p) (λ q. below-decided q y) (events s C) (λ q j m. point_below-trans q p y m l) q i
+      (same-point_below q p y e l) (λ m. point_below-apart q p m e)
 
-  vertex-event : (v : Place) → IsVertex s v → (q : Place) × Lies (events s C) q × SamePlace q v
+  vertex-event : (v : SpacePoint) → IsVertex s v → (q : SpacePoint) × Lies (events s C) q × SamePoint q v
   vertex-event v f = let A = (all-vertices s).2 v f in (A.0, lies-left (all-vertices s).0 (gather (λ v. gather (λ w. slice_events s v.point w.point) C.vertices) C.vertices) A.0 A.1, A.2)
 
-  slice-event : (i j : ℕ) (v w : Vertex) → At C.vertices i v → At C.vertices j w → (r : Place) → IsVertex (sliced s (plane_of v.point w.point)) r → (q : Place) × Lies (events s C) q × SamePlace q r
+  slice-event : (i j : ℕ) (v w : Vertex) → IsAt C.vertices i v → IsAt C.vertices j w → (r : SpacePoint) → IsVertex (sliced s (plane_of v.point w.point)) r → (q : SpacePoint) × Lies (events s C) q × SamePoint q r
   slice-event i j v w a b r f =
       let A = (all-vertices (sliced s (plane_of v.point w.point))).2 r f in (
         A.0,
@@ -157,9 +157,9 @@ module _ (s : Set) (C : Complex) (S : Shows s C) (upright : IsUpright C) (linked
       )
 
   -- ---- one step
-  module _ (y : Place) (first : (p : Place) → before s C p < before s C y → Good p) (second : (p : Place) → before s C p ≤ before s C y → ahead-of s p < ahead-of s y → Good p) where
+  module _ (y : SpacePoint) (first : (p : SpacePoint) → before s C p < before s C y → Good p) (second : (p : SpacePoint) → before s C p ≤ before s C y → ahead-of s p < ahead-of s y → Good p) where
     -- what lies below y
-    below : (h : Form) (hn : IsDirection (normal_of h)) (level : slope h up ≡ pos 0) (r : Place) → form_at h r ≡ pos 0 → SameDirection (toward y r) (opposite up) → FlatDim (sliced s h) r 0 → Claim s C S upright linked h hn level r
+    below : (h : Form) (hn : IsDirection (normal_of h)) (level : slope h up ≡ pos 0) (r : SpacePoint) → form_at h r ≡ pos 0 → SameDirection (toward y r) (opposite up) → FlatDim (sliced s h) r 0 → Claim s C S upright linked h hn level r
     below h hn level r on down f = second r (before-mono r y (down-before y r down)) fewer h hn level on f
       where
         Q : Form → Type 0
@@ -178,14 +178,14 @@ module _ (s : Set) (C : Complex) (S : Shows s C) (upright : IsUpright C) (linked
             (every (carriers s) (λ g. sign_at g r ≡ nought → slope g up ≡ pos 0) (λ g. decided-to (is_nought (sign_at g r)) (nought-or (slope g up))))
 
     -- what falls from an edge
-    module _ (k : ℕ) (e : Edge) (v w : Vertex) (a : At C.edges k e) (H : HasEnds C e v w) (b : IsBetween v.point y w.point) (aside : IsDirection (cross (edge-ways s C S k e v w a H).low.dir up)) where
+    module _ (k : ℕ) (e : Edge) (v w : Vertex) (a : IsAt C.edges k e) (H : HasEnds C e v w) (b : IsBetween v.point y w.point) (aside : IsDirection (cross (edge-ways s C S k e v w a H).low.dir up)) where
       abbrev hA : Form
       hA = plane_of v.point w.point
 
       on-v : form_at hA v.point ≡ pos 0
-      on-v = through-at (cross up (toward v.point w.point)) v.point v.point ∙ dot-zero (cross up (toward v.point w.point)) (toward v.point v.point) (place-toward v.point v.point (same-itself v.point))
+      on-v = through-at (cross up (toward v.point w.point)) v.point v.point ∙ dot-zero (cross up (toward v.point w.point)) (toward v.point v.point) (point-toward v.point v.point (same-itself v.point))
 
-      v-before : IsPlaceBelow v.point y
+      v-before : IsPointBelow v.point y
       v-before = normal-below v.point y (normal-way (toward v.point w.point) (toward v.point y) (SameDirection-turned (toward v.point y) (toward v.point w.point) (between-way v.point y w.point b))
           (toward-normal v.point w.point (S.ordered e.low e.high v w (let E = S.edges.edges k e a in E.upward) H.low H.high)))
 
@@ -195,34 +195,34 @@ module _ (s : Set) (C : Complex) (S : Shows s C) (upright : IsUpright C) (linked
       abbrev Allowed : Form → Type 0
       Allowed f = (f ≡ plane_of v.point w.point) ⊎ (f ≡ minus_form (plane_of v.point w.point))
 
-      slice-there : (f : Form) → Allowed f → (r : Place) → form_at f r ≡ pos 0 → FlatDim (sliced s f) r 0 → FlatDim (sliced s (plane_of v.point w.point)) r 0
+      slice-there : (f : Form) → Allowed f → (r : SpacePoint) → form_at f r ≡ pos 0 → FlatDim (sliced s f) r 0 → FlatDim (sliced s (plane_of v.point w.point)) r 0
       slice-there f (inl o) r on d = subst (λ (g : Form). FlatDim (sliced s g) r 0) o d
       slice-there f (inr o) r on d = minus-slice s hA r (minus-off hA r (subst (λ (g : Form). form_at g r ≡ pos 0) o on)) 0 (subst (λ (g : Form). FlatDim (sliced s g) r 0) o d)
 
-      good-below : (f : Form) → Allowed f → (hn : IsDirection (normal_of f)) (level : slope f up ≡ pos 0) (r : Place) → form_at f r ≡ pos 0 → FlatDim (sliced s f) r 0 → IsPlaceBelow r y → Claim s C S upright linked f hn level r
+      good-below : (f : Form) → Allowed f → (hn : IsDirection (normal_of f)) (level : slope f up ≡ pos 0) (r : SpacePoint) → form_at f r ≡ pos 0 → FlatDim (sliced s f) r 0 → IsPointBelow r y → Claim s C S upright linked f hn level r
       good-below f al hn level r on d l =
           let A = slice-event e.low e.high v w H.low H.high r (slice-there f al r on d) in
           first r (before-strict r y A.0 l A.1 A.2) f hn level on d
 
-      names : (p q : Place) (z z' : VertexSide) → form_at hA p ≡ pos 0 → form_at hA q ≡ pos 0 → InFrame p → IsEven s 3 p q → IsBetween v.point p q → SameDirection (toward y q) (opposite up) → RayDown C p z → RayDown C q z' → Chained (VolumeLink C) z z'
+      names : (p q : SpacePoint) (z z' : VertexSide) → form_at hA p ≡ pos 0 → form_at hA q ≡ pos 0 → InFrame p → IsEven s 3 p q → IsBetween v.point p q → SameDirection (toward y q) (opposite up) → RayDown C p z → RayDown C q z' → Chained (VolumeLink C) z z'
       names p q z z' on-p on-q inside even c down R T =
-          segment-in s C S upright linked Allowed (λ r. IsPlaceBelow r y) good-below hA (inl refl) (inr refl) (hn s C S upright linked k e v w a H aside) (level s C S upright linked k e v w a H aside) p q z z' on-p on-q inside even overs R T
+          segment-in s C S upright linked Allowed (λ r. IsPointBelow r y) good-below hA (inl refl) (inr refl) (hn s C S upright linked k e v w a H aside) (level s C S upright linked k e v w a H aside) p q z z' on-p on-q inside even overs R T
         where
-          q-before : IsPlaceBelow q y
+          q-before : IsPointBelow q y
           q-before = down-before y q down
 
-          inner : (u : Place) → IsBetween v.point u q → IsPlaceBelow u y
+          inner : (u : SpacePoint) → IsBetween v.point u q → IsPointBelow u y
           inner u m = before-between y v.point u q v-before q-before m
 
-          on-segment : (u : Place) → SamePlace u p ⊎ IsBetween p u q ⊎ SamePlace u q → IsPlaceBelow u y
-          on-segment u (inl o) = inner u (between-same v.point p q v.point u q (same-itself v.point) (same-place_sym u p o) (same-itself q) c)
+          on-segment : (u : SpacePoint) → SamePoint u p ⊎ IsBetween p u q ⊎ SamePoint u q → IsPointBelow u y
+          on-segment u (inl o) = inner u (between-same v.point p q v.point u q (same-itself v.point) (same-point_sym u p o) (same-itself q) c)
           on-segment u (inr (inl m)) = inner u (between-outer v.point p u q c m)
-          on-segment u (inr (inr o)) = same-place_below u q y o q-before
+          on-segment u (inr (inr o)) = same-point_below u q y o q-before
 
-          overs : (u : Place) → SamePlace u p ⊎ IsBetween p u q ⊎ SamePlace u q → (r : Place) → SameDirection (toward u r) (opposite up) → IsPlaceBelow r y
-          overs u o r d = place_below-trans r u y (down-before u r d) (on-segment u o)
+          overs : (u : SpacePoint) → SamePoint u p ⊎ IsBetween p u q ⊎ SamePoint u q → (r : SpacePoint) → SameDirection (toward u r) (opposite up) → IsPointBelow r y
+          overs u o r d = point_below-trans r u y (down-before u r d) (on-segment u o)
 
-    falls : (x x2 : VertexSide) → Beside-point s C S upright linked y (opposite up) x → (R : RayDown C y x2) → ((r : Place) → IsBetween y r R.place → FlatDim s r 3 × InFrame r) → Chained (VolumeLink C) x x2
+    falls : (x x2 : VertexSide) → Beside-point s C S upright linked y (opposite up) x → (R : RayDown C y x2) → ((r : SpacePoint) → IsBetween y r R.place → FlatDim s r 3 × InFrame r) → Chained (VolumeLink C) x x2
     falls x x2 (inl A) R free = vertex-falls s C S upright linked y x x2 A R free
     falls x x2 (inr (k, e, v, w, a, H, b, T)) R free = edge-falls s C S upright linked k e v w a H aside y b x x2 T R free
         (λ f. first v.point (fewer-v k e v w a H b aside) (plane_of v.point w.point) (hn s C S upright linked k e v w a H aside) (level s C S upright linked k e v w a H aside) (on-v k e v w a H b aside) f)
@@ -239,7 +239,7 @@ module _ (s : Set) (C : Complex) (S : Shows s C) (upright : IsUpright C) (linked
 
         even : IsEvenAfter s 3 y (near_point s y R.place)
         even r (inl m) = (free r (between-inner y (near_point s y R.place) R.place r half m)).0
-        even r (inr o) = dim-same s (near_point s y R.place) r 3 (same-place_sym r (near_point s y R.place) o) (free (near_point s y R.place) half).0
+        even r (inr o) = dim-same s (near_point s y R.place) r 3 (same-point_sym r (near_point s y R.place) o) (free (near_point s y R.place) half).0
 
         free-down : FlatDim s (ahead s y (opposite up)) 3
         free-down = tied-dim s (near_point s y R.place) (ahead s y (opposite up)) 3 (tied-ray s 3 y (near_point s y R.place) (opposite up) to-half even) (free (near_point s y R.place) half).0
@@ -250,25 +250,25 @@ module _ (s : Set) (C : Complex) (S : Shows s C) (upright : IsUpright C) (linked
     -- ---- where down isn't free an edge runs down
     module _ (h : Form) (hn : IsDirection (normal_of h)) (level : slope h up ≡ pos 0) (on : form_at h y ≡ pos 0) (corner : FlatDim (sliced s h) y 0) where
       abbrev Aside : Type 0
-      Aside = (b : Place) (x z : VertexSide) → form_at h b ≡ pos 0 → pos 0 <ℤ lam (normal_of h) y b → Clear (sliced s h) h hn level y b → ((r : Place) → IsBetween y r b → FlatDim s r 3) → FlatDim s b 3 → InFrame b
+      Aside = (b : SpacePoint) (x z : VertexSide) → form_at h b ≡ pos 0 → pos 0 <ℤ lam (normal_of h) y b → Clear (sliced s h) h hn level y b → ((r : SpacePoint) → IsBetween y r b → FlatDim s r 3) → FlatDim s b 3 → InFrame b
           → Beside-point s C S upright linked y (toward y b) x → RayDown C b z → Wedge s 3 y (toward y b) (opposite up) → Wedge (sliced s h) 2 y (toward y b) (opposite up) → Chained (VolumeLink C) x z
 
-      claims-below : (p : Place) → form_at h p ≡ pos 0 → IsPlaceBelow p y → IsVertex s p → FlatDim (sliced s h) p 0 → Claim s C S upright linked h hn level p
+      claims-below : (p : SpacePoint) → form_at h p ≡ pos 0 → IsPointBelow p y → IsVertex s p → FlatDim (sliced s h) p 0 → Claim s C S upright linked h hn level p
       claims-below p on-p l vertex f = let A = vertex-event p vertex in first p (before-strict p y A.0 l A.1 A.2) h hn level on-p f
 
       -- at a vertex of the set
-      down-vertex : (i : ℕ) (v : Vertex) (a : At C.vertices i v) (e : SamePlace v.point y) → FlatDim s (ahead s y (opposite up)) 3 ⊎ Aside
+      down-vertex : (i : ℕ) (v : Vertex) (a : IsAt C.vertices i v) (e : SamePoint v.point y) → FlatDim s (ahead s y (opposite up)) 3 ⊎ Aside
       down-vertex i v a e = ⊎_elim
           (λ F. inl (dim-cell s (ahead s v.point (opposite up)) (ahead s y (opposite up)) 3 (ahead-cells s v.point y (opposite up) (signs-same (carriers s) v.point y e)) (free-dim v.map s v.point (S.cones i v a) (opposite up) F)))
           (λ q. inr (λ b x z on-b side clear first-free three inside B R w3 w2. by q.0 q.1 q.2 q.3 b x z on-b side clear first-free three inside B R w3 w2))
           (vertex-down s C S upright linked i v a)
         where
-          by : (k : ℕ) (u : MapVertex) → At v.map.svertices k u → SameDirection u.dir (opposite up) → Aside
+          by : (k : ℕ) (u : MapVertex) → IsAt v.map.svertices k u → SameDirection u.dir (opposite up) → Aside
           by k u hu runs b x z on-b side clear first-free three inside (inl (i', v', a', e', T)) R w3 w2 =
-              let p = one-vertex s C S i i' v v' a a' (same-place_trans v.point y v'.point e (same-place_sym v'.point y e')) in
-              let a1 = subst (λ (q : ℕ). At C.vertices q v') (sym p) a' in
+              let p = one-vertex s C S i i' v v' a a' (same-point_trans v.point y v'.point e (same-point_sym v'.point y e')) in
+              let a1 = subst (λ (q : ℕ). IsAt C.vertices q v') (sym p) a' in
               let one = at-one C.vertices i v v' a a1 in
-              let hu' = subst (λ (q : Vertex). At q.map.svertices k u) one hu in
+              let hu' = subst (λ (q : Vertex). IsAt q.map.svertices k u) one hu in
               down-edge s C S upright linked h hn level y on i' v' a' e' k u hu' runs claims-below b x z on-b side clear first-free three inside T R w3 w2
           by k u hu runs b x z on-b side clear first-free three inside (inr (k', e', v', w', a', H, m, T)) R w3 w2 =
               let o = (edge-points s C k' e' v' w' y S a' H m).0 in
@@ -293,13 +293,13 @@ module _ (s : Set) (C : Complex) (S : Shows s C) (upright : IsUpright C) (linked
         claim-at s C S upright linked h hn level y on f (down-or h hn level on f (toward y b) x B) (below h hn level) falls b x z on-b side clear first-free three inside B R
 
   -- ---- the induction
-  inner : (M : ℕ) → ((p : Place) → before s C p < M → Good p) → (K : ℕ) (y : Place) → before s C y ≤ M → ahead-of s y < K → Good y
+  inner : (M : ℕ) → ((p : SpacePoint) → before s C p < M → Good p) → (K : ℕ) (y : SpacePoint) → before s C y ≤ M → ahead-of s y < K → Good y
   inner M ih zero y l m = absurd (omega arith)
   inner M ih (suc K) y l m = good-step y (λ p i. ih p (omega arith)) (λ p i j. inner M ih K p (omega arith) (omega arith))
 
-  outer : (M : ℕ) (y : Place) → before s C y < M → Good y
+  outer : (M : ℕ) (y : SpacePoint) → before s C y < M → Good y
   outer zero y l = absurd (omega arith)
   outer (suc M) y l = inner M (outer M) (suc (ahead-of s y)) y (omega arith) (omega arith)
 
-  pub all-good : (y : Place) → Good y
+  pub all-good : (y : SpacePoint) → Good y
   all-good y = outer (suc (before s C y)) y (omega arith)

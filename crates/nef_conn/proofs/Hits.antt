@@ -1,5 +1,5 @@
 -- What lies above a skeleton point: a side that touches a vertex or an edge upward, or the upper side of an item of the facet. What lies above equal points, or points of one edge or facet, is linked; for facets that is the converse for items.
-use Rattle.nef_conn.proofs.Prelude.{◌≡◌, ℕ, ◌+◌, pos, arith, refl, sym, ◌∙◌, ◌⊎◌, inl, inr, ⊎_elim, List, ◌∷◌, subst, [], IsChain, Chained, Joined, Place, form_at, SamePlace, toward, IsBetween, Set, Vector, blend, up, plane_axis, Label, ahead, joined-turned, joined-both, At, Item, item_normal, item_pos, pos_item, OnItem, Side, HasSide, Sees, on-level, at-one, bounds-sees, dir-at, normal-is, Vertex, Edge, Complex, Corner, HasEnds, IsCorner, Shows, item_plane, Spot, at_vertex, on_edge, in_facet, IsSpot, VertexSide, HasSideLabel, IsAbove, RayDown, IsFlatIn, through-at, through-level, axis-in, facet-point, FacetLink, VolumeLink, pos_arcs, across, across-tied, edge-ways, AreTiedItems, corner_of, along-tied, at-item, IsTied, AreLinkedWhereJoined}
+use Rattle.nef_conn.proofs.Prelude.{◌≡◌, ℕ, ◌+◌, pos, arith, refl, sym, ◌∙◌, ◌⊎◌, inl, inr, ⊎_elim, List, ◌∷◌, subst, [], IsChain, Chained, Joined, SpacePoint, form_at, SamePoint, toward, IsBetween, Set, Vector, blend, up, plane_axis, Label, ahead, joined-turned, joined-both, IsAt, Item, item_normal, item_pos, pos_item, OnItem, Side, HasSide, Sees, on-level, at-one, bounds-sees, dir-at, normal-is, Vertex, Edge, Complex, Corner, HasEnds, IsCorner, Shows, item_plane, Spot, at_vertex, on_edge, in_facet, IsSpot, VertexSide, HasSideLabel, IsAbove, RayDown, IsFlatIn, through-at, through-level, axis-in, facet-point, FacetLink, VolumeLink, pos_arcs, across, across-tied, edge-ways, AreTiedItems, corner_of_numbers, along-tied, at-item, IsTied, AreLinkedWhereJoined}
 use Rattle.nef_conn.proofs.Chain.{chain-both, chain-one, chain-back, chain-here}
 use Rattle.nef_conn.proofs.Touch.{bound, Touch, vertex-frame, edge-frame, no-way}
 
@@ -15,8 +15,8 @@ side-is x i o e f P p =
 module _ (s : Set) (C : Complex) (S : Shows s C) where
   facet-tied : (j k : Corner) → FacetLink C j k → AreTiedItems s C j k
   facet-tied j k (inl L) =
-      subst (λ (a : ℕ). AreTiedItems s C (corner_of a j.item) k) (sym L.from_low)
-      (subst (λ (b : ℕ). AreTiedItems s C (corner_of L.edge.low j.item) (corner_of b k.item)) (sym L.to_high) (along-tied s C S L.number L.edge L.is_edge j.item k.item L.along))
+      subst (λ (a : ℕ). AreTiedItems s C (corner_of_numbers a j.item) k) (sym L.from_low)
+      (subst (λ (b : ℕ). AreTiedItems s C (corner_of_numbers L.edge.low j.item) (corner_of_numbers b k.item)) (sym L.to_high) (along-tied s C S L.number L.edge L.is_edge j.item k.item L.along))
   facet-tied j k (inr L) = across-tied s C S j k L
 
   above-label : (k : Corner) (v : Vertex) (x : Item) → IsCorner C k v x → HasSideLabel C (above k) (item_pos x)
@@ -57,26 +57,26 @@ module _ (s : Set) (C : Complex) (S : Shows s C) where
 
   -- ---- what lies above
   -- the side touches the vertex upward
-  abbrev pub OverVertex : Place → VertexSide → Type 0
-  OverVertex z x = (i : ℕ) × (v : Vertex) × (a : At C.vertices i v) × (e : SamePlace v.point z) × Touch s C z (vertex-frame s C i v z a e) x up
+  abbrev pub OverVertex : SpacePoint → VertexSide → Type 0
+  OverVertex z x = (i : ℕ) × (v : Vertex) × (a : IsAt C.vertices i v) × (e : SamePoint v.point z) × Touch s C z (vertex-frame s C i v z a e) x up
 
   -- it touches the edge, close to the lower end
-  abbrev pub OverEdge : Place → VertexSide → Type 0
-  OverEdge z x = (k : ℕ) × (e : Edge) × (v : Vertex) × (w : Vertex) × (a : At C.edges k e) × (H : HasEnds C e v w) × (b : IsBetween v.point z w.point) × Touch s C z (edge-frame s C S k e v w z a H b) x up
+  abbrev pub OverEdge : SpacePoint → VertexSide → Type 0
+  OverEdge z x = (k : ℕ) × (e : Edge) × (v : Vertex) × (w : Vertex) × (a : IsAt C.edges k e) × (H : HasEnds C e v w) × (b : IsBetween v.point z w.point) × Touch s C z (edge-frame s C S k e v w z a H b) x up
 
   -- it is the upper side of an item to a point of which z is tied
-  abbrev pub OverFacet : Place → VertexSide → Type 0
+  abbrev pub OverFacet : SpacePoint → VertexSide → Type 0
   OverFacet z x = (k : Corner) × (v : Vertex) × (y : Item) × IsCorner C k v y × ((d : Vector) × OnItem v.map y d × IsTied s z (ahead s v.point d)) × (x.vertex ≡ k.vertex) × (x.side ≡ pos_item k.item)
 
-  abbrev pub Over : Place → VertexSide → Type 0
+  abbrev pub Over : SpacePoint → VertexSide → Type 0
   Over z x = OverVertex z x ⊎ OverEdge z x ⊎ OverFacet z x
 
-  seer-at : (x : VertexSide) (l : Label) (v : Vertex) (i : ℕ) → HasSideLabel C x l → At C.vertices i v → x.vertex ≡ i → HasSide v.map x.side l
+  seer-at : (x : VertexSide) (l : Label) (v : Vertex) (i : ℕ) → HasSideLabel C x l → IsAt C.vertices i v → x.vertex ≡ i → HasSide v.map x.side l
   seer-at x l v i (u, b, h) a e =
-      let f = at-one C.vertices i u v (subst (λ (n : ℕ). At C.vertices n u) e b) a in
+      let f = at-one C.vertices i u v (subst (λ (n : ℕ). IsAt C.vertices n u) e b) a in
       subst (λ (r : Vertex). HasSide r.map x.side l) f h
 
-  pub over-of : (o : Spot) (z : Place) (x : VertexSide) (l : Label) → IsSpot C o z → IsAbove C z o x → HasSideLabel C x l → Over z x
+  pub over-of : (o : Spot) (z : SpacePoint) (x : VertexSide) (l : Label) → IsSpot C o z → IsAbove C z o x → HasSideLabel C x l → Over z x
   over-of (at_vertex k) z x l (u, b, e) (v, a, f, sight) has =
       let g = at-one C.vertices k u v b a in
       let n = bound s v up in
@@ -84,7 +84,7 @@ module _ (s : Set) (C : Complex) (S : Shows s C) where
         k,
         v,
         a,
-        subst (λ (r : Vertex). SamePlace r.point z) g e,
+        subst (λ (r : Vertex). SamePoint r.point z) g e,
         record {
           steps = n;
           large = omega arith;
@@ -128,19 +128,19 @@ module _ (s : Set) (C : Complex) (S : Shows s C) where
       let A = across s C S (item_plane H.vertex H.item) z on flat (plane_axis n) ((through-level n (plane_axis n) p).0 (axis-in n some).1) k H.named in
       inr (inr (k, A.vertex, A.item, A.corner, (A.dir, A.on, A.tied), f, e))
 
-  pub ray-over : (p : Place) (x : VertexSide) (R : RayDown C p x) → Over R.place x
+  pub ray-over : (p : SpacePoint) (x : VertexSide) (R : RayDown C p x) → Over R.place x
   ray-over p x R = over-of R.spot R.place x R.label R.is_spot R.above R.has
 
   -- ---- facets
   -- a point at an item that is joined to z
-  abbrev pub ItemAt : Place → Corner → Type 0
+  abbrev pub ItemAt : SpacePoint → Corner → Type 0
   ItemAt z k = (v : Vertex) × (y : Item) × IsCorner C k v y × ((d : Vector) × OnItem v.map y d × Joined s z (ahead s v.point d))
 
   module _ (linked : AreLinkedWhereJoined s C) where
-    pub items-above : (z : Place) (j k : Corner) → ItemAt z j → ItemAt z k → Chained (VolumeLink C) (above j) (above k)
+    pub items-above : (z : SpacePoint) (j k : Corner) → ItemAt z j → ItemAt z k → Chained (VolumeLink C) (above j) (above k)
     items-above z j k (v, y, c, (d, o, t)) (w, u, b, (e, r, q)) =
         facets-volumes j k (linked j k (ahead s v.point d) (ahead s w.point e) (at-item s C S j v y c d o) (at-item s C S k w u b e r) (joined-both s (ahead s v.point d) z (ahead s w.point e) (joined-turned s z (ahead s v.point d) t) q))
 
-    pub over-item : (z : Place) (x : VertexSide) (j : Corner) → OverFacet z x → ItemAt z j → Chained (VolumeLink C) x (above j)
+    pub over-item : (z : SpacePoint) (x : VertexSide) (j : Corner) → OverFacet z x → ItemAt z j → Chained (VolumeLink C) x (above j)
     over-item z x j (k, v, y, c, (d, o, t), f, e) J =
         side-is x k.vertex (pos_item k.item) f e (λ (r : VertexSide). Chained (VolumeLink C) r (above j)) (items-above z k j (v, y, c, (d, o, t.0)) J)

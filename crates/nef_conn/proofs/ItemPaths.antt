@@ -1,12 +1,12 @@
 -- Along a path of even segments within a facet, the ends of each segment in its turn: so the converse comes to single segments.
-use Rattle.nef_conn.proofs.Prelude.{◌≡◌, ℕ, pos, List, ◌∷◌, inl, inr, ⊎_elim, subst, [], Chained, Joined, IsEven, IsEvenPath, Place, Form, form_at, normal_of, slope, toward, Set, Vector, opposite, IsDirection, IsNormal, SameDirection, plane_dir, carriers, FlatDim-one, start-close, flat-way, even-germs, joined-germs, joined-turned, joined-both, reach_all, Item, item_normal, normal-direction, Vertex, Complex, Corner, IsCorner, Shows, item_plane, RayNames, IsFlatIn, between-way, between-start, same-itself, near_point, near-between, flats-carried, flats-one, plane-onward, weight, normal-scaled, facet-behind, FacetLink, through-same, way_inward, NamesFor, NamesOfSegments, ConverseBySegments, zero-decided, dot-zero, level-of_opposite, SameDirection-turned, SameDirection-trans, opposite-same, level-way, direction-right}
+use Rattle.nef_conn.proofs.Prelude.{◌≡◌, ℕ, pos, List, ◌∷◌, inl, inr, ⊎_elim, subst, [], Chained, Joined, IsEven, IsEvenPath, SpacePoint, Form, form_at, normal_of, slope, toward, Set, Vector, opposite, IsDirection, IsNormal, SameDirection, plane_dir, carriers, FlatDim-one, start-close, flat-way, even-germs, joined-germs, joined-turned, joined-both, reach_all, Item, item_normal, normal-direction, Vertex, Complex, Corner, IsCorner, Shows, item_plane, RayNames, IsFlatIn, between-way, between-start, same-itself, near_point, near-between, flats-carried, flats-one, plane-onward, weight, normal-scaled, facet-behind, FacetLink, through-same, way_inward, NamesFor, NamesOfSegments, ItemsBySegments, zero-decided, dot-zero, level-of_opposite, SameDirection-turned, SameDirection-trans, opposite-same, level-way, direction-right}
 use Rattle.nef_conn.proofs.Onward.{level-kept}
 use Rattle.nef_conn.proofs.WayInward.{names-same, dir-level, dir-same}
 use Rattle.nef_conn.proofs.Reached.{items-name}
 use Rattle.nef_conn.proofs.Chain.{chain-both, chain-back}
 
 -- ---- an even segment from a point of a facet stays in its plane
-module _ (s : Set) (h : Form) (r t : Place) (on : form_at h r ≡ pos 0) (F : IsFlatIn s h r) (even : IsEven s 2 r t) where
+module _ (s : Set) (h : Form) (r t : SpacePoint) (on : form_at h r ≡ pos 0) (F : IsFlatIn s h r) (even : IsEven s 2 r t) where
   level-toward : slope h (toward r t) ≡ pos 0
   level-toward = ⊎_elim (λ z. dot-zero (normal_of h) (toward r t) z) (λ i. apart i) (zero-decided (toward r t))
     where
@@ -24,13 +24,13 @@ module _ (s : Set) (h : Form) (r t : Place) (on : form_at h r ≡ pos 0) (F : Is
   even-flat = (even t (inr (inr (same-itself t))), flats-carried s r t (normal_of h) (even-germs s 2 r t even) F.1)
 
 module _ (s : Set) (h : Form) where
-  pub path-on : (rs : List Place) (r q : Place) → form_at h r ≡ pos 0 → IsFlatIn s h r → IsEvenPath s 2 r rs q → form_at h q ≡ pos 0
+  pub path-on : (rs : List SpacePoint) (r q : SpacePoint) → form_at h r ≡ pos 0 → IsFlatIn s h r → IsEvenPath s 2 r rs q → form_at h q ≡ pos 0
   path-on [] r q on F even = even-on s h r q on F even
   path-on (t ∷ rs) r q on F (even, path) = path-on rs t q (even-on s h r t on F even) (even-flat s h r t on F even) path
 
 -- ---- along a path
 module _ (s : Set) (C : Complex) (S : Shows s C) (names : NamesOfSegments s C) (h : Form) (N : IsNormal (normal_of h)) (d : Vector) (inward : SameDirection (opposite (plane_dir (normal_of h))) d) (some : IsDirection d) (level : slope h d ≡ pos 0) where
-  walk : (rs : List Place) (r q : Place) (k l : Corner) → form_at h r ≡ pos 0 → IsFlatIn s h r → RayNames C h r d k → IsEvenPath s 2 r rs q → RayNames C h q d l → Chained (FacetLink C) k l
+  walk : (rs : List SpacePoint) (r q : SpacePoint) (k l : Corner) → form_at h r ≡ pos 0 → IsFlatIn s h r → RayNames C h r d k → IsEvenPath s 2 r rs q → RayNames C h q d l → Chained (FacetLink C) k l
   walk [] r q k l on F a even b = names h d r q k l N on F inward even a b
   walk (t ∷ rs) r q k l on F a (even, path) b =
       let on-t = even-on s h r t on F even in
@@ -40,7 +40,7 @@ module _ (s : Set) (C : Complex) (S : Shows s C) (names : NamesOfSegments s C) (
       let named : RayNames C h t d c = (m.0, m.1, m.2.1) in
       chain-both (FacetLink C) k c l (names h d r t k c N on F inward even a named) (walk rs t q c l on-t G named path b)
 
-module _ (s : Set) (C : Complex) (S : Shows s C) (names : NamesOfSegments s C) (j i : Corner) (v w : Vertex) (x y : Item) (K : IsCorner C j v x) (L : IsCorner C i w y) (p q : Place) (k l : Corner)
+module _ (s : Set) (C : Complex) (S : Shows s C) (names : NamesOfSegments s C) (j i : Corner) (v w : Vertex) (x y : Item) (K : IsCorner C j v x) (L : IsCorner C i w y) (p q : SpacePoint) (k l : Corner)
     (A : NamesFor s C j v x p k) (B : NamesFor s C i w y q l) (J : Joined s p q) where
   abbrev h : Form
   h = item_plane v x
@@ -94,7 +94,7 @@ module _ (s : Set) (C : Complex) (S : Shows s C) (names : NamesOfSegments s C) (
   joined-names = walk s C S names h h-normal (way_inward x) inward (direction-right (opposite (plane_dir (normal_of h))) (way_inward x) inward) level J.1 p q k l A.on_plane A.flat A.named path named-q
 
 -- ---- what the converse comes to
-pub converse-by_segments : ConverseBySegments
+pub converse-by_segments : ItemsBySegments
 converse-by_segments s C S names j i p q a b t =
     let A = items-name s C j a.vertex a.item S a.corner in
     let B = items-name s C i b.vertex b.item S b.corner in

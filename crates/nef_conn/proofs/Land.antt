@@ -1,5 +1,5 @@
 -- What falls from a point b beside a start y, where all between is free: it comes down on the edge through the point y' at which y's own fall ends, or, where that is a vertex of the plane, on the first edge that leaves it, or all is free below.
-use Rattle.nef_conn.proofs.Prelude.{◌≡◌, ℕ, zero, suc, ◌<◌, ℤ, pos, ◌+ℤ◌, ◌*ℤ◌, ◌<ℤ◌, arith, ap, sym, ◌∙◌, ◌⊎◌, inl, inr, ⊎_elim, subst, ints, by_order, mul_pos, plus-of, even-germs, flat-toward, Flat-from_cone, ahead-back, flats-carried, Flat, FlatDim, IsEven, Place, Form, form_at, normal_of, slope, SamePlace, Within, toward, IsBetween, Set, Vector, opposite, dot, cross, triple, IsZero, IsDirection, SameDirection, up, carriers, Drop, IsFlatBelow, FlatDim-one, between-turned, between-inner, ahead, start-close, start-toward, even-until, same-place_sym, reach_all, toward-place, place-toward, Beside, same_way, other_way, beside, turn-last, same-plus, same-minus, IsFlatIn, near_point, near-between, same-by, zero-by, aligned, angle, turn_form, turn-at, angle-turned, angle-self, angle-inside, between-plus, between-minus, cut-at, plane-between, dim-same, plane-ahead, even-by, plane-way, between-way, between-start, between-outer, ahead-close, ahead-toward, dot-zero, triple-dot, triple-turned, SameDirection-turned, SameDirection-trans, dir-self, parallel-in_plane, dot-opposite, opposite-way, opposite-dot, cross-none, opposite-twice, direction-left}
+use Rattle.nef_conn.proofs.Prelude.{◌≡◌, ℕ, zero, suc, ◌<◌, ℤ, pos, ◌+ℤ◌, ◌*ℤ◌, ◌<ℤ◌, arith, ap, sym, ◌∙◌, ◌⊎◌, inl, inr, ⊎_elim, subst, ints, by_order, mul_pos, plus-of, even-germs, flat-toward, Flat-from_cone, ahead-back, flats-carried, Flat, FlatDim, IsEven, SpacePoint, Form, form_at, normal_of, slope, SamePoint, Within, toward, IsBetween, Set, Vector, opposite, dot, cross, triple, IsZero, IsDirection, SameDirection, up, carriers, Drop, IsFlatBelow, FlatDim-one, between-turned, between-inner, ahead, start-close, start-toward, even-until, same-point_sym, reach_all, toward-point, point-toward, Beside, same_way, other_way, beside, turn-last, same-plus, same-minus, IsFlatIn, near_point, near-between, same-by, zero-by, aligned, angle, turn_form, turn-at, angle-turned, angle-self, angle-inside, between-plus, between-minus, cut-at, plane-between, dim-same, plane-ahead, even-by, plane-way, between-way, between-start, between-outer, ahead-close, ahead-toward, dot-zero, triple-dot, triple-turned, SameDirection-turned, SameDirection-trans, dir-self, parallel-in_plane, dot-opposite, opposite-way, opposite-dot, cross-none, opposite-twice, direction-left}
 use Rattle.nef_conn.proofs.Sweep.{minus-any}
 use Rattle.nef_conn.proofs.Fall.{corner-two, corner-wedge, corner-edge, Run, run-edge, run-near, lam-down, lam-chain, lam-self, lam-zero}
 use Rattle.nef_conn.proofs.Near.{Wedge, wedge-of, wedge-way}
@@ -12,7 +12,7 @@ module _ (t : Set) (h : Form) (hn : IsDirection (normal_of h)) (level : slope h 
   n = normal_of h
 
   -- what lies on b's line, and to the left of the way from y to b, lies below b
-  pub below-by : (y b c : Place) → form_at h y ≡ pos 0 → form_at h b ≡ pos 0 → form_at h c ≡ pos 0 → pos 0 <ℤ lam n y b → lam n b c ≡ pos 0 → pos 0 <ℤ angle n y b c → SameDirection (toward b c) (opposite up)
+  pub below-by : (y b c : SpacePoint) → form_at h y ≡ pos 0 → form_at h b ≡ pos 0 → form_at h c ≡ pos 0 → pos 0 <ℤ lam n y b → lam n b c ≡ pos 0 → pos 0 <ℤ angle n y b c → SameDirection (toward b c) (opposite up)
   below-by y b c on-y on-b on-c side line turn = by (beside up (toward b c) up-some some (parallel-in_plane n up (toward b c) hn level (plane-way h b c on-b on-c) line))
     where
       inside : pos 0 <ℤ triple n (toward b c) (toward b y)
@@ -34,7 +34,7 @@ module _ (t : Set) (h : Form) (hn : IsDirection (normal_of h)) (level : slope h 
       by (other_way o) = SameDirection-turned (opposite up) (toward b c) (opposite-way up (toward b c) o)
 
   -- the same lines as seen from another point of y's line
-  pub side-on : (y c b : Place) → lam n y c ≡ pos 0 → pos 0 <ℤ lam n y b → pos 0 <ℤ lam n c b
+  pub side-on : (y c b : SpacePoint) → lam n y c ≡ pos 0 → pos 0 <ℤ lam n y b → pos 0 <ℤ lam n c b
   side-on y c b e l = plain (lam n y b) (lam n c b) (lam-sum n y c b) e l
     where
       plain : (a d : ℤ) → pos c.w *ℤ a ≡ pos b.w *ℤ lam n y c +ℤ pos y.w *ℤ d → lam n y c ≡ pos 0 → pos 0 <ℤ a → pos 0 <ℤ d
@@ -43,22 +43,22 @@ module _ (t : Set) (h : Form) (hn : IsDirection (normal_of h)) (level : slope h 
           let o = ap (λ r. pos b.w *ℤ r) e in
           plus-of (pos y.w) d (let i = y.proper in omega (arith, ints)) (omega (arith, ints))
 
-  line-turned : (y c : Place) → lam n y c ≡ pos 0 → lam n c y ≡ pos 0
+  line-turned : (y c : SpacePoint) → lam n y c ≡ pos 0 → lam n c y ≡ pos 0
   line-turned y c e = let f = lam-turned n y c in omega (arith, ints)
 
-  pub clear-on : (y c b : Place) → lam n y c ≡ pos 0 → Clear t h hn level y b → Clear t h hn level c b
+  pub clear-on : (y c b : SpacePoint) → lam n y c ≡ pos 0 → Clear t h hn level y b → Clear t h hn level c b
   clear-on y c b e clear r vertex on l m = clear r vertex on (side-on c y r (line-turned y c e) l) m
 
   -- from y' to b all points are free
-  module _ (y' b : Place) (on-y' : form_at h y' ≡ pos 0) (on-b : form_at h b ≡ pos 0) (side' : pos 0 <ℤ lam n y' b) (clear' : Clear t h hn level y' b) (to-b : (r : Place) → IsBetween b r y' → FlatDim t r 2) (F : IsFlatIn t h b) where
+  module _ (y' b : SpacePoint) (on-y' : form_at h y' ≡ pos 0) (on-b : form_at h b ≡ pos 0) (side' : pos 0 <ℤ lam n y' b) (clear' : Clear t h hn level y' b) (to-b : (r : SpacePoint) → IsBetween b r y' → FlatDim t r 2) (F : IsFlatIn t h b) where
     -- ---- where what falls from b lands
     pub record Landing (g : Vector) : Type 0 where
-      pub place : Place
+      pub place : SpacePoint
       pub dir : SameDirection (toward y' place) g
       pub on : form_at h place ≡ pos 0
       pub below : SameDirection (toward b place) (opposite up)
-      pub free : (r : Place) → IsBetween b r place → FlatDim t r 2
-      pub edge : (r : Place) → IsBetween y' r place → FlatDim t r 1
+      pub free : (r : SpacePoint) → IsBetween b r place → FlatDim t r 2
+      pub edge : (r : SpacePoint) → IsBetween y' r place → FlatDim t r 1
       pub here : FlatDim t place 1
 
     -- on an edge from y' that runs under b
@@ -74,17 +74,17 @@ module _ (t : Set) (h : Form) (hn : IsDirection (normal_of h)) (level : slope h 
       some-R : IsDirection (toward y' R.place)
       some-R = direction-left (toward y' R.place) g R.dir
 
-      off-y' : (x : Place) → IsBetween b x R.place → SamePlace y' x → ⊥
+      off-y' : (x : SpacePoint) → IsBetween b x R.place → SamePoint y' x → ⊥
       off-y' x m e =
           let p = between-plus (up_line n y') b x R.place m (let f = lam-at n y' b in let l = side' in omega (arith, ints)) (let f = lam-at n y' R.place in let l = beyond in omega (arith, ints)) in
           let f = lam-at n y' x in
-          let z = lam-zero n y' x (place-toward y' x e) in
+          let z = lam-zero n y' x (point-toward y' x e) in
           omega (arith, ints)
         where
           beyond : pos 0 <ℤ lam n y' R.place
           beyond = slope-to n y' b R.place side' R.line
 
-      landing-by : ((x : Place) → IsBetween b x R.place → ((r : Place) → IsBetween x r y' → FlatDim t r 1) → ⊥) → Landing g
+      landing-by : ((x : SpacePoint) → IsBetween b x R.place → ((r : SpacePoint) → IsBetween x r y' → FlatDim t r 1) → ⊥) → Landing g
       landing-by corner = record {
         place = R.place;
         dir = R.dir;
@@ -98,7 +98,7 @@ module _ (t : Set) (h : Form) (hn : IsDirection (normal_of h)) (level : slope h 
       pub land-edge : FlatDim t y' 1 → Landing g
       land-edge one = landing-by (λ x m edge. off-edge x m (corner-edge t y' x (off-y' x m) edge R.place one some-R R.before))
         where
-          off-edge : (x : Place) → IsBetween b x R.place → IsZero (cross (toward y' R.place) (toward y' x)) → ⊥
+          off-edge : (x : SpacePoint) → IsBetween b x R.place → IsZero (cross (toward y' R.place) (toward y' x)) → ⊥
           off-edge x m z =
               let e = turn-at n y' R.place x ∙ dot-zero n (cross (toward y' R.place) (toward y' x)) z in
               let f = turn-at n y' R.place R.place ∙ angle-self n y' R.place in
@@ -112,9 +112,9 @@ module _ (t : Set) (h : Form) (hn : IsDirection (normal_of h)) (level : slope h 
       land-vertex wedge = landing-by (λ x m edge. corner-wedge t y' x (off-y' x m) edge b R.place m wedge)
 
   -- from y, on one line with y', to b, and all points between them free
-  module _ (y y' b : Place) (on-y : form_at h y ≡ pos 0) (on-y' : form_at h y' ≡ pos 0) (on-b : form_at h b ≡ pos 0) (down : SameDirection (toward y y') (opposite up)) (side : pos 0 <ℤ lam n y b) (clear : Clear t h hn level y b)
-      (first : (r : Place) → IsBetween y r b → FlatDim t r 2) (second : (r : Place) → IsBetween y r y' → FlatDim t r 2) (F : IsFlatIn t h b)
-      (start : (x : Place) → (SamePlace y x → ⊥) → ((r : Place) → IsBetween x r y → FlatDim t r 1) → (c : Place) → SameDirection (toward y c) (opposite up) → IsBetween b x c → ⊥) where
+  module _ (y y' b : SpacePoint) (on-y : form_at h y ≡ pos 0) (on-y' : form_at h y' ≡ pos 0) (on-b : form_at h b ≡ pos 0) (down : SameDirection (toward y y') (opposite up)) (side : pos 0 <ℤ lam n y b) (clear : Clear t h hn level y b)
+      (first : (r : SpacePoint) → IsBetween y r b → FlatDim t r 2) (second : (r : SpacePoint) → IsBetween y r y' → FlatDim t r 2) (F : IsFlatIn t h b)
+      (start : (x : SpacePoint) → (SamePoint y x → ⊥) → ((r : SpacePoint) → IsBetween x r y → FlatDim t r 1) → (c : SpacePoint) → SameDirection (toward y c) (opposite up) → IsBetween b x c → ⊥) where
     pub side' : pos 0 <ℤ lam n y' b
     side' = side-on y y' b (lam-down n y y' down) side
 
@@ -122,25 +122,25 @@ module _ (t : Set) (h : Form) (hn : IsDirection (normal_of h)) (level : slope h 
     clear' = clear-on y y' b (lam-down n y y' down) clear
 
     -- to a point of y's line, the way from b is free
-    to-line : (c : Place) → form_at h c ≡ pos 0 → SameDirection (toward y c) (opposite up) → ((r : Place) → IsBetween y r c → FlatDim t r 2) → (r : Place) → IsBetween b r c → FlatDim t r 2
+    to-line : (c : SpacePoint) → form_at h c ≡ pos 0 → SameDirection (toward y c) (opposite up) → ((r : SpacePoint) → IsBetween y r c → FlatDim t r 2) → (r : SpacePoint) → IsBetween b r c → FlatDim t r 2
     to-line c on-c way all = along-start t h hn level y b c on-y on-b on-c way side clear first (inl all) F (λ x m edge. start x (off-start x m) edge c way m)
       where
-        off-start : (x : Place) → IsBetween b x c → SamePlace y x → ⊥
+        off-start : (x : SpacePoint) → IsBetween b x c → SamePoint y x → ⊥
         off-start x m e =
             let p = between-plus (up_line n y) b x c m (let f = lam-at n y b in let l = side in omega (arith, ints)) (let f = lam-at n y c in let l = lam-down n y c way in omega (arith, ints)) in
             let f = lam-at n y x in
-            let z = lam-zero n y x (place-toward y x e) in
+            let z = lam-zero n y x (point-toward y x e) in
             omega (arith, ints)
 
     -- so the way from b to y' is free
-    pub to-b : (r : Place) → IsBetween b r y' → FlatDim t r 2
+    pub to-b : (r : SpacePoint) → IsBetween b r y' → FlatDim t r 2
     to-b = to-line y' on-y' down second
 
     -- close to y', toward y and toward b
-    abbrev pub r0 : Place
+    abbrev pub r0 : SpacePoint
     r0 = near_point t y' y
 
-    abbrev pub q0 : Place
+    abbrev pub q0 : SpacePoint
     q0 = near_point t y' b
 
     some-b : IsDirection (toward y' b)
@@ -173,7 +173,7 @@ module _ (t : Set) (h : Form) (hn : IsDirection (normal_of h)) (level : slope h 
     from-r0 : SameDirection (toward r0 y') (opposite up)
     from-r0 = SameDirection-trans (toward r0 y') (toward y r0) (opposite up) (SameDirection-turned (toward y r0) (toward r0 y') turned-line) to-r0
 
-    before-r0 : (u : Place) → IsBetween y u r0 → FlatDim t u 2
+    before-r0 : (u : SpacePoint) → IsBetween y u r0 → FlatDim t u 2
     before-r0 u m = second u (between-inner y r0 y' u turned-line m)
 
     pub two-q0 : FlatDim t q0 2
@@ -209,7 +209,7 @@ module _ (t : Set) (h : Form) (hn : IsDirection (normal_of h)) (level : slope h 
     flat-q0 : IsFlatIn t h q0
     flat-q0 = (two-q0, flats-carried t b q0 n (even-germs t 2 b q0 even-q0) F.1)
 
-    to-r0-free : (r : Place) → IsBetween b r r0 → FlatDim t r 2
+    to-r0-free : (r : SpacePoint) → IsBetween b r r0 → FlatDim t r 2
     to-r0-free = to-line r0 on-r0 to-r0 before-r0
 
     pub even-r0 : IsEven t 2 b r0
@@ -229,15 +229,15 @@ module _ (t : Set) (h : Form) (hn : IsDirection (normal_of h)) (level : slope h 
         let k = same-minus (angle n b r0 y') (angle n b r0 q0) e (omega (arith, ints)) in
         omega (arith, ints)
 
-    pub even-fan : (u : Place) → IsBetween q0 u r0 → FlatDim t u 2
+    pub even-fan : (u : SpacePoint) → IsBetween q0 u r0 → FlatDim t u 2
     even-fan = along-back t h hn level b q0 r0 on-b on-q0 on-r0 tri-turn side-r0 side-q0 (let f = lam-turned n b q0 in let m = behind-b in omega (arith, ints)) (clear-on y r0 b (lam-down n y r0 to-r0) clear)
         (λ r m. to-b r (between-inner b q0 y' r turned-segment m)) to-r0-free flat-q0 two-r0 (λ x m edge. corner-two t b x (off-b x m) edge F.0)
       where
-        off-b : (x : Place) → IsBetween q0 x r0 → SamePlace b x → ⊥
+        off-b : (x : SpacePoint) → IsBetween q0 x r0 → SamePoint b x → ⊥
         off-b x m e =
             let k = minus-any (up_line n b) q0 x r0 m (let f = lam-at n b q0 in let l = behind-b in omega (arith, ints)) (let f = lam-at n b r0 in let g = lam-turned n r0 b in let l = side-r0 in omega (arith, ints)) in
             let f = lam-at n b x in
-            let z = lam-zero n b x (place-toward b x e) in
+            let z = lam-zero n b x (point-toward b x e) in
             omega (arith, ints)
 
     -- ---- where y' lies on an edge of the plane
@@ -247,7 +247,7 @@ module _ (t : Set) (h : Form) (hn : IsDirection (normal_of h)) (level : slope h 
         K : (g : Vector) × Run t h hn level y' b g
         K = run-edge t h hn level y' b on-y' on-b side' clear' r0 on-r0 from-r0 flat-r0 (λ r m. second r (between-outer y r0 r y' turned-line m)) one
 
-        c : Place
+        c : SpacePoint
         c = K.1.place
 
         line : lam n b K.1.place ≡ pos 0
@@ -257,7 +257,7 @@ module _ (t : Set) (h : Form) (hn : IsDirection (normal_of h)) (level : slope h 
         at-start : pos 0 <ℤ angle n r0 b y'
         at-start = same-plus (lam n r0 b) (angle n r0 b y') (down-turn n (toward r0 b) (toward r0 y') from-r0) side-r0
 
-        clash : (x : Place) → FlatDim t x 1 → FlatDim t x 2 → ⊥
+        clash : (x : SpacePoint) → FlatDim t x 1 → FlatDim t x 2 → ⊥
         clash x f g = let j = FlatDim-one t x 1 2 f g in cc
 
         on-b-line : angle n r0 b K.1.place ≡ pos 0 → ⊥
@@ -268,11 +268,11 @@ module _ (t : Set) (h : Form) (hn : IsDirection (normal_of h)) (level : slope h 
             plus-r0 : pos 0 <ℤ dot (cross n up) (toward r0 b)
             plus-r0 = subst (λ (v : ℤ). pos 0 <ℤ v) (triple-dot n up (toward r0 b)) side-r0
 
-            same-here : SamePlace K.1.place b → ⊥
+            same-here : SamePoint K.1.place b → ⊥
             same-here e = clash b (dim-same t K.1.place b 1 e K.1.here) F.0
 
-            zero-there : IsZero (cross (toward r0 b) (toward K.1.place b)) → SamePlace K.1.place b
-            zero-there m = toward-place K.1.place b (zero-by (opposite (cross n up)) (toward r0 b) (toward K.1.place b) m (let e = opposite-dot (cross n up) (toward r0 b) in let l = plus-r0 in omega (arith, ints))
+            zero-there : IsZero (cross (toward r0 b) (toward K.1.place b)) → SamePoint K.1.place b
+            zero-there m = toward-point K.1.place b (zero-by (opposite (cross n up)) (toward r0 b) (toward K.1.place b) m (let e = opposite-dot (cross n up) (toward r0 b) in let l = plus-r0 in omega (arith, ints))
                 (let e = opposite-dot (cross n up) (toward K.1.place b) in let f = triple-dot n up (toward K.1.place b) in let g = lam-turned n b K.1.place in let l = line in omega (arith, ints)))
 
         over-b : angle n r0 b K.1.place <ℤ pos 0 → ⊥
@@ -280,7 +280,7 @@ module _ (t : Set) (h : Form) (hn : IsDirection (normal_of h)) (level : slope h 
             let k = cut-at (turn_form n r0 b) y' K.1.place (direction-left (toward y' K.1.place) K.0 K.1.dir) (let e = turn-at n r0 b y' in let m = at-start in omega (arith, ints)) (let e = turn-at n r0 b K.1.place in omega (arith, ints)) in
             clash k.place (K.1.before k.place k.between) (to-r0-free k.place (between-turned r0 b k.place (on-way k.place k.between (sym (turn-at n r0 b k.place) ∙ k.level))))
           where
-            on-way : (x : Place) → IsBetween y' x K.1.place → angle n r0 b x ≡ pos 0 → IsBetween r0 x b
+            on-way : (x : SpacePoint) → IsBetween y' x K.1.place → angle n r0 b x ≡ pos 0 → IsBetween r0 x b
             on-way x m e =
                 let on-x = plane-between h y' x K.1.place m on-y' K.1.on in
                 let o = parallel-in_plane n (toward r0 b) (toward r0 x) hn (plane-way h r0 b on-r0 on-b) (plane-way h r0 x on-r0 on-x) e in
@@ -300,15 +300,15 @@ module _ (t : Set) (h : Form) (hn : IsDirection (normal_of h)) (level : slope h 
         under = below-by r0 b K.1.place on-r0 on-b K.1.on side-r0 line (by_order (angle n r0 b K.1.place) (pos 0) (λ l. absurd (over-b l)) (λ e. absurd (on-b-line e)) (λ l. l))
 
   -- ---- where y' is a vertex of the plane, from which all points to b are free
-  module _ (y b : Place) (on-y : form_at h y ≡ pos 0) (on-b : form_at h b ≡ pos 0) (side : pos 0 <ℤ lam n y b) (clear : Clear t h hn level y b) (first : (r : Place) → IsBetween y r b → FlatDim t r 2) (F : IsFlatIn t h b) where
+  module _ (y b : SpacePoint) (on-y : form_at h y ≡ pos 0) (on-b : form_at h b ≡ pos 0) (side : pos 0 <ℤ lam n y b) (clear : Clear t h hn level y b) (first : (r : SpacePoint) → IsBetween y r b → FlatDim t r 2) (F : IsFlatIn t h b) where
     to-b-some : IsDirection (toward y b)
     to-b-some z = let e = lam-zero n y b z in let l = side in omega (arith, ints)
 
     -- close to y, toward b and downward
-    abbrev pub near-b : Place
+    abbrev pub near-b : SpacePoint
     near-b = near_point t y b
 
-    abbrev pub near-down : Place
+    abbrev pub near-down : SpacePoint
     near-down = ahead t y (opposite up)
 
     amid : IsBetween y near-b b
@@ -346,7 +346,7 @@ module _ (t : Set) (h : Form) (hn : IsDirection (normal_of h)) (level : slope h 
 
     pub apart-down : IsDirection (toward near-b near-down)
     apart-down z =
-        let f = lam-chain n y near-down near-b line-down (lam-zero n near-down near-b (place-toward near-down near-b (same-place_sym near-b near-down (toward-place near-b near-down z)))) in
+        let f = lam-chain n y near-down near-b line-down (lam-zero n near-down near-b (point-toward near-down near-b (same-point_sym near-b near-down (toward-point near-b near-down z)))) in
         let l = lam-near in
         omega (arith, ints)
 
@@ -361,9 +361,9 @@ module _ (t : Set) (h : Form) (hn : IsDirection (normal_of h)) (level : slope h 
 
     -- the first direction down from b in which an edge leaves y, and where what falls from b lands on it
     pub record Blocked : Type 0 where
-      pub place : Place
+      pub place : SpacePoint
       pub between : IsBetween near-b place near-down
-      pub before : (r : Place) → IsBetween near-b r place → FlatDim t r 2
+      pub before : (r : SpacePoint) → IsBetween near-b r place → FlatDim t r 2
       pub landing : Landing y b on-y on-b side clear (λ r m. first r (between-turned b y r m)) F (toward y place)
 
     blocked : Drop t 2 near-b near-down → Blocked
@@ -448,5 +448,5 @@ module _ (t : Set) (h : Form) (hn : IsDirection (normal_of h)) (level : slope h 
         land : Landing y b on-y on-b side clear (λ r m. first r (between-turned b y r m)) F (toward y D.at_place)
         land = land-vertex y b on-y on-b side clear (λ r m. first r (between-turned b y r m)) F (toward y D.at_place) turned-run under wedge-R
 
-    pub search : ((r : Place) → IsBetween near-b r near-down → FlatDim t r 2) ⊎ Blocked
+    pub search : ((r : SpacePoint) → IsBetween near-b r near-down → FlatDim t r 2) ⊎ Blocked
     search = ⊎_elim (λ all. inl all) (λ D. inr (blocked D)) (even-until t 2 near-b near-down two-near ((flat-near.1 (toward near-b near-down)).1 (plane-way h near-b near-down on-near on-down)))

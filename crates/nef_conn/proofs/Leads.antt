@@ -1,31 +1,31 @@
 -- The edge that leads from a svertex, seen from there.
-use Rattle.nef_conn.proofs.Prelude.{◌≡◌, ℕ, pos, refl, sym, ◌∙◌, ◌⊎◌, inl, inr, ⊎_elim, subst, Flat, FlatDim, Place, Form, form_at, toward, IsBetween, Set, Vector, opposite, SameDirection, between-turned, At, MapVertex, Arc, arc_item, dir_of, at-one, arc-at, Vertex, Edge, Complex, Corner, HasEnds, IsCorner, Shows, IsEdgePoint, LiesIn, edge-points, edge-way, svertex-edge, cross-back, ahead-back, FacetLink, edge-ways, SameDirection-turned, SameDirection-trans, opposite-same, opposite-way, opposite-twice}
+use Rattle.nef_conn.proofs.Prelude.{◌≡◌, ℕ, pos, refl, sym, ◌∙◌, ◌⊎◌, inl, inr, ⊎_elim, subst, Flat, FlatDim, SpacePoint, Form, form_at, toward, IsBetween, Set, Vector, opposite, SameDirection, between-turned, IsAt, MapVertex, Arc, arc_item, dir_of, at-one, arc-at, Vertex, Edge, Complex, Corner, HasEnds, IsCorner, Shows, IsEdgePoint, LiesIn, edge-points, edge-way, svertex-edge, cross-back, ahead-back, FacetLink, edge-ways, SameDirection-turned, SameDirection-trans, opposite-same, opposite-way, opposite-twice}
 
 -- an edge leads from svertex a of vertex i, which is v, whose svertex u is, to the svertex there_end of the vertex there, which is other
-pub record Leads (s : Set) (C : Complex) (i a : ℕ) (v : Vertex) (u : MapVertex) : Type 0 where
+pub record LeadsFrom (s : Set) (C : Complex) (i a : ℕ) (v : Vertex) (u : MapVertex) : Type 0 where
   pub number : ℕ
   pub edge : Edge
-  pub listed : At C.edges number edge
+  pub listed : IsAt C.edges number edge
   pub there : ℕ
   pub there_end : ℕ
   pub other : Vertex
   pub end : MapVertex
-  pub is_there : At C.vertices there other
-  pub is_end : At other.map.svertices there_end end
+  pub is_there : IsAt C.vertices there other
+  pub is_end : IsAt other.map.svertices there_end end
   pub onward : SameDirection (toward v.point other.point) u.dir
   pub back : SameDirection (opposite u.dir) end.dir
-  pub along : (r : Place) → IsBetween v.point r other.point → FlatDim s r 1 × Flat s r (toward v.point other.point)
+  pub along : (r : SpacePoint) → IsBetween v.point r other.point → FlatDim s r 1 × Flat s r (toward v.point other.point)
   pub which : ((edge.low ≡ i) × (edge.low_svertex ≡ a) × (edge.high ≡ there) × (edge.high_svertex ≡ there_end) × HasEnds C edge v other)
       ⊎ ((edge.high ≡ i) × (edge.high_svertex ≡ a) × (edge.low ≡ there) × (edge.low_svertex ≡ there_end) × HasEnds C edge other v)
 
-module _ (s : Set) (C : Complex) (S : Shows s C) (i a : ℕ) (v : Vertex) (u : MapVertex) (at-i : At C.vertices i v) (at-a : At v.map.svertices a u) where
-  from-low : (n : ℕ) (e : Edge) → At C.edges n e → e.low ≡ i → e.low_svertex ≡ a → Leads s C i a v u
+module _ (s : Set) (C : Complex) (S : Shows s C) (i a : ℕ) (v : Vertex) (u : MapVertex) (at-i : IsAt C.vertices i v) (at-a : IsAt v.map.svertices a u) where
+  from-low : (n : ℕ) (e : Edge) → IsAt C.edges n e → e.low ≡ i → e.low_svertex ≡ a → LeadsFrom s C i a v u
   from-low n e at-n low sv =
       let E = S.edges.edges n e at-n in
       let w = E.high_vertex in
-      let H : HasEnds C e v w = record { low = subst (λ (j : ℕ). At C.vertices j v) (sym low) at-i; high = E.is_high } in
+      let H : HasEnds C e v w = record { low = subst (λ (j : ℕ). IsAt C.vertices j v) (sym low) at-i; high = E.is_high } in
       let W = edge-ways s C S n e v w at-n H in
-      let one = at-one v.map.svertices a W.low u (subst (λ (j : ℕ). At v.map.svertices j W.low) sv W.is_low) at-a in
+      let one = at-one v.map.svertices a W.low u (subst (λ (j : ℕ). IsAt v.map.svertices j W.low) sv W.is_low) at-a in
       record {
         number = n;
         edge = e;
@@ -42,13 +42,13 @@ module _ (s : Set) (C : Complex) (S : Shows s C) (i a : ℕ) (v : Vertex) (u : M
         which = inl (low, sv, refl, refl, H);
       }
 
-  from-high : (n : ℕ) (e : Edge) → At C.edges n e → e.high ≡ i → e.high_svertex ≡ a → Leads s C i a v u
+  from-high : (n : ℕ) (e : Edge) → IsAt C.edges n e → e.high ≡ i → e.high_svertex ≡ a → LeadsFrom s C i a v u
   from-high n e at-n high sv =
       let E = S.edges.edges n e at-n in
       let w = E.low_vertex in
-      let H : HasEnds C e w v = record { low = E.is_low; high = subst (λ (j : ℕ). At C.vertices j v) (sym high) at-i } in
+      let H : HasEnds C e w v = record { low = E.is_low; high = subst (λ (j : ℕ). IsAt C.vertices j v) (sym high) at-i } in
       let W = edge-ways s C S n e w v at-n H in
-      let one = at-one v.map.svertices a W.high u (subst (λ (j : ℕ). At v.map.svertices j W.high) sv W.is_high) at-a in
+      let one = at-one v.map.svertices a W.high u (subst (λ (j : ℕ). IsAt v.map.svertices j W.high) sv W.is_high) at-a in
       let away = opposite-way W.low.dir W.high.dir W.back in
       record {
         number = n;
@@ -67,16 +67,16 @@ module _ (s : Set) (C : Complex) (S : Shows s C) (i a : ℕ) (v : Vertex) (u : M
         which = inr (high, sv, refl, refl, H);
       }
 
-  pub leads : Leads s C i a v u
+  pub leads : LeadsFrom s C i a v u
   leads = by (svertex-edge s C S i a v u at-i at-a)
     where
-      by : ((n : ℕ) × (e : Edge) × At C.edges n e × (((e.low ≡ i) × (e.low_svertex ≡ a)) ⊎ ((e.high ≡ i) × (e.high_svertex ≡ a)))) → Leads s C i a v u
+      by : ((n : ℕ) × (e : Edge) × IsAt C.edges n e × (((e.low ≡ i) × (e.low_svertex ≡ a)) ⊎ ((e.high ≡ i) × (e.high_svertex ≡ a)))) → LeadsFrom s C i a v u
       by (n, e, at-n, inl x) = from-low n e at-n x.0 x.1
       by (n, e, at-n, inr x) = from-high n e at-n x.0 x.1
 
 -- what lies between its ends lies on the edge
-module _ (s : Set) (C : Complex) (i a : ℕ) (v : Vertex) (u : MapVertex) (L : Leads s C i a v u) where
-  pub edge-point : (x : Place) → IsBetween v.point x L.other.point → IsEdgePoint C L.number x
+module _ (s : Set) (C : Complex) (i a : ℕ) (v : Vertex) (u : MapVertex) (L : LeadsFrom s C i a v u) where
+  pub edge-point : (x : SpacePoint) → IsBetween v.point x L.other.point → IsEdgePoint C L.number x
   edge-point x b = by L.which
     where
       by : ((L.edge.low ≡ i) × (L.edge.low_svertex ≡ a) × (L.edge.high ≡ L.there) × (L.edge.high_svertex ≡ L.there_end) × HasEnds C L.edge v L.other)
@@ -97,10 +97,10 @@ module _ (s : Set) (C : Complex) (i a : ℕ) (v : Vertex) (u : MapVertex) (L : L
       → ((c.target ≡ a) × (b.source ≡ L.there_end)) ⊎ ((c.source ≡ a) × (b.target ≡ L.there_end)) → FacetLink C k l ⊎ FacetLink C l k
   link-of n k l c b at-k at-l K M w x o = by L.which
     where
-      at-c : At v.map.arcs k.item c
+      at-c : IsAt v.map.arcs k.item c
       at-c = arc-at v.map.arcs v.map.sloop k.item c K.item
 
-      at-b : At L.other.map.arcs l.item b
+      at-b : IsAt L.other.map.arcs l.item b
       at-b = arc-at L.other.map.arcs L.other.map.sloop l.item b M.item
 
       by : ((L.edge.low ≡ i) × (L.edge.low_svertex ≡ a) × (L.edge.high ≡ L.there) × (L.edge.high_svertex ≡ L.there_end) × HasEnds C L.edge v L.other)

@@ -1,8 +1,8 @@
 -- The order of points: what lies below another point on a line along up comes before it, and so does what lies between two points that do.
-use Rattle.nef_conn.proofs.Prelude.{◌≡◌, ℕ, ◌+◌, ◌<◌, ℤ, pos, ◌+ℤ◌, ◌-ℤ◌, ◌*ℤ◌, ◌<ℤ◌, ◌≤ℤ◌, arith, ap, inl, inr, ◌∷◌, subst, [], ints, at, num, ◌⊕◌, ◌⊖◌, ◌⊗◌, given, none, follows, by_order, mul_pos, mul_nonneg, mul_neg, Place, toward, IsBetween, IsPlaceBelow, Vector, opposite, IsNormal, SameDirection, up, mixed-of, Decided, same-factor, ahead-back, SameDirection-turned, opposite-twice}
+use Rattle.nef_conn.proofs.Prelude.{◌≡◌, ℕ, ◌+◌, ◌<◌, ℤ, pos, ◌+ℤ◌, ◌-ℤ◌, ◌*ℤ◌, ◌<ℤ◌, ◌≤ℤ◌, arith, ap, inl, inr, ◌∷◌, subst, [], ints, at, num, ◌⊕◌, ◌⊖◌, ◌⊗◌, given, none, follows, by_order, mul_pos, mul_nonneg, mul_neg, SpacePoint, toward, IsBetween, IsPointBelow, Vector, opposite, IsNormal, SameDirection, up, mixed-of, Decided, same-factor, ahead-back, SameDirection-turned, opposite-twice}
 use Rattle.nef_conn.proofs.Reached.{toward-normal}
 
-pub normal-below : (p q : Place) → IsNormal (toward p q) → IsPlaceBelow p q
+pub normal-below : (p q : SpacePoint) → IsNormal (toward p q) → IsPointBelow p q
 normal-below p q n = by_order (toward p q).x (pos 0)
     (λ l. let a = n.first in absurd (omega (arith, ints)))
     (λ e. by_order (toward p q).y (pos 0)
@@ -48,7 +48,7 @@ module _ (k i j : ℕ) (sk : 0 < k) (si : 0 < i) (sj : 0 < j) where
   }
 
 -- between two points that come before y
-pub before-between : (y p u q : Place) → IsPlaceBelow p y → IsPlaceBelow q y → IsBetween p u q → IsPlaceBelow u y
+pub before-between : (y p u q : SpacePoint) → IsPointBelow p y → IsPointBelow q y → IsBetween p u q → IsPointBelow u y
 before-between y p u q a b c =
     let m = mixed-of p u q c in
     normal-below u y (normal-sum m.k m.i m.j m.some_k m.some_i m.some_j (toward p y) (toward q y) (toward u y)
@@ -71,11 +71,11 @@ normal-way a b w n =
     one k l x y e = follows (pos k ∷ pos l ∷ x ∷ y ∷ []) ((at 1 ⊕ at 1) ⊗ at 3) (at 0 ⊗ at 2 ⊕ at 0 ⊗ at 2) (given (num (pos 0) ⊖ num (pos 2)) (at 0 ⊗ at 2) (at 1 ⊗ at 3) e none) tt
 
 -- what lies below comes before
-pub down-before : (y r : Place) → SameDirection (toward y r) (opposite up) → IsPlaceBelow r y
+pub down-before : (y r : SpacePoint) → SameDirection (toward y r) (opposite up) → IsPointBelow r y
 down-before y r w = normal-below r y (normal-way up (toward r y) (SameDirection-turned (toward r y) up (subst (λ (v : Vector). SameDirection (toward r y) v) (opposite-twice up) (ahead-back y r (opposite up) w)))
     (record { first = omega (arith, ints); second = λ e. omega (arith, ints); third = λ e f. omega (arith, ints) }))
 
-pub below-decided : (p q : Place) → Decided (IsPlaceBelow p q)
+pub below-decided : (p q : SpacePoint) → Decided (IsPointBelow p q)
 below-decided p q = by_order (p.x *ℤ pos q.w) (q.x *ℤ pos p.w)
     (λ l. inl (inl l))
     (λ e. by_order (p.y *ℤ pos q.w) (q.y *ℤ pos p.w)
@@ -87,16 +87,16 @@ below-decided p q = by_order (p.x *ℤ pos q.w) (q.x *ℤ pos p.w)
     (λ l. inr (λ x. no-y l e x)))
     (λ l. inr (λ x. no-x l x))
   where
-    no-x : (q.x *ℤ pos p.w) <ℤ (p.x *ℤ pos q.w) → IsPlaceBelow p q → ⊥
+    no-x : (q.x *ℤ pos p.w) <ℤ (p.x *ℤ pos q.w) → IsPointBelow p q → ⊥
     no-x l (inl m) = omega (arith, ints)
     no-x l (inr (e, m)) = omega (arith, ints)
 
-    no-y : (q.y *ℤ pos p.w) <ℤ (p.y *ℤ pos q.w) → p.x *ℤ pos q.w ≡ q.x *ℤ pos p.w → IsPlaceBelow p q → ⊥
+    no-y : (q.y *ℤ pos p.w) <ℤ (p.y *ℤ pos q.w) → p.x *ℤ pos q.w ≡ q.x *ℤ pos p.w → IsPointBelow p q → ⊥
     no-y l e (inl m) = omega (arith, ints)
     no-y l e (inr (f, inl m)) = omega (arith, ints)
     no-y l e (inr (f, inr (g, m))) = omega (arith, ints)
 
-    no-z : (q.z *ℤ pos p.w) ≤ℤ (p.z *ℤ pos q.w) → p.x *ℤ pos q.w ≡ q.x *ℤ pos p.w → p.y *ℤ pos q.w ≡ q.y *ℤ pos p.w → IsPlaceBelow p q → ⊥
+    no-z : (q.z *ℤ pos p.w) ≤ℤ (p.z *ℤ pos q.w) → p.x *ℤ pos q.w ≡ q.x *ℤ pos p.w → p.y *ℤ pos q.w ≡ q.y *ℤ pos p.w → IsPointBelow p q → ⊥
     no-z l e f (inl m) = omega (arith, ints)
     no-z l e f (inr (g, inl m)) = omega (arith, ints)
     no-z l e f (inr (g, inr (i, inl m))) = omega (arith, ints)

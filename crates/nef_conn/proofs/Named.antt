@@ -6,7 +6,7 @@
 --   and names the arc at its lower end, which is this one or linked with it along the edge.
 -- * an arc ends at the svertex of d. Then the arc at the other end of the edge is linked with it, has the same plane, and lies further along d, where
 --   the number of its vertex is greater for each such step, or smaller for each. So this comes to an end, by induction on the vertices left.
-use Rattle.nef_conn.proofs.Prelude.{◌≡◌, ℕ, pos, ◌<ℤ◌, sym, ◌∙◌, ◌⊎◌, inl, inr, ⊎_elim, subst, Chained, FlatDim, Place, Form, form_at, normal_of, plane_through, SamePlace, toward, IsBetween, Set, Vector, opposite, dot, triple, IsDirection, SameDirection, plane_dir, SameGerms, FlatDim-by_germs, ahead, joined-germs, joined-turned, joined-both, between-turned, place-toward, At, Arc, Item, arc_item, item_normal, dir_of, OnItem, normal-is, same-plus, same-minus, on-direction, on-level, dir-at, arc-at, turn-same, turn-last, Vertex, Edge, Complex, Corner, HasEnds, IsCorner, Shows, item_plane, PlaneMeet, meets_edge, Meets, IsFirstInPlane, IsArcOnSide, IsCornerAt, IsFlatIn, FlatAre, between-way, between-cases, same-itself, near_point, near-between, flats-carried, plane-ahead, two-off, meets-on, IsInFacetOf, ahead-back, through-at, weight, normal-scaled, through-level, facet-behind, LinkAcross, FacetLink, ahead-toward, even-after, IsTied, tied-both, tied-ahead, facet-near, at-item, item-has_point, one-item, EdgeWays, edge-ways, tied-low, EndsOnSide, end-level, close_way, on-close, tied-close_way, through-same, way_inward, NamesFor, dot-zero, SameDirection-turned, SameDirection-trans, dir-self, opposite-same, level-way, opposite-twice, direction-left, direction-right}
+use Rattle.nef_conn.proofs.Prelude.{◌≡◌, ℕ, pos, ◌<ℤ◌, sym, ◌∙◌, ◌⊎◌, inl, inr, ⊎_elim, subst, Chained, FlatDim, SpacePoint, Form, form_at, normal_of, plane_through, SamePoint, toward, IsBetween, Set, Vector, opposite, dot, triple, IsDirection, SameDirection, plane_dir, SameGerms, FlatDim-by_germs, ahead, joined-germs, joined-turned, joined-both, between-turned, point-toward, IsAt, Arc, Item, arc_item, item_normal, dir_of, OnItem, normal-is, same-plus, same-minus, on-direction, on-level, dir-at, arc-at, turn-same, turn-last, Vertex, Edge, Complex, Corner, HasEnds, IsCorner, Shows, item_plane, PlaneMeet, meets_edge, Meets, IsFirstInPlane, IsArcOnSide, IsCornerAt, IsFlatIn, FlatAre, between-way, between-cases, same-itself, near_point, near-between, flats-carried, plane-ahead, two-off, meets-on, IsInFacetOf, ahead-back, through-at, weight, normal-scaled, through-level, facet-behind, LinkAcross, FacetLink, ahead-toward, even-after, IsTied, tied-both, tied-ahead, facet-near, at-item, item-has_point, one-item, EdgeWays, edge-ways, tied-low, EndsOnSide, end-level, close_way, on-close, tied-close_way, through-same, way_inward, NamesFor, dot-zero, SameDirection-turned, SameDirection-trans, dir-self, opposite-same, level-way, opposite-twice, direction-left, direction-right}
 use Rattle.law_links.proofs.ItemLinks.{items-joined}
 use Rattle.nef_conn.proofs.Chain.{chain-here, chain-before}
 use Rattle.nef_conn.proofs.Onward.{level-kept}
@@ -14,10 +14,10 @@ use Rattle.nef_conn.proofs.SamePlanes.{on-too}
 use Rattle.nef_conn.proofs.WayInward.{names-same, dir-level, dir-some, dir-same}
 
 -- ---- planes
-own-plane : (n : Vector) (p : Place) → form_at (plane_through n p) p ≡ pos 0
-own-plane n p = through-at n p p ∙ dot-zero n (toward p p) (place-toward p p (same-itself p))
+own-plane : (n : Vector) (p : SpacePoint) → form_at (plane_through n p) p ≡ pos 0
+own-plane n p = through-at n p p ∙ dot-zero n (toward p p) (point-toward p p (same-itself p))
 
-flats-in : (s : Set) (q p : Place) (n : Vector) → FlatDim s q 2 → FlatAre s q n → IsFlatIn s (plane_through n p) q
+flats-in : (s : Set) (q p : SpacePoint) (n : Vector) → FlatDim s q 2 → FlatAre s q n → IsFlatIn s (plane_through n p) q
 flats-in s q p n two flat = (two, λ e. let l = through-level n e p in let f = flat e in (λ g. l.0 (f.0 g), λ z. f.1 (l.1 z)))
 
 -- the same side, by the same way
@@ -27,8 +27,8 @@ side-same b t f g a w = ⊎_elim
     (λ r. inr (r.0, same-minus (triple a.normal t f) (triple a.normal t g) (turn-last a.normal t f g w) r.1))
 
 -- a point that does what is claimed of the item
-abbrev pub Reaches : Set → Complex → Corner → Vertex → Item → Type 0
-Reaches s C j v x = (q : Place) × (k : Corner) × NamesFor s C j v x q k × Chained (FacetLink C) j k
+abbrev pub ReachesItem : Set → Complex → Corner → Vertex → Item → Type 0
+ReachesItem s C j v x = (q : SpacePoint) × (k : Corner) × NamesFor s C j v x q k × Chained (FacetLink C) j k
 
 -- ---- from a linked item of the same plane
 module _ (s : Set) (C : Complex) (S : Shows s C) (j : Corner) (v : Vertex) (x : Item) (K : IsCorner C j v x) (i : Corner) (w : Vertex) (y : Item) (L : IsCorner C i w y)
@@ -45,7 +45,7 @@ module _ (s : Set) (C : Complex) (S : Shows s C) (j : Corner) (v : Vertex) (x : 
       let b = through-same (item_normal x) v.point (direction-right (item_normal y) (item_normal x) same) in
       SameDirection-trans (normal_of g) (item_normal y) (normal_of h) (SameDirection-turned (item_normal y) (normal_of g) a) (SameDirection-trans (item_normal y) (item_normal x) (normal_of h) same b)
 
-  pub carried : Reaches s C i w y → Reaches s C j v x
+  pub carried : ReachesItem s C i w y → ReachesItem s C j v x
   carried (q, k, N, chain) =
       let on-q = on-too g h w.point (own-plane (item_normal y) w.point) on one-normal q N.on_plane in (
         q,
@@ -72,13 +72,13 @@ module _ (s : Set) (C : Complex) (S : Shows s C) (j : Corner) (v : Vertex) (x : 
   abbrev n : Vector
   n = item_normal x
 
-  abbrev p : Place
+  abbrev p : SpacePoint
   p = v.point
 
   abbrev d : Vector
   d = way_inward x
 
-  abbrev q : Place
+  abbrev q : SpacePoint
   q = ahead s p d
 
   abbrev plane : Form
@@ -111,10 +111,10 @@ module _ (s : Set) (C : Complex) (S : Shows s C) (j : Corner) (v : Vertex) (x : 
       before : IsBetween p q I.place
       before = SameDirection-trans (toward p q) d (toward q I.place) to-q (SameDirection-turned (toward q I.place) d I.ahead)
 
-      off : (r : Place) (t : PlaneMeet) → IsBetween p r q ⊎ SamePlace r q → Meets C plane t r → ⊥
+      off : (r : SpacePoint) (t : PlaneMeet) → IsBetween p r q ⊎ SamePoint r q → Meets C plane t r → ⊥
       off r t b e = two-off s C S r (even-after s 2 p d F.dim r b) (meets-on s C S plane t r e)
 
-  pub onward-named : Reaches s C j v x
+  pub onward-named : ReachesItem s C j v x
   onward-named =
       let m = found.0 in
       let I = found.1 in
@@ -132,7 +132,7 @@ module _ (s : Set) (C : Complex) (S : Shows s C) (j : Corner) (v : Vertex) (x : 
       )
 
 -- ---- where the arc lies on the side of its edge to which the way back leads: at the lower end of the edge
-module _ (s : Set) (C : Complex) (S : Shows s C) (i : ℕ) (e : Edge) (at-i : At C.edges i e) (v w : Vertex) (H : HasEnds C e v w) (k : Corner) (c : Arc) (K : IsCorner C k v (arc_item c)) (low : k.vertex ≡ e.low) where
+module _ (s : Set) (C : Complex) (S : Shows s C) (i : ℕ) (e : Edge) (at-i : IsAt C.edges i e) (v w : Vertex) (H : HasEnds C e v w) (k : Corner) (c : Arc) (K : IsCorner C k v (arc_item c)) (low : k.vertex ≡ e.low) where
   abbrev W : EdgeWays e v w
   W = edge-ways s C S i e v w at-i H
 
@@ -142,10 +142,10 @@ module _ (s : Set) (C : Complex) (S : Shows s C) (i : ℕ) (e : Edge) (at-i : At
   abbrev f : Vector
   f = opposite (way_inward (arc_item c))
 
-  abbrev z : Place
+  abbrev z : SpacePoint
   z = near_point s v.point w.point
 
-  abbrev y : Place
+  abbrev y : SpacePoint
   y = ahead s z f
 
   abbrev sheet : Form
@@ -226,7 +226,7 @@ module _ (s : Set) (C : Complex) (S : Shows s C) (i : ℕ) (e : Edge) (at-i : At
     corner-met : IsCornerAt C sheet f (meets_edge i) k
     corner-met = (e, v, c, at-i, low, H.low, arc-at v.map.arcs v.map.sloop k.item c K.item, through-same c.normal v.point n-some, on-side)
 
-    pub edge-named : Reaches s C k v (arc_item c)
+    pub edge-named : ReachesItem s C k v (arc_item c)
     edge-named = (
       y,
       k,

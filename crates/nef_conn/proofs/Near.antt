@@ -1,5 +1,5 @@
 -- What lies above a point of the skeleton, and above what leaves it in the first direction down from up that isn't free, is linked.
-use Rattle.nef_conn.proofs.Prelude.{◌≡◌, ℕ, ◌+◌, ◌*◌, ◌<◌, ◌≤◌, ℤ, pos, ◌+ℤ◌, ◌*ℤ◌, ◌<ℤ◌, arith, refl, ap, sym, ◌∙◌, inl, ⊎_elim, ◌∷◌, subst, [], ints, mul-pos, sign, ring, at, num, ◌⊕◌, ◌⊗◌, given, none, follows, product-off, Chained, FlatDim, Place, toward, IsBetween, Set, Vector, blend, dot, IsZero, IsDirection, SameDirection, up, FlatDim-one, ahead, same-factor, factor-same, same-nought, forms, SameSigns, At, Item, items, item_normal, item_pos, OnItem, Shaped, item-forms, normal-form, on-level, PlaceOf, svertex_place, item_place, free_place, place_of, far-keeps, far-level, dot-comb, same-plus, Vertex, Complex, Corner, Shows, VertexSide, near_point, near-between, near-one, dim-same, VolumeLink, IsUpright, free-dim, sees-pos, ahead-toward, ahead-way, dim-cell, even-after, IsTied, nought-or, vector-same, SameDirection-turned, SameDirection-trans, direction-left, blend-turned}
+use Rattle.nef_conn.proofs.Prelude.{◌≡◌, ℕ, ◌+◌, ◌*◌, ◌<◌, ◌≤◌, ℤ, pos, ◌+ℤ◌, ◌*ℤ◌, ◌<ℤ◌, arith, refl, ap, sym, ◌∙◌, inl, ⊎_elim, ◌∷◌, subst, [], ints, mul-pos, sign, ring, at, num, ◌⊕◌, ◌⊗◌, given, none, follows, product-off, Chained, FlatDim, SpacePoint, toward, IsBetween, Set, Vector, blend, dot, IsZero, IsDirection, SameDirection, up, FlatDim-one, ahead, same-factor, factor-same, same-nought, forms, SameSigns, IsAt, Item, items, item_normal, item_pos, OnItem, Shaped, item-forms, normal-form, on-level, PlaceOf, svertex_place, item_place, free_place, place_of, far-keeps, far-level, dot-comb, same-plus, Vertex, Complex, Corner, Shows, VertexSide, near_point, near-between, near-one, dim-same, VolumeLink, IsUpright, free-dim, sees-pos, ahead-toward, ahead-way, dim-cell, even-after, IsTied, nought-or, vector-same, SameDirection-turned, SameDirection-trans, direction-left, blend-turned}
 use Rattle.nef_conn.proofs.AtSides.{ahead-zero}
 use Rattle.nef_conn.proofs.Chain.{chain-both}
 use Rattle.nef_conn.proofs.Fans.{IsOff, fan}
@@ -9,11 +9,11 @@ use Rattle.nef_conn.proofs.Touch.{bound, Frame, Touch, same-seers, touched, turn
 
 -- ---- wedges
 -- all directions between f and g are free
-abbrev pub Wedge : Set → ℕ → Place → Vector → Vector → Type 0
+abbrev pub Wedge : Set → ℕ → SpacePoint → Vector → Vector → Type 0
 Wedge s k y f g = (i j : ℕ) → 0 < i → 0 < j → FlatDim s (ahead s y (blend i f j g)) k
 
 -- the same between directions of the same ways
-pub wedge-way : (s : Set) (k : ℕ) (y : Place) (f f' g g' : Vector) → SameDirection f f' → SameDirection g g' → ((i j : ℕ) → 0 < i → 0 < j → IsDirection (blend i f' j g')) → Wedge s k y f g → Wedge s k y f' g'
+pub wedge-way : (s : Set) (k : ℕ) (y : SpacePoint) (f f' g g' : Vector) → SameDirection f f' → SameDirection g g' → ((i j : ℕ) → 0 < i → 0 < j → IsDirection (blend i f' j g')) → Wedge s k y f g → Wedge s k y f' g'
 wedge-way s k y f f' g g' w v some all i j si sj =
     let a = same-factor f f' w in
     let b = same-factor g g' v in
@@ -46,11 +46,11 @@ wedge-way s k y f f' g g' w v some all i j si sj =
         cancel m sm a b e z = ⊎_elim (λ n. n) (λ n. absurd (product-off (pos m) b (omega (arith, ints)) n (sym e ∙ ap (λ r. pos 1 *ℤ r) z ∙ refl))) (nought-or b)
 
 -- between two points close to y, on which all are as flat
-pub wedge-of : (s : Set) (k : ℕ) (y p q : Place) → IsOff s y p → IsOff s y q → IsDirection (toward p q) → ((r : Place) → IsBetween p r q → FlatDim s r k) → Wedge s k y (toward y p) (toward y q)
+pub wedge-of : (s : Set) (k : ℕ) (y p q : SpacePoint) → IsOff s y p → IsOff s y q → IsDirection (toward p q) → ((r : SpacePoint) → IsBetween p r q → FlatDim s r k) → Wedge s k y (toward y p) (toward y q)
 wedge-of s k y p q a b d all = fan s k y p q a b d all
 
 -- m g + f and f
-pub wedge-on : (s : Set) (k : ℕ) (y : Place) (f g : Vector) (m : ℕ) → 0 < m → Wedge s k y f g → FlatDim s (ahead s y (blend m g 1 f)) k × Wedge s k y f (blend m g 1 f)
+pub wedge-on : (s : Set) (k : ℕ) (y : SpacePoint) (f g : Vector) (m : ℕ) → 0 < m → Wedge s k y f g → FlatDim s (ahead s y (blend m g 1 f)) k × Wedge s k y f (blend m g 1 f)
 wedge-on s k y f g m sm all = (subst (λ (v : Vector). FlatDim s (ahead s y v) k) (blend-turned 1 m f g) (all 1 m (omega arith) sm), λ i j si sj. subst (λ (v : Vector). FlatDim s (ahead s y v) k) (both i j) (all (i + j) (j * m) (omega arith) (mul-pos sj sm)))
   where
     one : (i j : ℕ) (x z : ℤ) → pos (i + j) *ℤ x +ℤ pos (j * m) *ℤ z ≡ pos i *ℤ x +ℤ pos j *ℤ (pos m *ℤ z +ℤ pos 1 *ℤ x)
@@ -66,12 +66,12 @@ module _ (s : Set) (C : Complex) (S : Shows s C) (upright : IsUpright C) where
   Above g f = (n : Vector) → dot n g ≡ pos 0 → sign (dot n f) ≡ sign (dot n up)
 
   -- toward what lies in a facet an item of the vertex lies, and what touches between it and such an f is linked with its upper side
-  pub record Slot (y : Place) (F : Frame s C y) (g : Vector) : Type 0 where
+  pub record Slot (y : SpacePoint) (F : Frame s C y) (g : Vector) : Type 0 where
     pub corner : Corner
     pub item : ItemAt s C S (ahead s y g) corner
     pub links : (f : Vector) → Above g f → (x : VertexSide) (m : ℕ) → bound s F.vertex f ≤ m → Touch s C y F x (blend m g 1 f) → Chained (VolumeLink C) x (above corner)
 
-  module _ (y : Place) (F : Frame s C y) (g : Vector) (two : FlatDim s (ahead s y g) 2) where
+  module _ (y : SpacePoint) (F : Frame s C y) (g : Vector) (two : FlatDim s (ahead s y g) 2) where
     abbrev v : Vertex
     v = F.vertex
 
@@ -93,7 +93,7 @@ module _ (s : Set) (C : Complex) (S : Shows s C) (upright : IsUpright C) where
     V : Shaped v.map
     V = (S.cones F.number v F.listed).valid.shaped
 
-    by-item : (k : ℕ) (x : Item) → At (items v.map) k x → OnItem v.map x a → Slot y F g
+    by-item : (k : ℕ) (x : Item) → IsAt (items v.map) k x → OnItem v.map x a → Slot y F g
     by-item k x h on = record {
       corner = record { vertex = F.number; item = k };
       item = (v, x, record { vertex = F.listed; item = h }, (a, on, tied.0));
@@ -143,7 +143,7 @@ module _ (s : Set) (C : Complex) (S : Shows s C) (upright : IsUpright C) where
             let e = FlatDim-one s m 1 2 one (even-after s 2 v.point a two-there m (inl b)) in absurd (omega arith)
 
   -- what touches toward f is linked with the upper side of the item in the first direction that isn't free
-  pub to-slot : (y : Place) (F : Frame s C y) (g : Vector) (two : FlatDim s (ahead s y g) 2) (f : Vector) → Above g f → FlatDim s (ahead s y f) 3 → Wedge s 3 y f g → (x : VertexSide) → Touch s C y F x f → Chained (VolumeLink C) x (above (slot y F g two).corner)
+  pub to-slot : (y : SpacePoint) (F : Frame s C y) (g : Vector) (two : FlatDim s (ahead s y g) 2) (f : Vector) → Above g f → FlatDim s (ahead s y f) 3 → Wedge s 3 y f g → (x : VertexSide) → Touch s C y F x f → Chained (VolumeLink C) x (above (slot y F g two).corner)
   to-slot y F g two f up-side free all x T =
       let m = bound s F.vertex f + 1 in
       let w = wedge-on s 3 y f g m (omega arith) all in

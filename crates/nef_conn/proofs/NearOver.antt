@@ -1,5 +1,5 @@
 -- Sides above the two ends' views of an edge are linked; so what lies above a vertex or an edge is linked with what lies above the edge or facet that leaves it in the first direction, down from up, that isn't free.
-use Rattle.nef_conn.proofs.Prelude.{◌≡◌, ℕ, zero, suc, ◌<◌, ℤ, pos, ◌<ℤ◌, ◌≤ℤ◌, arith, refl, sym, ◌∙◌, inl, inr, ⊎_elim, subst, ints, mul_pos, mul_nonneg, Chained, Flat, FlatDim, Place, plane_through, toward, IsBetween, Set, Vector, blend, dot, cross, IsZero, IsDirection, SameDirection, up, Drop, IsFlatBelow, FlatDim-one, FlatDim-by_germs, dir-at, Decided, decided-or, ahead, near-ahead, even-until, flat-nearby, flat-toward, span-1, Flat-from_cone, FlatCone-from_flat, near-of_flat, toward-place, At, MapVertex, Arc, arc_item, around_svertex, HasArc, Shaped, dir_of, at-arc, search_list, dot-comb, normal-is, same-plus, sees-around, Vertex, Edge, Complex, HasEnds, IsCorner, Shows, VertexSide, edge-points, through-at, between-plus, dim-same, between-start, VolumeLink, around_ends, IsUpright, EdgeWays, edge-ways, tied-low, tied-high, end-level, close_way, on-close, tied-close_way, corner_of, facet-near, level-opposite, ahead-close, ahead-toward, tied-turned, tied-both, tied-ahead, AreLinkedWhereJoined, EndsAt, dot-zero, SameDirection-turned, dir-self, dir-signs, in-span, opposite-turned, parallel-trans, level-way, direction-left, direction-right, eq-decided}
+use Rattle.nef_conn.proofs.Prelude.{◌≡◌, ℕ, zero, suc, ◌<◌, ℤ, pos, ◌<ℤ◌, ◌≤ℤ◌, arith, refl, sym, ◌∙◌, inl, inr, ⊎_elim, subst, ints, mul_pos, mul_nonneg, Chained, Flat, FlatDim, SpacePoint, plane_through, toward, IsBetween, Set, Vector, blend, dot, cross, IsZero, IsDirection, SameDirection, up, Drop, IsFlatBelow, FlatDim-one, FlatDim-by_germs, dir-at, Decided, decided-or, ahead, near-ahead, even-until, flat-nearby, flat-toward, span-1, Flat-from_cone, FlatCone-from_flat, near-of_flat, toward-point, IsAt, MapVertex, Arc, arc_item, around_svertex, HasArc, Shaped, dir_of, at-arc, search_list, dot-comb, normal-is, same-plus, sees-around, Vertex, Edge, Complex, HasEnds, IsCorner, Shows, VertexSide, edge-points, through-at, between-plus, dim-same, between-start, VolumeLink, around_ends, IsUpright, EdgeWays, edge-ways, tied-low, tied-high, end-level, close_way, on-close, tied-close_way, corner_of_numbers, facet-near, level-opposite, ahead-close, ahead-toward, tied-turned, tied-both, tied-ahead, AreLinkedWhereJoined, EndsAt, dot-zero, SameDirection-turned, dir-self, dir-signs, in-span, opposite-turned, parallel-trans, level-way, direction-left, direction-right, eq-decided}
 use Rattle.nef_conn.proofs.Onward.{side-of}
 use Rattle.nef_conn.proofs.FirstMet.{all-flat}
 use Rattle.nef_conn.proofs.Chain.{chain-both, chain-back, chain-one}
@@ -22,7 +22,7 @@ blend-rises n f g i j si a b z =
 
 module _ (s : Set) (C : Complex) (S : Shows s C) (upright : IsUpright C) (linked : AreLinkedWhereJoined s C) where
   -- ---- the two views of an edge
-  module _ (k : ℕ) (e : Edge) (v w : Vertex) (a : At C.edges k e) (H : HasEnds C e v w) (z : Place) (b : IsBetween v.point z w.point) (free : FlatDim s (ahead s z up) 3) where
+  module _ (k : ℕ) (e : Edge) (v w : Vertex) (a : IsAt C.edges k e) (H : HasEnds C e v w) (z : SpacePoint) (b : IsBetween v.point z w.point) (free : FlatDim s (ahead s z up) 3) where
     abbrev W : EdgeWays e v w
     W = edge-ways s C S k e v w a H
 
@@ -41,7 +41,7 @@ module _ (s : Set) (C : Complex) (S : Shows s C) (upright : IsUpright C) (linked
     flat-d : Flat s z D
     flat-d = let E = edge-points s C k e v w z S a H b in (E.1 D).1 (same-parallel W.is_low)
       where
-        same-parallel : At v.map.svertices e.low_svertex W.low → IsZero (cross (dir_of v.map.svertices e.low_svertex) D)
+        same-parallel : IsAt v.map.svertices e.low_svertex W.low → IsZero (cross (dir_of v.map.svertices e.low_svertex) D)
         same-parallel h = subst (λ (r : Vector). IsZero (cross r D)) (sym (dir-at v.map.svertices e.low_svertex W.low h)) (let o = dir-self D d-some in o.parallel)
 
     module _ (x y : VertexSide) (T : Touch s C z low-frame x up) (U : Touch s C z high-frame y up) where
@@ -55,10 +55,10 @@ module _ (s : Set) (C : Complex) (S : Shows s C) (upright : IsUpright C) (linked
           (chain-back (VolumeLink C) y (above R.corner) (to-slot s C S upright z high-frame g two up (λ p q. refl) free all y U)))
 
       module _ (n h : Vector) (along : dot n D ≡ pos 0) (level : dot n h ≡ pos 0) (high : pos 0 <ℤ dot n up) (some : IsDirection h) (two : FlatDim s (ahead s z h) 2) where
-        abbrev P : Place
+        abbrev P : SpacePoint
         P = ahead s z up
 
-        abbrev Q : Place
+        abbrev Q : SpacePoint
         Q = ahead s z h
 
         to-P : SameDirection (toward z P) up
@@ -68,7 +68,7 @@ module _ (s : Set) (C : Complex) (S : Shows s C) (upright : IsUpright C) (linked
         to-Q = ahead-toward s z h some
 
         apart : IsDirection (toward P Q)
-        apart o = let e = FlatDim-one s Q 3 2 (dim-same s P Q 3 (toward-place P Q o) free) two in absurd (omega arith)
+        apart o = let e = FlatDim-one s Q 3 2 (dim-same s P Q 3 (toward-point P Q o) free) two in absurd (omega arith)
 
         level-Q : dot n (toward z Q) ≡ pos 0
         level-Q = level-way n h (toward z Q) (SameDirection-turned (toward z Q) h to-Q) level
@@ -76,7 +76,7 @@ module _ (s : Set) (C : Complex) (S : Shows s C) (upright : IsUpright C) (linked
         high-P : pos 0 <ℤ dot n (toward z P)
         high-P = same-plus (dot n up) (dot n (toward z P)) (dir-signs up (toward z P) n up-some (SameDirection-turned (toward z P) up to-P)) high
 
-        from : (q : Place) → IsOff s z q → IsDirection (toward z q) → pos 0 ≤ℤ dot n (toward z q) → IsDirection (toward P q) → ((r : Place) → IsBetween P r q → FlatDim s r 3) → FlatDim s (ahead s z (toward z q)) 2 → Chained (VolumeLink C) x y
+        from : (q : SpacePoint) → IsOff s z q → IsDirection (toward z q) → pos 0 ≤ℤ dot n (toward z q) → IsDirection (toward P q) → ((r : SpacePoint) → IsBetween P r q → FlatDim s r 3) → FlatDim s (ahead s z (toward z q)) 2 → Chained (VolumeLink C) x y
         from q off i l j all dim = by-first (toward z q) dim
             (wedge-way s 3 z (toward z P) up (toward z q) (toward z q) to-P (dir-self (toward z q) i) (λ c d sc sd. blend-rises n up (toward z q) c d sc high l)
             (wedge-of s 3 z P q (off-ahead s z up) off j all))
@@ -87,13 +87,13 @@ module _ (s : Set) (C : Complex) (S : Shows s C) (upright : IsUpright C) (linked
             let off = off-between s z P q Q (off-ahead s z up) (off-ahead s z h) X.between in
             from q off (rises-some q (risen q X.between)) (let l = risen q X.between in omega (arith, ints)) (between-start P q Q X.between) X.even_before (dim q off (risen q X.between) X.drops)
           where
-            risen : (q : Place) → IsBetween P q Q → pos 0 <ℤ dot n (toward z q)
+            risen : (q : SpacePoint) → IsBetween P q Q → pos 0 <ℤ dot n (toward z q)
             risen q c = subst (λ (r : ℤ). pos 0 <ℤ r) (through-at n z q) (between-plus (plane_through n z) P q Q c (subst (λ (r : ℤ). pos 0 <ℤ r) (sym (through-at n z P)) high-P) (let g = through-at n z Q in let l = level-Q in omega (arith, ints)))
 
-            rises-some : (q : Place) → pos 0 <ℤ dot n (toward z q) → IsDirection (toward z q)
+            rises-some : (q : SpacePoint) → pos 0 <ℤ dot n (toward z q) → IsDirection (toward z q)
             rises-some q l o = let g = dot-zero n (toward z q) o in omega (arith, ints)
 
-            dim : (q : Place) → IsOff s z q → pos 0 <ℤ dot n (toward z q) → IsFlatBelow s 3 q → FlatDim s (ahead s z (toward z q)) 2
+            dim : (q : SpacePoint) → IsOff s z q → pos 0 <ℤ dot n (toward z q) → IsFlatBelow s 3 q → FlatDim s (ahead s z (toward z q)) 2
             dim q off l (j, m, f) = by j m (off-dim s z q j off f)
               where
                 way : Flat s (ahead s z (toward z q)) (toward z (ahead s z (toward z q)))
@@ -124,9 +124,9 @@ module _ (s : Set) (C : Complex) (S : Shows s C) (upright : IsUpright C) (linked
             (even-until s 3 P Q free (all-flat s P free (toward P Q)))
 
       -- by an arc at one end
-      low-arc : (i : ℕ) (c : Arc) → At v.map.arcs i c → EndsAt c e.low_svertex → Chained (VolumeLink C) x y
+      low-arc : (i : ℕ) (c : Arc) → IsAt v.map.arcs i c → EndsAt c e.low_svertex → Chained (VolumeLink C) x y
       low-arc i c h o =
-          let j = corner_of e.low i in
+          let j = corner_of_numbers e.low i in
           let K : IsCorner C j v (arc_item c) = record { vertex = H.low; item = at-arc v.map.arcs v.map.sloop i c h } in
           let some = normal-is (S.cones e.low v H.low).valid.shaped i (arc_item c) K.item in
           let level = end-level s C S j v c K e.low_svertex W.low W.is_low o in
@@ -137,9 +137,9 @@ module _ (s : Set) (C : Complex) (S : Shows s C) (upright : IsUpright C) (linked
           by-facet c.normal F.dir level F.level (upright j v (arc_item c) K) F.some
           (tied-dim s (ahead s v.point (close_way s C S j v c K e.low_svertex W.low W.is_low F.dir)) (ahead s z F.dir) 2 (tied-turned s (ahead s z F.dir) (ahead s v.point (close_way s C S j v c K e.low_svertex W.low W.is_low F.dir)) t) G.dim)
 
-      high-arc : (i : ℕ) (c : Arc) → At w.map.arcs i c → EndsAt c e.high_svertex → Chained (VolumeLink C) x y
+      high-arc : (i : ℕ) (c : Arc) → IsAt w.map.arcs i c → EndsAt c e.high_svertex → Chained (VolumeLink C) x y
       high-arc i c h o =
-          let j = corner_of e.high i in
+          let j = corner_of_numbers e.high i in
           let K : IsCorner C j w (arc_item c) = record { vertex = H.high; item = at-arc w.map.arcs w.map.sloop i c h } in
           let some = normal-is (S.cones e.high w H.high).valid.shaped i (arc_item c) K.item in
           let level = end-level s C S j w c K e.high_svertex W.high W.is_high o in

@@ -1,5 +1,5 @@
 -- The number of components is one: of two lists with a point of each component, each point of the one is joined to just one of the other.
-use Rattle.nef_conn.proofs.Prelude.{◌≡◌, ℕ, zero, suc, ◌<◌, ◌≤◌, arith, refl, ◌⊎◌, inl, inr, ⊎_elim, List, length, subst, cases_order, Joined, Place, Set, joined-both, joined-turned, At, at-one, AreComponents, OneCount}
+use Rattle.nef_conn.proofs.Prelude.{◌≡◌, ℕ, zero, suc, ◌<◌, ◌≤◌, arith, refl, ◌⊎◌, inl, inr, ⊎_elim, List, length, subst, cases_order, Joined, SpacePoint, Set, joined-both, joined-turned, IsAt, at-one, AreComponents, OneCount}
 use Rattle.nef_conn.proofs.Counted.{at-some}
 use Rattle.nef_conn.proofs.Reached.{within}
 
@@ -31,9 +31,9 @@ fits (suc m) (suc n) R f g = let rest = fits m n (Kept R m n last.0) found apart
     apart i k j (l, inr (a, e)) (h, inl b) = let z = g k m last.0 (subst (λ (r : ℕ). R k r) e b) last.2 in absurd (omega (arith, h, z))
     apart i k j (l, inr (a, e)) (h, inr (b, d)) = g i k n a b
 
-module _ (s : Set) (d : ℕ) (ps qs : List Place) (A : AreComponents s d ps) (B : AreComponents s d qs) where
+module _ (s : Set) (d : ℕ) (ps qs : List SpacePoint) (A : AreComponents s d ps) (B : AreComponents s d qs) where
   abbrev Meets : ℕ → ℕ → Type 0
-  Meets i j = (p : Place) × (q : Place) × At ps i p × At qs j q × Joined s p q
+  Meets i j = (p : SpacePoint) × (q : SpacePoint) × IsAt ps i p × IsAt qs j q × Joined s p q
 
   no-more : length ps ≤ length qs
   no-more = fits (length ps) (length qs) Meets found apart
@@ -46,7 +46,7 @@ module _ (s : Set) (d : ℕ) (ps qs : List Place) (A : AreComponents s d ps) (B 
 
       apart : (i k j : ℕ) → Meets i j → Meets k j → i ≡ k
       apart i k j (p, q, a, b, J) (r, t, c, e, K) =
-          A.apart i k p r a c (joined-both s p q r J (joined-turned s r q (subst (λ (u : Place). Joined s r u) (at-one qs j t q e b) K)))
+          A.apart i k p r a c (joined-both s p q r J (joined-turned s r q (subst (λ (u : SpacePoint). Joined s r u) (at-one qs j t q e b) K)))
 
 -- THERE IS ONE NUMBER OF COMPONENTS
 pub one-count : OneCount

@@ -1,5 +1,5 @@
 -- Sides above one place, or above points of one edge or one facet, are linked.
-use Rattle.nef_conn.proofs.Prelude.{◌≡◌, ℕ, ◌≤◌, arith, ap, sym, ◌∙◌, ◌⊎◌, inl, inr, ⊎_elim, List, subst, sign, Chained, Flat, FlatDim, Joined, IsEven, Place, SamePlace, toward, IsBetween, Set, Vector, blend, dot, cross, opposite, IsZero, IsDirection, IsNormal, SameDirection, zero_vector, up, carriers, FlatDim-one, Flat-by_germs, between-turned, between-inner, ahead, even-germs, signs-same, same-place_sym, toward-place, between-same, same-nought, forms, SameSigns, At, pos_item, Beside, same_way, other_way, beside, normals-not_opposite, amount, far-keeps, far-level, at-one, Vertex, Edge, Complex, HasEnds, Shows, VertexSide, edge-points, edge-way, ahead-back, dim-same, between-way, between-cases, same-itself, same-place_trans, VolumeLink, edge-ways, normal-direction, flat_dim-of, facet-near, joined-even, tied-turned, even-cell, AreLinkedWhereJoined, joined-both, nought-or, zero-decided, SameDirection-turned, SameDirection-trans, dir-self, dir-signs, opposite-turned, opposite-way, direction-left}
+use Rattle.nef_conn.proofs.Prelude.{◌≡◌, ℕ, ◌≤◌, arith, ap, sym, ◌∙◌, ◌⊎◌, inl, inr, ⊎_elim, List, subst, sign, Chained, Flat, FlatDim, Joined, IsEven, SpacePoint, SamePoint, toward, IsBetween, Set, Vector, blend, dot, cross, opposite, IsZero, IsDirection, IsNormal, SameDirection, zero_vector, up, carriers, FlatDim-one, Flat-by_germs, between-turned, between-inner, ahead, even-germs, signs-same, same-point_sym, toward-point, between-same, same-nought, forms, SameSigns, IsAt, pos_item, Beside, same_way, other_way, beside, normals-not_opposite, amount, far-keeps, far-level, at-one, Vertex, Edge, Complex, HasEnds, Shows, VertexSide, edge-points, edge-way, ahead-back, dim-same, between-way, between-cases, same-itself, same-point_trans, VolumeLink, edge-ways, normal-direction, flat_dim-of, facet-near, joined-even, tied-turned, even-cell, AreLinkedWhereJoined, joined-both, nought-or, zero-decided, SameDirection-turned, SameDirection-trans, dir-self, dir-signs, opposite-turned, opposite-way, direction-left}
 use Rattle.nef_conn.proofs.OneNamed.{one-vertex}
 use Rattle.nef_conn.proofs.SameRay.{on-ray}
 use Rattle.nef_conn.proofs.Hits.{OverVertex, OverEdge, OverFacet, Over, over-item, side-is}
@@ -16,9 +16,9 @@ ways-same gs d e f k l w h i g m = ⊎_elim
     (nought-or (dot g d))
 
 -- ---- the lower ends of two edges on one line
-module _ (s : Set) (v w z v' w' z' : Place) (b : IsBetween v z w) (b' : IsBetween v' z' w') (same : SameDirection (toward v w) (toward v' w'))
-    (all : (r : Place) → IsBetween v r w → FlatDim s r 1) (all' : (r : Place) → IsBetween v' r w' → FlatDim s r 1) (zero : FlatDim s v 0) (zero' : FlatDim s v' 0) where
-  one-zero : (r : Place) → FlatDim s r 1 → FlatDim s r 0 → ⊥
+module _ (s : Set) (v w z v' w' z' : SpacePoint) (b : IsBetween v z w) (b' : IsBetween v' z' w') (same : SameDirection (toward v w) (toward v' w'))
+    (all : (r : SpacePoint) → IsBetween v r w → FlatDim s r 1) (all' : (r : SpacePoint) → IsBetween v' r w' → FlatDim s r 1) (zero : FlatDim s v 0) (zero' : FlatDim s v' 0) where
+  one-zero : (r : SpacePoint) → FlatDim s r 1 → FlatDim s r 0 → ⊥
   one-zero r f g = let e = FlatDim-one s r 1 0 f g in absurd (omega arith)
 
   to-low : SameDirection (toward z v) (opposite (toward v w))
@@ -27,14 +27,14 @@ module _ (s : Set) (v w z v' w' z' : Place) (b : IsBetween v z w) (b' : IsBetwee
   to-low' : SameDirection (toward z' v') (opposite (toward v w))
   to-low' = ahead-back v' z' (toward v w) (SameDirection-trans (toward v' z') (toward v' w') (toward v w) (between-way v' z' w' b') (SameDirection-turned (toward v w) (toward v' w') same))
 
-  between-low' : (r : Place) → IsBetween z' r v' → FlatDim s r 1
+  between-low' : (r : SpacePoint) → IsBetween z' r v' → FlatDim s r 1
   between-low' r c = all' r (between-inner v' z' w' r b' (between-turned z' v' r c))
 
-  between-low : (r : Place) → IsBetween z r v → FlatDim s r 1
+  between-low : (r : SpacePoint) → IsBetween z r v → FlatDim s r 1
   between-low r c = all r (between-inner v z w r b (between-turned z v r c))
 
   -- where z comes first along the line
-  pub later-low : SameDirection (toward z z') (toward v w) → ((r : Place) → IsBetween z r z' → FlatDim s r 1) → SamePlace v v'
+  pub later-low : SameDirection (toward z z') (toward v w) → ((r : SpacePoint) → IsBetween z r z' → FlatDim s r 1) → SamePoint v v'
   later-low to even = by (on-ray z' v v' (SameDirection-trans (toward z' v) (opposite (toward v w)) (toward z' v') back (SameDirection-turned (toward z' v') (opposite (toward v w)) to-low')))
     where
       first : IsBetween v z z'
@@ -43,7 +43,7 @@ module _ (s : Set) (v w z v' w' z' : Place) (b : IsBetween v z w) (b' : IsBetwee
       back : SameDirection (toward z' v) (opposite (toward v w))
       back = ahead-back v z' (toward v w) (SameDirection-trans (toward v z') (toward v z) (toward v w) (SameDirection-turned (toward v z) (toward v z') (between-way v z z' first)) (between-way v z w b))
 
-      by : IsBetween z' v v' ⊎ (SamePlace v v' ⊎ IsBetween z' v' v) → SamePlace v v'
+      by : IsBetween z' v v' ⊎ (SamePoint v v' ⊎ IsBetween z' v' v) → SamePoint v v'
       by (inl c) = absurd (one-zero v (between-low' v c) zero)
       by (inr (inl e)) = e
       by (inr (inr c)) = ⊎_elim
@@ -51,7 +51,7 @@ module _ (s : Set) (v w z v' w' z' : Place) (b : IsBetween v z w) (b' : IsBetwee
           (λ o. ⊎_elim (λ e. absurd (one-zero z (all z b) (dim-same s v' z 0 e zero'))) (λ d. absurd (one-zero v' (between-low v' d) zero')) o)
           (between-cases z' z v v' (between-turned v z' z first) c)
 
-  pub same-low : SamePlace z z' → SamePlace v v'
+  pub same-low : SamePoint z z' → SamePoint v v'
   same-low e = by (on-ray z' v v' (SameDirection-trans (toward z' v) (opposite (toward v w)) (toward z' v') back (SameDirection-turned (toward z' v') (opposite (toward v w)) to-low')))
     where
       moved : IsBetween v z' w
@@ -60,35 +60,35 @@ module _ (s : Set) (v w z v' w' z' : Place) (b : IsBetween v z w) (b' : IsBetwee
       back : SameDirection (toward z' v) (opposite (toward v w))
       back = ahead-back v z' (toward v w) (between-way v z' w moved)
 
-      by : IsBetween z' v v' ⊎ (SamePlace v v' ⊎ IsBetween z' v' v) → SamePlace v v'
+      by : IsBetween z' v v' ⊎ (SamePoint v v' ⊎ IsBetween z' v' v) → SamePoint v v'
       by (inl c) = absurd (one-zero v (between-low' v c) zero)
       by (inr (inl f)) = f
       by (inr (inr c)) = absurd (one-zero v' (all v' (between-inner v z' w v' moved (between-turned z' v v' c))) zero')
 
 module _ (s : Set) (C : Complex) (S : Shows s C) where
   -- sides of one vertex, by whatever number and record
-  pub seers-linked : (i k : ℕ) (v w : Vertex) (x y : VertexSide) (d e f : Vector) (m n : ℕ) → At C.vertices i v → At C.vertices k w → i ≡ k → SameDirection d e → bound s v f ≤ m → bound s w f ≤ n
+  pub seers-linked : (i k : ℕ) (v w : Vertex) (x y : VertexSide) (d e f : Vector) (m n : ℕ) → IsAt C.vertices i v → IsAt C.vertices k w → i ≡ k → SameDirection d e → bound s v f ≤ m → bound s w f ≤ n
       → Seer i v x (blend m d 1 f) → Seer k w y (blend n e 1 f) → Chained (VolumeLink C) x y
   seers-linked i k v w x y d e f m n a b g same h l p q =
-      let b' = subst (λ (j : ℕ). At C.vertices j w) (sym g) b in
+      let b' = subst (λ (j : ℕ). IsAt C.vertices j w) (sym g) b in
       let one = at-one C.vertices i w v b' a in
       let q' = subst (λ (u : Vertex). Seer i u y (blend n e 1 f)) one (subst (λ (j : ℕ). Seer j w y (blend n e 1 f)) (sym g) q) in
       let l' = subst (λ (u : Vertex). bound s u f ≤ n) one l in
       same-seers s C S i v a x y (blend m d 1 f) (blend n e 1 f) p q' (ways-same (forms v.map) d e f m n same (omega arith) (omega arith))
 
-  pub vertices-over : (z z' : Place) (x y : VertexSide) → SamePlace z z' → OverVertex s C S z x → OverVertex s C S z' y → Chained (VolumeLink C) x y
+  pub vertices-over : (z z' : SpacePoint) (x y : VertexSide) → SamePoint z z' → OverVertex s C S z x → OverVertex s C S z' y → Chained (VolumeLink C) x y
   vertices-over z z' x y e (i, v, a, f, T) (k, w, b, g, U) =
-      let n = one-vertex s C S i k v w a b (same-place_trans v.point z w.point f (same-place_trans z z' w.point e (same-place_sym w.point z' g))) in
-      let b' = subst (λ (j : ℕ). At C.vertices j w) (sym n) b in
+      let n = one-vertex s C S i k v w a b (same-point_trans v.point z w.point f (same-point_trans z z' w.point e (same-point_sym w.point z' g))) in
+      let b' = subst (λ (j : ℕ). IsAt C.vertices j w) (sym n) b in
       let one = at-one C.vertices i w v b' a in
       let q = subst (λ (u : Vertex). Seer i u y (blend U.steps zero_vector 1 up)) one (subst (λ (j : ℕ). Seer j w y (blend U.steps zero_vector 1 up)) (sym n) U.seer) in
       same-seers s C S i v a x y (blend T.steps zero_vector 1 up) (blend U.steps zero_vector 1 up) T.seer q (λ h l. ap sign (ap (λ (r : Vector). dot h r) (no-way U.steps up ∙ sym (no-way T.steps up))))
 
   -- ---- edges
-  edge-zero : (k : ℕ) (e : Edge) (v w : Vertex) → At C.edges k e → HasEnds C e v w → IsNormal (toward v.point w.point)
+  edge-zero : (k : ℕ) (e : Edge) (v w : Vertex) → IsAt C.edges k e → HasEnds C e v w → IsNormal (toward v.point w.point)
   edge-zero k e v w a H = toward-normal v.point w.point (S.ordered e.low e.high v w (let E = S.edges.edges k e a in E.upward) H.low H.high)
 
-  pub edges-over : (z z' : Place) (x y : VertexSide) → IsEven s 1 z z' → OverEdge s C S z x → OverEdge s C S z' y → Chained (VolumeLink C) x y
+  pub edges-over : (z z' : SpacePoint) (x y : VertexSide) → IsEven s 1 z z' → OverEdge s C S z x → OverEdge s C S z' y → Chained (VolumeLink C) x y
   edges-over z z' x y even (k, e, v, w, a, H, b, T) (k', e', v', w', a', H', b', U) =
       let W = edge-ways s C S k e v w a H in
       let W' = edge-ways s C S k' e' v' w' a' H' in
@@ -101,10 +101,10 @@ module _ (s : Set) (C : Complex) (S : Shows s C) where
       one' : FlatDim s z' 1
       one' = (edge-points s C k' e' v' w' z' S a' H' b').0
 
-      all : (r : Place) → IsBetween v.point r w.point → FlatDim s r 1
+      all : (r : SpacePoint) → IsBetween v.point r w.point → FlatDim s r 1
       all r c = (edge-points s C k e v w r S a H c).0
 
-      all' : (r : Place) → IsBetween v'.point r w'.point → FlatDim s r 1
+      all' : (r : SpacePoint) → IsBetween v'.point r w'.point → FlatDim s r 1
       all' r c = (edge-points s C k' e' v' w' r S a' H' c).0
 
       flat : Flat s z (toward v.point w.point)
@@ -136,44 +136,44 @@ module _ (s : Set) (C : Complex) (S : Shows s C) where
       back : SameDirection (toward v'.point w'.point) (toward v.point w.point)
       back = SameDirection-turned (toward v.point w.point) (toward v'.point w'.point) same
 
-      low : SamePlace v.point v'.point
+      low : SamePoint v.point v'.point
       low = ⊎_elim
-          (λ o. same-low s v.point w.point z v'.point w'.point z' b b' same all all' (S.vertices e.low v H.low) (S.vertices e'.low v' H'.low) (toward-place z z' o))
+          (λ o. same-low s v.point w.point z v'.point w'.point z' b b' same all all' (S.vertices e.low v H.low) (S.vertices e'.low v' H'.low) (toward-point z z' o))
           (λ i. by-way i (beside (toward v.point w.point) (toward z z') (normal-direction (toward v.point w.point) (edge-zero k e v w a H)) i (parallel (toward v.point w.point) (toward z z') flat (let h = half-to s z z' i one (λ r c. even r (inr (inl c))) in h.flat))))
           (zero-decided (toward z z'))
         where
-          by-way : IsDirection (toward z z') → Beside (toward v.point w.point) (toward z z') → SamePlace v.point v'.point
+          by-way : IsDirection (toward z z') → Beside (toward v.point w.point) (toward z z') → SamePoint v.point v'.point
           by-way i (same_way o) = later-low s v.point w.point z v'.point w'.point z' b b' same all all' (S.vertices e.low v H.low) (S.vertices e'.low v' H'.low) (SameDirection-turned (toward v.point w.point) (toward z z') o) (λ r c. even r (inr (inl c)))
-          by-way i (other_way o) = same-place_sym v'.point v.point (later-low s v'.point w'.point z' v.point w.point z b' b back all' all (S.vertices e'.low v' H'.low) (S.vertices e.low v H.low) turned (λ r c. even r (inr (inl (between-turned z' z r c)))))
+          by-way i (other_way o) = same-point_sym v'.point v.point (later-low s v'.point w'.point z' v.point w.point z b' b back all' all (S.vertices e'.low v' H'.low) (S.vertices e.low v H.low) turned (λ r c. even r (inr (inl (between-turned z' z r c)))))
             where
               turned : SameDirection (toward z' z) (toward v'.point w'.point)
               turned = SameDirection-trans (toward z' z) (opposite (toward z z')) (toward v'.point w'.point) (ahead-back z z' (toward z z') (dir-self (toward z z') i))
                   (SameDirection-trans (opposite (toward z z')) (toward v.point w.point) (toward v'.point w'.point) (opposite-way (toward z z') (toward v.point w.point) (opposite-turned (toward v.point w.point) (toward z z') o)) same)
 
   -- ---- how flat the set is where sides lie above
-  pub vertex-dim : (z : Place) (x : VertexSide) → OverVertex s C S z x → FlatDim s z 0
+  pub vertex-dim : (z : SpacePoint) (x : VertexSide) → OverVertex s C S z x → FlatDim s z 0
   vertex-dim z x (i, v, a, e, T) = dim-same s v.point z 0 e (S.vertices i v a)
 
-  pub edge-dim : (z : Place) (x : VertexSide) → OverEdge s C S z x → FlatDim s z 1
+  pub edge-dim : (z : SpacePoint) (x : VertexSide) → OverEdge s C S z x → FlatDim s z 1
   edge-dim z x (k, e, v, w, a, H, b, T) = (edge-points s C k e v w z S a H b).0
 
-  pub facet-dim : (z : Place) (x : VertexSide) → OverFacet s C S z x → FlatDim s z 2
+  pub facet-dim : (z : SpacePoint) (x : VertexSide) → OverFacet s C S z x → FlatDim s z 2
   facet-dim z x (k, v, i, c, (d, o, t), f, g) = tied-dim s (ahead s v.point d) z 2 (tied-turned s z (ahead s v.point d) t) (let F = facet-near s C S k v i c d o in F.dim)
 
   -- ---- facets
   module _ (linked : AreLinkedWhereJoined s C) where
-    pub facets-over : (z z' : Place) (x y : VertexSide) → Joined s z z' → OverFacet s C S z x → OverFacet s C S z' y → Chained (VolumeLink C) x y
+    pub facets-over : (z z' : SpacePoint) (x y : VertexSide) → Joined s z z' → OverFacet s C S z x → OverFacet s C S z' y → Chained (VolumeLink C) x y
     facets-over z z' x y J A B = by B
       where
         by : OverFacet s C S z' y → Chained (VolumeLink C) x y
         by (k, v, i, c, (d, o, t), f, g) = side-is y k.vertex (pos_item k.item) f g (λ (r : VertexSide). Chained (VolumeLink C) x r) (over-item s C S linked z x k A (v, i, c, (d, o, joined-both s z z' (ahead s v.point d) J t.0)))
 
     -- ---- all of them
-    dims : (z z' : Place) (j k l : ℕ) → IsEven s k z z' → FlatDim s z j → FlatDim s z' l → (j ≡ k) × (l ≡ k)
+    dims : (z z' : SpacePoint) (j k l : ℕ) → IsEven s k z z' → FlatDim s z j → FlatDim s z' l → (j ≡ k) × (l ≡ k)
     dims z z' j k l even f g = (FlatDim-one s z j k f (even z (inl (same-itself z))), FlatDim-one s z' l k g (even z' (inr (inr (same-itself z')))))
 
     -- the sides above two points between which the set is as flat, not just at vertices, are linked
-    pub over-one : (k : ℕ) (z z' : Place) (x y : VertexSide) → IsEven s k z z' → (k ≡ 0 → SamePlace z z') → Over s C S z x → Over s C S z' y → Chained (VolumeLink C) x y
+    pub over-one : (k : ℕ) (z z' : SpacePoint) (x y : VertexSide) → IsEven s k z z' → (k ≡ 0 → SamePoint z z') → Over s C S z x → Over s C S z' y → Chained (VolumeLink C) x y
     over-one k z z' x y even none (inl A) (inl B) = let d = dims z z' 0 k 0 even (vertex-dim z x A) (vertex-dim z' y B) in vertices-over z z' x y (none (sym d.0)) A B
     over-one k z z' x y even none (inl A) (inr (inl B)) = let d = dims z z' 0 k 1 even (vertex-dim z x A) (edge-dim z' y B) in absurd (omega arith)
     over-one k z z' x y even none (inl A) (inr (inr B)) = let d = dims z z' 0 k 2 even (vertex-dim z x A) (facet-dim z' y B) in absurd (omega arith)
@@ -185,5 +185,5 @@ module _ (s : Set) (C : Complex) (S : Shows s C) where
     over-one k z z' x y even none (inr (inr A)) (inr (inr B)) = facets-over z z' x y (joined-even s k z z' even) A B
 
     -- and so are those above one place
-    pub over-place : (z z' : Place) (x y : VertexSide) → SamePlace z z' → Over s C S z x → Over s C S z' y → Chained (VolumeLink C) x y
+    pub over-place : (z z' : SpacePoint) (x y : VertexSide) → SamePoint z z' → Over s C S z x → Over s C S z' y → Chained (VolumeLink C) x y
     over-place z z' x y e A B = let k = flat_dim-of s z in over-one k.0 z z' x y (even-cell s k.0 z z' (signs-same (carriers s) z z' e) k.1) (λ n. e) A B

@@ -1,5 +1,5 @@
 -- An arc that ends at an edge goes on along it: at the edge's other end there is an arc of the same plane on the same side, and the two are linked.
-use Rattle.nef_conn.proofs.Prelude.{◌≡◌, ℕ, ◌+◌, pos, ◌<ℤ◌, ◌+ℤ◌, ◌*ℤ◌, neg_ℤ, arith, ap, ◌∙◌, ◌⊎◌, inl, inr, ⊎_elim, ◌∷◌, subst, refl, [], ints, sign, ring, at, num, ◌⊕◌, ◌⊗◌, Germ, Place, toward, Set, Vector, opposite, blend, dot, cross, triple, IsDirection, SameDirection, IsOpposite, Label, carriers, SameGerms, FlatDim-by_germs, ahead, near-ahead, joined-germs, steep, forms, At, MapVertex, Arc, Item, arc_item, sloop_item, items, item_normal, Map, OnItem, NearLabel, Valid, normal-is, dot-comb, same-plus, same-minus, amount, far-keeps, arc-at, direction-around, turn-same, at-arc, Vertex, Edge, Complex, Corner, HasEnds, IsCorner, Shows, near-label, flats-carried, IsInFacetOf, source-met, target-met, ahead-back, LinkAlong, facet-near, IsTied, tied-turned, tied-both, tied-ahead, EdgeWays, edge-ways, ends-tied, EndsOnSide, end-level, close_way, on-close, tied-close_way, tied-turn, corner_of, left-turn, EndsAt, ArcsGoOn, dot-comm, square-cross, level-of_opposite, nought-if, SameDirection-turned, SameDirection-trans, dir-self, opposite-turned, level-way, opposite-way, direction-right, right-turn, back-triple}
+use Rattle.nef_conn.proofs.Prelude.{◌≡◌, ℕ, ◌+◌, pos, ◌<ℤ◌, ◌+ℤ◌, ◌*ℤ◌, neg_ℤ, arith, ap, ◌∙◌, ◌⊎◌, inl, inr, ⊎_elim, ◌∷◌, subst, refl, [], ints, sign, ring, at, num, ◌⊕◌, ◌⊗◌, Germ, SpacePoint, toward, Set, Vector, opposite, blend, dot, cross, triple, IsDirection, SameDirection, IsOpposite, Label, carriers, SameGerms, FlatDim-by_germs, ahead, near-ahead, joined-germs, steep, forms, IsAt, MapVertex, Arc, Item, arc_item, sloop_item, items, item_normal, Map, OnItem, NearLabel, Valid, normal-is, dot-comb, same-plus, same-minus, amount, far-keeps, arc-at, direction-around, turn-same, at-arc, Vertex, Edge, Complex, Corner, HasEnds, IsCorner, Shows, near-label, flats-carried, IsInFacetOf, source-met, target-met, ahead-back, LinkAlong, facet-near, IsTied, tied-turned, tied-both, tied-ahead, EdgeWays, edge-ways, ends-tied, EndsOnSide, end-level, close_way, on-close, tied-close_way, tied-turn, corner_of_numbers, left-turn, EndsAt, ArcsGoOn, dot-comm, square-cross, level-of_opposite, nought-if, SameDirection-turned, SameDirection-trans, dir-self, opposite-turned, level-way, opposite-way, direction-right, right-turn, back-triple}
 use Rattle.law_complex.proofs.FacetCorners.{ItemAt, item-at}
 
 -- ---- directions of a plane
@@ -12,15 +12,15 @@ level-kept n m d w z = dot-comm m d ∙ level-way d n m w (dot-comm d n ∙ z)
 pub record EdgeAway (s : Set) (C : Complex) (i a : ℕ) (v : Vertex) (j b : ℕ) (w : Vertex) : Type 0 where
   pub start : MapVertex
   pub end : MapVertex
-  pub is_from : At C.vertices i v
-  pub is_to : At C.vertices j w
-  pub is_start : At v.map.svertices a start
-  pub is_end : At w.map.svertices b end
+  pub is_from : IsAt C.vertices i v
+  pub is_to : IsAt C.vertices j w
+  pub is_start : IsAt v.map.svertices a start
+  pub is_end : IsAt w.map.svertices b end
   pub onward : SameDirection (toward v.point w.point) start.dir
   pub back : IsOpposite start.dir end.dir
   pub tied : IsTied s (ahead s v.point start.dir) (ahead s w.point end.dir)
 
-module _ (s : Set) (C : Complex) (S : Shows s C) (n : ℕ) (e : Edge) (at_n : At C.edges n e) (v w : Vertex) (H : HasEnds C e v w) where
+module _ (s : Set) (C : Complex) (S : Shows s C) (n : ℕ) (e : Edge) (at_n : IsAt C.edges n e) (v w : Vertex) (H : HasEnds C e v w) where
   abbrev W : EdgeWays e v w
   W = edge-ways s C S n e v w at_n H
 
@@ -54,15 +54,15 @@ module _ (s : Set) (C : Complex) (S : Shows s C) (n : ℕ) (e : Edge) (at_n : At
 pub record ArcThere (M : Map) (c : Arc) (a b : ℕ) (t f : Vector) : Type 0 where
   pub number : ℕ
   pub arc : Arc
-  pub listed : At M.arcs number arc
+  pub listed : IsAt M.arcs number arc
   pub one_normal : SameDirection c.normal arc.normal
   pub one_way : ((c.source ≡ a) × (arc.target ≡ b)) ⊎ ((c.target ≡ a) × (arc.source ≡ b))
   pub side : EndsOnSide b t f arc
 
 -- ---- the arc at the other end, on the side of f
-module _ (s : Set) (C : Complex) (S : Shows s C) (i a : ℕ) (v : Vertex) (j b : ℕ) (v' : Vertex) (V : EdgeAway s C i a v j b v') (k : ℕ) (c : Arc) (listed : At v.map.arcs k c) (f : Vector) (level : dot c.normal f ≡ pos 0) (f-some : IsDirection f) (side : EndsOnSide a V.start.dir f c) where
+module _ (s : Set) (C : Complex) (S : Shows s C) (i a : ℕ) (v : Vertex) (j b : ℕ) (v' : Vertex) (V : EdgeAway s C i a v j b v') (k : ℕ) (c : Arc) (listed : IsAt v.map.arcs k c) (f : Vector) (level : dot c.normal f ≡ pos 0) (f-some : IsDirection f) (side : EndsOnSide a V.start.dir f c) where
   abbrev here : Corner
-  here = corner_of i k
+  here = corner_of_numbers i k
 
   corner : IsCorner C here v (arc_item c)
   corner = record { vertex = V.is_from; item = at-arc v.map.arcs v.map.sloop k c listed }
@@ -100,10 +100,10 @@ module _ (s : Set) (C : Complex) (S : Shows s C) (i a : ℕ) (v : Vertex) (j b :
   abbrev d : Vector
   d = blend K t 1 f
 
-  abbrev p : Place
+  abbrev p : SpacePoint
   p = ahead s v.point way
 
-  abbrev q : Place
+  abbrev q : SpacePoint
   q = ahead s v'.point d
 
   tied-q : IsTied s p q
@@ -147,7 +147,7 @@ module _ (s : Set) (C : Complex) (S : Shows s C) (i a : ℕ) (v : Vertex) (j b :
   turned : (m : Vector) → SameDirection n m → sign (triple m t f) ≡ sign (neg_ℤ (triple n u f))
   turned m w = turn-same n m (opposite u) t f f w t-way (dir-self f f-some) ∙ ap sign (back-triple n u f)
 
-  by-item : (x : Item) (l : ℕ) → At (items M) l x → OnItem M x d → SameDirection (item_normal x) n → ArcThere M c a b t f
+  by-item : (x : Item) (l : ℕ) → IsAt (items M) l x → OnItem M x d → SameDirection (item_normal x) n → ArcThere M c a b t f
   by-item (sloop_item e) l r o w =
       absurd (L.shaped.no_svertex_on_item b l V.end (sloop_item e) V.is_end r (record { direction = t-some; level = level-kept n e.normal t (SameDirection-turned e.normal n w) level-t }))
   by-item (arc_item e) l r o w = ⊎_elim from-source from-target side
@@ -200,19 +200,19 @@ module _ (c : Arc) (a : ℕ) (u : Vector) (normal-some : IsDirection c.normal) (
     ends = inr (e, let h = left in let r = right-turn c.normal u g in omega (arith, ints));
   }
 
-module _ (s : Set) (C : Complex) (S : Shows s C) (i a : ℕ) (v : Vertex) (j b : ℕ) (v' : Vertex) (V : EdgeAway s C i a v j b v') (k : ℕ) (c : Arc) (listed : At v.map.arcs k c) where
-  own : IsCorner C (corner_of i k) v (arc_item c)
+module _ (s : Set) (C : Complex) (S : Shows s C) (i a : ℕ) (v : Vertex) (j b : ℕ) (v' : Vertex) (V : EdgeAway s C i a v j b v') (k : ℕ) (c : Arc) (listed : IsAt v.map.arcs k c) where
+  own : IsCorner C (corner_of_numbers i k) v (arc_item c)
   own = record { vertex = V.is_from; item = at-arc v.map.arcs v.map.sloop k c listed }
 
   pub goes-on : (o : EndsAt c a) → (f : Vector) × ArcThere v'.map c a b V.end.dir f
   goes-on o =
       let F = side-of c a V.start.dir (normal-is (S.cones i v V.is_from).valid.shaped k (arc_item c) own.item) (direction-right (toward v.point v'.point) V.start.dir V.onward)
-      (end-level s C S (corner_of i k) v c own a V.start V.is_start o) o in
+      (end-level s C S (corner_of_numbers i k) v c own a V.start V.is_start o) o in
       (F.dir, arc-there s C S i a v j b v' V k c listed F.dir F.level F.some F.ends)
 
 -- ---- the links
-module _ (s : Set) (C : Complex) (S : Shows s C) (n : ℕ) (e : Edge) (at_n : At C.edges n e) (v w : Vertex) (H : HasEnds C e v w) (j : Corner) (c : Arc) where
-  pub link-up : (f : Vector) → j.vertex ≡ e.low → At v.map.arcs j.item c → (A : ArcThere w.map c e.low_svertex e.high_svertex (from-low s C S n e at_n v w H).end.dir f) → LinkAlong C j (corner_of e.high A.number)
+module _ (s : Set) (C : Complex) (S : Shows s C) (n : ℕ) (e : Edge) (at_n : IsAt C.edges n e) (v w : Vertex) (H : HasEnds C e v w) (j : Corner) (c : Arc) where
+  pub link-up : (f : Vector) → j.vertex ≡ e.low → IsAt v.map.arcs j.item c → (A : ArcThere w.map c e.low_svertex e.high_svertex (from-low s C S n e at_n v w H).end.dir f) → LinkAlong C j (corner_of_numbers e.high A.number)
   link-up f low l A = record {
     number = n;
     edge = e;
@@ -222,7 +222,7 @@ module _ (s : Set) (C : Complex) (S : Shows s C) (n : ℕ) (e : Edge) (at_n : At
     along = record { low_vertex = v; high_vertex = w; ends = H; low_arc = c; high_arc = A.arc; is_low = l; is_high = A.listed; one_normal = A.one_normal; one_way = A.one_way };
   }
 
-  pub link-down : (f : Vector) → j.vertex ≡ e.high → At w.map.arcs j.item c → (A : ArcThere v.map c e.high_svertex e.low_svertex (from-high s C S n e at_n v w H).end.dir f) → LinkAlong C (corner_of e.low A.number) j
+  pub link-down : (f : Vector) → j.vertex ≡ e.high → IsAt w.map.arcs j.item c → (A : ArcThere v.map c e.high_svertex e.low_svertex (from-high s C S n e at_n v w H).end.dir f) → LinkAlong C (corner_of_numbers e.low A.number) j
   link-down f high l A = record {
     number = n;
     edge = e;
@@ -247,13 +247,13 @@ arcs-go_on s C n e j v c S at_n K =
     let E = S.edges.edges n e at_n in
     let l = arc-at v.map.arcs v.map.sloop j.item c K.item in (
       λ low o.
-          let is = subst (λ (i : ℕ). At C.vertices i v) low K.vertex in
+          let is = subst (λ (i : ℕ). IsAt C.vertices i v) low K.vertex in
           let H : HasEnds C e v E.high_vertex = record { low = is; high = E.is_high } in
           let A = goes-on s C S e.low e.low_svertex v e.high e.high_svertex E.high_vertex (from-low s C S n e at_n v E.high_vertex H) j.item c l o in
-          (corner_of e.high A.1.number, link-up s C S n e at_n v E.high_vertex H j c A.0 low l A.1),
+          (corner_of_numbers e.high A.1.number, link-up s C S n e at_n v E.high_vertex H j c A.0 low l A.1),
       λ high o.
-          let is = subst (λ (i : ℕ). At C.vertices i v) high K.vertex in
+          let is = subst (λ (i : ℕ). IsAt C.vertices i v) high K.vertex in
           let H : HasEnds C e E.low_vertex v = record { low = E.is_low; high = is } in
           let A = goes-on s C S e.high e.high_svertex v e.low e.low_svertex E.low_vertex (from-high s C S n e at_n E.low_vertex v H) j.item c l o in
-          (corner_of e.low A.1.number, link-down s C S n e at_n E.low_vertex v H j c A.0 high l A.1),
+          (corner_of_numbers e.low A.1.number, link-down s C S n e at_n E.low_vertex v H j c A.0 high l A.1),
     )

@@ -1,14 +1,14 @@
 -- From a vertex beside which z lies, whose arc ends at an edge that leads to z's line: z's ray comes to this edge, and names the arc or the one linked with it along the edge.
-use Rattle.nef_conn.proofs.Prelude.{◌≡◌, ℕ, ℤ, pos, neg_ℤ, ◌<ℤ◌, arith, refl, ap, sym, ◌∙◌, ◌⊎◌, inl, inr, subst, ints, sign, Chained, Flat, FlatDim, Place, Form, form_at, normal_of, toward, IsBetween, Set, Vector, opposite, dot, triple, IsDirection, SameDirection, between-inner, span-1, At, Arc, Item, arc_item, item_normal, dir_of, same-plus, same-minus, normal-direction, at-arc, at-one, arc-at, dir-at, turn-same, Vertex, Edge, Complex, Corner, HasEnds, IsCorner, Shows, Cut, PlaneMeet, meets_edge, Meets, IsFirstInPlane, IsArcOnSide, IsCornerAt, RayNames, between-way, between-ends, two-off, meets-on, FacetLink, level-of_opposite, SameDirection-turned, dir-self, direction-opposite, direction-right, right-turn, back-triple}
+use Rattle.nef_conn.proofs.Prelude.{◌≡◌, ℕ, ℤ, pos, neg_ℤ, ◌<ℤ◌, arith, refl, ap, sym, ◌∙◌, ◌⊎◌, inl, inr, subst, ints, sign, Chained, Flat, FlatDim, SpacePoint, Form, form_at, normal_of, toward, IsBetween, Set, Vector, opposite, dot, triple, IsDirection, SameDirection, between-inner, span-1, IsAt, Arc, Item, arc_item, item_normal, dir_of, same-plus, same-minus, normal-direction, at-arc, at-one, arc-at, dir-at, turn-same, Vertex, Edge, Complex, Corner, HasEnds, IsCorner, Shows, Cut, PlaneMeet, meets_edge, Meets, IsFirstInPlane, IsArcOnSide, IsCornerAt, RayNames, between-way, between-ends, two-off, meets-on, FacetLink, level-of_opposite, SameDirection-turned, dir-self, direction-opposite, direction-right, right-turn, back-triple}
 use Rattle.nef_conn.proofs.Chain.{chain-here, chain-before}
 use Rattle.nef_conn.proofs.OneNamed.{one-met, one-corner}
-use Rattle.nef_conn.proofs.Sector.{Seen, end_of, Stops}
-use Rattle.nef_conn.proofs.Leads.{Leads, edge-point, edge-lies_in, link-of}
+use Rattle.nef_conn.proofs.Sector.{Seen, sector_end, Stops}
+use Rattle.nef_conn.proofs.Leads.{LeadsFrom, edge-point, edge-lies_in, link-of}
 use Rattle.nef_conn.proofs.FacetStrip.{Strip, m-some, beyond, angle-over}
 use Rattle.nef_conn.proofs.AlongEdge.{opposite-normal}
 use Rattle.nef_conn.proofs.Beside.{turn-to, far, edge-of, on-other, meets-far, on-x, way-x, ahead-x, Beside, off-edges, fan-beside}
 
-module _ (s : Set) (C : Complex) (S : Shows s C) (h g : Form) (d : Vector) (y z : Place) (T : Strip s C h g d y z) where
+module _ (s : Set) (C : Complex) (S : Shows s C) (h g : Form) (d : Vector) (y z : SpacePoint) (T : Strip s C h g d y z) where
   abbrev n : Vector
   n = normal_of h
 
@@ -25,14 +25,14 @@ module _ (s : Set) (C : Complex) (S : Shows s C) (h g : Form) (d : Vector) (y z 
   level-opposite = level-of_opposite n d T.level
 
   -- what the ray from z first meets
-  pub first-on : (x : Place) (q : PlaneMeet) → SameDirection (toward z x) d → Meets C h q x → ((r : Place) → IsBetween z r x → FlatDim s r 2) → IsFirstInPlane C h z d q
+  pub first-on : (x : SpacePoint) (q : PlaneMeet) → SameDirection (toward z x) d → Meets C h q x → ((r : SpacePoint) → IsBetween z r x → FlatDim s r 2) → IsFirstInPlane C h z d q
   first-on x q w e all = record { place = x; ahead = w; meets = e; first = λ r p b o. two-off s C S r (all r b) (meets-on s C S h p r o) }
 
   module _ (k : Corner) (N : Is_beside k) where
     abbrev v : Vertex
     v = N.vertex
 
-    abbrev w : Place
+    abbrev w : SpacePoint
     w = v.point
 
     abbrev Ends_before : Type 0
@@ -41,18 +41,18 @@ module _ (s : Set) (C : Complex) (S : Shows s C) (h g : Form) (d : Vector) (y z 
     -- ---- where it is an arc that ends before: z's ray comes to its edge
     module _ (E : Ends_before) (right : pos 0 <ℤ triple m E.svertex.dir d) where
       abbrev a : ℕ
-      a = end_of n m T.seen E.arc
+      a = sector_end n m T.seen E.arc
 
       abbrev u : Vector
       u = E.svertex.dir
 
-      abbrev L : Leads s C k.vertex a v E.svertex
+      abbrev L : LeadsFrom s C k.vertex a v E.svertex
       L = edge-of s C S h g d y z T k.vertex a v E.svertex N.corner.vertex E.end N.on_plane N.on_line E.level right
 
       abbrev X : Cut (far s C S h g d y z T) w L.other.point
       X = meets-far s C S h g d y z T k.vertex a v E.svertex N.corner.vertex E.end N.on_plane N.on_line E.level right
 
-      abbrev x : Place
+      abbrev x : SpacePoint
       x = X.place
 
       up : SameDirection (toward z x) d
@@ -67,12 +67,12 @@ module _ (s : Set) (C : Complex) (S : Shows s C) (h g : Form) (d : Vector) (y z 
       x-on : form_at h x ≡ pos 0
       x-on = on-x s C S h g d y z T k.vertex a v E.svertex N.corner.vertex E.end N.on_plane N.on_line E.level right
 
-      part : (r : Place) → IsBetween w r x → FlatDim s r 1 × Flat s r (toward w x)
+      part : (r : SpacePoint) → IsBetween w r x → FlatDim s r 1 × Flat s r (toward w x)
       part r b =
           let P = L.along r (between-inner w x L.other.point r X.between b) in
           (P.0, span-1 s r (toward w L.other.point) (toward w x) (between-ends w x L.other.point X.between) P.1 (let q = SameDirection-turned (toward w x) (toward w L.other.point) (between-way w x L.other.point X.between) in q.parallel))
 
-      reach : (r : Place) → IsBetween z r x → FlatDim s r 2
+      reach : (r : SpacePoint) → IsBetween z r x → FlatDim s r 2
       reach = fan-beside s C S h g d y z T k N x x-on (let l = beyond s C S h g d y z T x (let e = X.level in omega (arith, ints)) in omega (arith, ints)) (let e = X.level in omega (arith, ints)) (angle-over s C S h g d y z T w x N.on_line up)
           (inr (off-edges s C S h g d y z T k N, part)) (λ e i q p r. E.between e i q p (turn-to m e (toward w x) u to-x r))
 
@@ -98,7 +98,7 @@ module _ (s : Set) (C : Complex) (S : Shows s C) (h g : Form) (d : Vector) (y z 
           let e = opposite-normal n u d in omega (arith, ints)
 
       -- the arc lies on the side of its edge to which the way back leads
-      arc-side : (O : Seen n m) → dir_of v.map.svertices (end_of n m O E.arc) ≡ u → IsArcOnSide v (end_of n m O E.arc) n (opposite d) E.arc
+      arc-side : (O : Seen n m) → dir_of v.map.svertices (sector_end n m O E.arc) ≡ u → IsArcOnSide v (sector_end n m O E.arc) n (opposite d) E.arc
       arc-side (inl q) e = inr (refl, subst (λ (r : Vector). triple n r (opposite d) <ℤ pos 0) (sym e) (let f = right-turn n u d in let l = turn-n q in omega (arith, ints)))
       arc-side (inr q) e = inl (refl, subst (λ (r : Vector). pos 0 <ℤ triple n r (opposite d)) (sym e) (let f = right-turn n u d in let l = turn-opposite q in omega (arith, ints)))
 
@@ -116,7 +116,7 @@ module _ (s : Set) (C : Complex) (S : Shows s C) (h g : Form) (d : Vector) (y z 
           plain : (x y z : ℤ) → x ≡ neg_ℤ y → y ≡ neg_ℤ z → x ≡ z
           plain x y z e f = omega (arith, ints)
 
-      other-end : (O : Seen n m) (b : Arc) → IsArcOnSide L.other L.there_end n (opposite d) b → ((E.arc.target ≡ end_of n m O E.arc) × (b.source ≡ L.there_end)) ⊎ ((E.arc.source ≡ end_of n m O E.arc) × (b.target ≡ L.there_end))
+      other-end : (O : Seen n m) (b : Arc) → IsArcOnSide L.other L.there_end n (opposite d) b → ((E.arc.target ≡ sector_end n m O E.arc) × (b.source ≡ L.there_end)) ⊎ ((E.arc.source ≡ sector_end n m O E.arc) × (b.target ≡ L.there_end))
       other-end (inl q) b (inl z) = inl (refl, z.0)
       other-end (inl q) b (inr z) = absurd (let l = same-minus (triple n (dir_of L.other.map.svertices L.there_end) (opposite d)) (triple n u d) (sym there-sign) z.1 in let r = turn-n q in omega (arith, ints))
       other-end (inr q) b (inl z) = absurd (let l = same-plus (triple n (dir_of L.other.map.svertices L.there_end) (opposite d)) (triple n u d) (sym there-sign) z.1 in let r = turn-opposite q in omega (arith, ints))
@@ -146,12 +146,12 @@ module _ (s : Set) (C : Complex) (S : Shows s C) (h g : Form) (d : Vector) (y z 
               subst (λ (j : Corner). Chained (FacetLink C) k j) (one-corner s C S h (opposite d) (direction-opposite d T.some) level-opposite k l (meets_edge L.number) here (e, f, b, at-e, is, at-f, at-b, nb, side)) (chain-here (FacetLink C) k)
           by (inr (p, q, r, t, H)) =
               let low = ap (λ (j : Edge). j.low) one in
-              let other = at-one C.vertices L.edge.low f L.other (subst (λ (j : ℕ). At C.vertices j f) low at-f) H.low in
+              let other = at-one C.vertices L.edge.low f L.other (subst (λ (j : ℕ). IsAt C.vertices j f) low at-f) H.low in
               let there = is ∙ low ∙ r in
               let on-side = subst (λ (j : ℕ). IsArcOnSide L.other j n (opposite d) b) (ap (λ (j : Edge). j.low_svertex) one ∙ t) (subst (λ (x : Vertex). IsArcOnSide x e.low_svertex n (opposite d) b) other side) in
               let K : IsCorner C l L.other (arc_item b) = record {
-                vertex = subst (λ (j : ℕ). At C.vertices j L.other) (sym there) L.is_there;
-                item = at-arc L.other.map.arcs L.other.map.sloop l.item b (subst (λ (x : Vertex). At x.map.arcs l.item b) other at-b);
+                vertex = subst (λ (j : ℕ). IsAt C.vertices j L.other) (sym there) L.is_there;
+                item = at-arc L.other.map.arcs L.other.map.sloop l.item b (subst (λ (x : Vertex). IsAt x.map.arcs l.item b) other at-b);
               } in
               chain-before (FacetLink C) k l l (link-of s C k.vertex a v E.svertex L n k l E.arc b refl there corner-here K same-here nb (other-end T.seen b on-side)) (chain-here (FacetLink C) l)
 

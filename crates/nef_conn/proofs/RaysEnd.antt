@@ -1,33 +1,33 @@
 -- From a point of the frame with three flat directions the ray down ends at a skeleton point, above which some side lies.
-use Rattle.nef_conn.proofs.Prelude.{◌≡◌, ℕ, ◌+◌, ◌≤◌, ℤ, pos, ◌+ℤ◌, ◌-ℤ◌, ◌*ℤ◌, ◌<ℤ◌, arith, refl, ◌∙◌, ⊎_elim, ◌∷◌, subst, [], ints, ring, at, num, ◌⊕◌, ◌⊖◌, ◌⊗◌, FlatDim, Place, form_at, InFrame, toward, IsAhead, IsBetween, Set, Vector, opposite, blend, dot, cross, IsZero, IsDirection, SameDirection, up, plane_axis, Label, carriers, flat-germ, FlatDim-by_germs, between-turned, label_of, ahead, joined-germs, steep, signs-same, same-place_sym, forms, BoundsSector, At, MapVertex, Arc, Item, arc_item, item_normal, item_pos, IsFree, Side, pos_item, HasSide, SeenAs, Shaped, at-arc, Beside, same_way, other_way, beside, axes-forms, on-level, amount, far-keeps, kept-not_opposite, bounded, unrayed-ahead, normal-is, Vertex, Complex, Corner, IsCorner, Shows, item_plane, IsVertexPoint, IsEdgePoint, IsFacetPoint, Spot, at_vertex, on_edge, in_facet, IsSpot, IsSkeletonPoint, HasCorner, VertexSide, HasSideLabel, IsAbove, RayDown, IsFlatIn, through-at, ahead-back, weight, normal-scaled, through-level, axis-in, facet-of, facets-complete, facet-point, dim-same, way-ends, skeleton-not_flat, skeleton-or_flat, IsEvenAfter, IsUpright, across, facet-at, edge-ways, tied-low, tied-turn, seen-free, ahead-cells, dim-cell, IsTied, tied-both, tied-ahead, tied-ray, RaysEnd, opposite-twice}
+use Rattle.nef_conn.proofs.Prelude.{◌≡◌, ℕ, ◌+◌, ◌≤◌, ℤ, pos, ◌+ℤ◌, ◌-ℤ◌, ◌*ℤ◌, ◌<ℤ◌, arith, refl, ◌∙◌, ⊎_elim, ◌∷◌, subst, [], ints, ring, at, num, ◌⊕◌, ◌⊖◌, ◌⊗◌, FlatDim, SpacePoint, form_at, InFrame, toward, IsAhead, IsBetween, Set, Vector, opposite, blend, dot, cross, IsZero, IsDirection, SameDirection, up, plane_axis, Label, carriers, flat-germ, FlatDim-by_germs, between-turned, label_of, ahead, joined-germs, steep, signs-same, same-point_sym, forms, BoundsSector, IsAt, MapVertex, Arc, Item, arc_item, item_normal, item_pos, IsFree, Side, pos_item, HasSide, SeenAs, Shaped, at-arc, Beside, same_way, other_way, beside, axes-forms, on-level, amount, far-keeps, kept-not_opposite, bounded, unrayed-ahead, normal-is, Vertex, Complex, Corner, IsCorner, Shows, item_plane, IsVertexPoint, IsEdgePoint, IsFacetPoint, Spot, at_vertex, on_edge, in_facet, IsSpot, IsSkeletonPoint, HasCorner, VertexSide, HasSideLabel, IsAbove, RayDown, IsFlatIn, through-at, ahead-back, weight, normal-scaled, through-level, axis-in, facet-of, facets-complete, facet-point, dim-same, way-ends, skeleton-not_flat, skeleton-or_flat, IsEvenAfter, IsUpright, across, facet-at, edge-ways, tied-low, tied-turn, seen-free, ahead-cells, dim-cell, IsTied, tied-both, tied-ahead, tied-ray, RaysEnd, opposite-twice}
 use Rattle.nef_conn.proofs.AtSides.{side-toward}
 use Rattle.nef_conn.proofs.FirstMet.{all-flat}
 
 -- what is tied is as flat
-pub tied-dim : (s : Set) (p q : Place) (k : ℕ) → IsTied s p q → FlatDim s p k → FlatDim s q k
+pub tied-dim : (s : Set) (p q : SpacePoint) (k : ℕ) → IsTied s p q → FlatDim s p k → FlatDim s q k
 tied-dim s p q k t = FlatDim-by_germs s s p q (joined-germs s p q t.0) k
 
 module _ (s : Set) (C : Complex) (S : Shows s C) where
   -- some side sees a direction toward which three directions are flat
-  pub seen-toward : (i : ℕ) (v : Vertex) (a : At C.vertices i v) (d : Vector) → FlatDim s (ahead s v.point d) 3 → (l : Label) × SeenAs v.map d l
+  pub seen-toward : (i : ℕ) (v : Vertex) (a : IsAt C.vertices i v) (d : Vector) → FlatDim s (ahead s v.point d) 3 → (l : Label) × SeenAs v.map d l
   seen-toward i v a d f =
       let q = ahead s v.point d in
       let l = label_of s q in
       (l.0, side-toward s C S i v a d f l.0 (λ e. flat-germ s q e l.0 (all-flat s q f e) l.1))
 
   -- what is met below a free way has three flat directions above it
-  pub free-above : (p z : Place) → IsAhead p (opposite up) z → FlatDim s p 3 → ((q : Place) → IsBetween p q z → IsSkeletonPoint C q → ⊥) → FlatDim s (ahead s z up) 3
+  pub free-above : (p z : SpacePoint) → IsAhead p (opposite up) z → FlatDim s p 3 → ((q : SpacePoint) → IsBetween p q z → IsSkeletonPoint C q → ⊥) → FlatDim s (ahead s z up) 3
   free-above p z on f clear =
       let back = subst (λ (r : Vector). SameDirection (toward z p) r) (opposite-twice up) (ahead-back p z (opposite up) on) in
       let even : IsEvenAfter s 3 z p = λ r o. ⊎_elim
       (λ b. ⊎_elim (λ g. g) (λ k. absurd (clear r (between-turned z p r b) k)) (skeleton-or_flat s C S (facet-at s C S) (facet-of s C S) r))
-      (λ e. dim-same s p r 3 (same-place_sym r p e) f) o in
+      (λ e. dim-same s p r 3 (same-point_sym r p e) f) o in
       tied-dim s p (ahead s z up) 3 (tied-ray s 3 z p up back even) f
 
   module _ (upright : IsUpright C) where
     -- ---- above an edge
     -- where a direction close to a svertex toward up is free, up lies in a sector of the svertex, and a side bounds it
-    module _ (i : ℕ) (v : Vertex) (a : At C.vertices i v) (j : ℕ) (u : MapVertex) (b : At v.map.svertices j u) where
+    module _ (i : ℕ) (v : Vertex) (a : IsAt C.vertices i v) (j : ℕ) (u : MapVertex) (b : IsAt v.map.svertices j u) where
       V : Shaped v.map
       V = (S.cones i v a).valid.shaped
 
@@ -48,20 +48,20 @@ module _ (s : Set) (C : Complex) (S : Shows s C) where
             by (same_way w) = F.off_svertices j u b w
             by (other_way o) = kept-not_opposite u.dir near (λ g l. far-keeps (forms v.map) u.dir up N large g (axes-forms v.map g l)) o
 
-        high : (k : ℕ) (r : Arc) → At v.map.arcs k r → pos 0 <ℤ dot r.normal up
+        high : (k : ℕ) (r : Arc) → IsAt v.map.arcs k r → pos 0 <ℤ dot r.normal up
         high k r h = upright (record { vertex = i; item = k }) v (arc_item r) (record { vertex = a; item = at-arc v.map.arcs v.map.sloop k r h })
 
         pub sector-side : (o : Side) × (l : Label) × HasSide v.map o l × BoundsSector v.map j up o
         sector-side = bounded v.map V j u b up apart (unrayed-ahead v.map V j u b up apart high)
 
     -- ---- above what is met
-    abbrev Covers : Place → Spot → Type 0
+    abbrev Covers : SpacePoint → Spot → Type 0
     Covers z o = (x : VertexSide) × (l : Label) × IsAbove C z o x × HasSideLabel C x l
 
-    module _ (z : Place) (f : FlatDim s (ahead s z up) 3) where
+    module _ (z : SpacePoint) (f : FlatDim s (ahead s z up) 3) where
       over-vertex : (k : ℕ) → IsVertexPoint C k z → Covers z (at_vertex k)
       over-vertex k (v, a, e) =
-          let g = dim-cell s (ahead s z up) (ahead s v.point up) 3 (ahead-cells s z v.point up (signs-same (carriers s) z v.point (same-place_sym v.point z e))) f in
+          let g = dim-cell s (ahead s z up) (ahead s v.point up) 3 (ahead-cells s z v.point up (signs-same (carriers s) z v.point (same-point_sym v.point z e))) f in
           let r = seen-toward k v a up g in (
             record { vertex = k; side = r.1.side },
             r.0,
@@ -115,7 +115,7 @@ module _ (s : Set) (C : Complex) (S : Shows s C) where
       covered (in_facet k) (v, x, c, F) = over-facet k v x c F
 
     -- ---- the end of the ray down
-    pub ray-down : (p : Place) → InFrame p → FlatDim s p 3 → (x : VertexSide) × RayDown C p x
+    pub ray-down : (p : SpacePoint) → InFrame p → FlatDim s p 3 → (x : VertexSide) × RayDown C p x
     ray-down p i f =
         let down = opposite up in
         let W = way-ends s C S (facet-at s C S) (facet-of s C S) p down (λ z. let e = z.2 in omega (arith, ints)) i (λ o. skeleton-not_flat s C S (facet-at s C S) (facet-of s C S) p o f) in

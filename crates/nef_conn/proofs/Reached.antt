@@ -1,11 +1,11 @@
 -- The facet beside each item has a point that names a corner of its class: by the cases of the way inward, and by induction on the vertices ahead of it.
-use Rattle.nef_conn.proofs.Prelude.{◌≡◌, ℕ, ◌<◌, ◌≤◌, ◌+◌, suc, zero, pos, ◌<ℤ◌, List, length, arith, refl, sym, ◌∙◌, ◌⊎◌, inl, inr, ⊎_elim, ◌∷◌, subst, [], ints, Place, form_at, toward, IsPlaceBelow, Set, Vector, opposite, dot, triple, IsDirection, IsNormal, SameDirection, plane_dir, Decided, At, MapVertex, Arc, arc_item, sloop_item, dir_of, OnItem, normal-is, OnItem-decided, SameDirection-decided, dir-at, arc-at, normals-not_opposite, at-arc, Ends, ends-of, Vertex, Edge, Complex, Corner, HasEnds, IsCorner, Shows, item_plane, svertex-edge, through-at, ahead-back, FacetLink, EndsOnSide, end-level, corner_of, EndsAt, way_inward, ItemsName, level-of_opposite, triple-turned, SameDirection-turned, SameDirection-trans, opposite-same, level-way, opposite-twice, from-opposite, right-turn, is-at_none}
+use Rattle.nef_conn.proofs.Prelude.{◌≡◌, ℕ, ◌<◌, ◌≤◌, ◌+◌, suc, zero, pos, ◌<ℤ◌, List, length, arith, refl, sym, ◌∙◌, ◌⊎◌, inl, inr, ⊎_elim, ◌∷◌, subst, [], ints, SpacePoint, form_at, toward, IsPointBelow, Set, Vector, opposite, dot, triple, IsDirection, IsNormal, SameDirection, plane_dir, Decided, IsAt, MapVertex, Arc, arc_item, sloop_item, dir_of, OnItem, normal-is, OnItem-decided, SameDirection-decided, dir-at, arc-at, normals-not_opposite, at-arc, Ends, ends-of, Vertex, Edge, Complex, Corner, HasEnds, IsCorner, Shows, item_plane, svertex-edge, through-at, ahead-back, FacetLink, EndsOnSide, end-level, corner_of_numbers, EndsAt, way_inward, ItemsName, level-of_opposite, triple-turned, SameDirection-turned, SameDirection-trans, opposite-same, level-way, opposite-twice, from-opposite, right-turn, is-at_none}
 use Rattle.nef_conn.proofs.Onward.{EdgeAway, from-low, from-high, arc-there, goes-on, link-up, link-down}
 use Rattle.nef_conn.proofs.WayInward.{dir-level, dir-some, dir-same}
-use Rattle.nef_conn.proofs.Named.{Reaches, carried, onward-named, edge-named, side-same}
+use Rattle.nef_conn.proofs.Named.{ReachesItem, carried, onward-named, edge-named, side-same}
 use Rattle.nef_conn.proofs.Faces.{leads-away}
 
-pub within : {A : Type 0} (xs : List A) (k : ℕ) (x : A) → At xs k x → k < length xs
+pub within : {A : Type 0} (xs : List A) (k : ℕ) (x : A) → IsAt xs k x → k < length xs
 within [] k x h = absurd (is-at_none h)
 within (y ∷ ys) zero x h = omega arith
 within (y ∷ ys) (suc k) x h = omega (arith, within ys k x h)
@@ -26,7 +26,7 @@ pub record StepOn (C : Complex) (j : Corner) (v : Vertex) (c : Arc) : Type 0 whe
   pub same : SameDirection arc.normal c.normal
   pub on_plane : form_at (item_plane v (arc_item c)) vertex.point ≡ pos 0
   pub ahead : SameDirection (toward v.point vertex.point) (way_inward (arc_item c))
-  pub order : ((j.vertex < corner.vertex) × IsPlaceBelow v.point vertex.point) ⊎ ((corner.vertex < j.vertex) × IsPlaceBelow vertex.point v.point)
+  pub order : ((j.vertex < corner.vertex) × IsPointBelow v.point vertex.point) ⊎ ((corner.vertex < j.vertex) × IsPointBelow vertex.point v.point)
 
 module _ (s : Set) (C : Complex) (S : Shows s C) (j : Corner) (v : Vertex) (c : Arc) (K : IsCorner C j v (arc_item c)) where
   abbrev d : Vector
@@ -35,7 +35,7 @@ module _ (s : Set) (C : Complex) (S : Shows s C) (j : Corner) (v : Vertex) (c : 
   abbrev f : Vector
   f = opposite d
 
-  listed : At v.map.arcs j.item c
+  listed : IsAt v.map.arcs j.item c
   listed = arc-at v.map.arcs v.map.sloop j.item c K.item
 
   n-some : IsDirection c.normal
@@ -54,28 +54,28 @@ module _ (s : Set) (C : Complex) (S : Shows s C) (j : Corner) (v : Vertex) (c : 
   d-some z = dir-some c.normal n-some (let x = z.0 in omega (arith, ints), let y = z.1 in omega (arith, ints), let w = z.2 in omega (arith, ints))
 
   -- ---- at a svertex on whose side the way back leads
-  module _ (a : ℕ) (u : MapVertex) (is-u : At v.map.svertices a u) (side : EndsOnSide a (dir_of v.map.svertices a) f c) where
-    faced : Reaches s C j v (arc_item c)
+  module _ (a : ℕ) (u : MapVertex) (is-u : IsAt v.map.svertices a u) (side : EndsOnSide a (dir_of v.map.svertices a) f c) where
+    faced : ReachesItem s C j v (arc_item c)
     faced = by (svertex-edge s C S j.vertex a v u K.vertex is-u)
       where
-        low-end : (n : ℕ) (e : Edge) → At C.edges n e → e.low ≡ j.vertex → e.low_svertex ≡ a → Reaches s C j v (arc_item c)
+        low-end : (n : ℕ) (e : Edge) → IsAt C.edges n e → e.low ≡ j.vertex → e.low_svertex ≡ a → ReachesItem s C j v (arc_item c)
         low-end n e at-n low sv =
             let E = S.edges.edges n e at-n in
-            let H : HasEnds C e v E.high_vertex = record { low = subst (λ (i : ℕ). At C.vertices i v) (sym low) K.vertex; high = E.is_high } in
+            let H : HasEnds C e v E.high_vertex = record { low = subst (λ (i : ℕ). IsAt C.vertices i v) (sym low) K.vertex; high = E.is_high } in
             let V = from-low s C S n e at-n v E.high_vertex H in
             let there = subst (λ (i : ℕ). EndsOnSide i (dir_of v.map.svertices i) f c) (sym sv) side in
             edge-named s C S n e at-n v E.high_vertex H j c K (sym low) (subst (λ (t : Vector). EndsOnSide e.low_svertex t f c) (dir-at v.map.svertices e.low_svertex V.start V.is_start) there)
 
-        high-end : (n : ℕ) (e : Edge) → At C.edges n e → e.high ≡ j.vertex → e.high_svertex ≡ a → Reaches s C j v (arc_item c)
+        high-end : (n : ℕ) (e : Edge) → IsAt C.edges n e → e.high ≡ j.vertex → e.high_svertex ≡ a → ReachesItem s C j v (arc_item c)
         high-end n e at-n high sv =
             let E = S.edges.edges n e at-n in
             let w = E.low_vertex in
-            let H : HasEnds C e w v = record { low = E.is_low; high = subst (λ (i : ℕ). At C.vertices i v) (sym high) K.vertex } in
+            let H : HasEnds C e w v = record { low = E.is_low; high = subst (λ (i : ℕ). IsAt C.vertices i v) (sym high) K.vertex } in
             let V = from-high s C S n e at-n w v H in
             let there = subst (λ (i : ℕ). EndsOnSide i (dir_of v.map.svertices i) f c) (sym sv) side in
             let here = subst (λ (t : Vector). EndsOnSide e.high_svertex t f c) (dir-at v.map.svertices e.high_svertex V.start V.is_start) there in
             let A = arc-there s C S e.high e.high_svertex v e.low e.low_svertex w V j.item c listed f level-f f-some here in
-            let k = corner_of e.low A.number in
+            let k = corner_of_numbers e.low A.number in
             let L : IsCorner C k w (arc_item A.arc) = record { vertex = E.is_low; item = at-arc w.map.arcs w.map.sloop A.number A.arc A.listed } in
             let same = SameDirection-turned c.normal A.arc.normal A.one_normal in
             let turned = opposite-same d (way_inward (arc_item A.arc)) (opposite-same (plane_dir c.normal) (plane_dir A.arc.normal) (dir-same c.normal A.arc.normal A.one_normal)) in
@@ -83,25 +83,25 @@ module _ (s : Set) (C : Complex) (S : Shows s C) (j : Corner) (v : Vertex) (c : 
             (far-on s C S e.high e.high_svertex v e.low e.low_svertex w V j c K (⊎_elim (λ r. inl r.0) (λ r. inr r.0) here))
             (edge-named s C S n e at-n w v H k A.arc L refl (side-same e.low_svertex V.end.dir f (opposite (way_inward (arc_item A.arc))) A.arc turned A.side))
 
-        by : ((n : ℕ) × (e : Edge) × At C.edges n e × (((e.low ≡ j.vertex) × (e.low_svertex ≡ a)) ⊎ ((e.high ≡ j.vertex) × (e.high_svertex ≡ a)))) → Reaches s C j v (arc_item c)
+        by : ((n : ℕ) × (e : Edge) × IsAt C.edges n e × (((e.low ≡ j.vertex) × (e.low_svertex ≡ a)) ⊎ ((e.high ≡ j.vertex) × (e.high_svertex ≡ a)))) → ReachesItem s C j v (arc_item c)
         by (n, e, at-n, inl x) = low-end n e at-n x.0 x.1
         by (n, e, at-n, inr x) = high-end n e at-n x.0 x.1
 
   -- ---- along an edge that leads the way inward
-  module _ (a : ℕ) (u : MapVertex) (is-u : At v.map.svertices a u) (o : EndsAt c a) (w : SameDirection (dir_of v.map.svertices a) d) where
+  module _ (a : ℕ) (u : MapVertex) (is-u : IsAt v.map.svertices a u) (o : EndsAt c a) (w : SameDirection (dir_of v.map.svertices a) d) where
     step-on : StepOn C j v c
     step-on = by-edge (svertex-edge s C S j.vertex a v u K.vertex is-u)
       where
-        low-end : (n : ℕ) (e : Edge) → At C.edges n e → e.low ≡ j.vertex → e.low_svertex ≡ a → StepOn C j v c
+        low-end : (n : ℕ) (e : Edge) → IsAt C.edges n e → e.low ≡ j.vertex → e.low_svertex ≡ a → StepOn C j v c
         low-end n e at-n low sv =
             let E = S.edges.edges n e at-n in
-            let H : HasEnds C e v E.high_vertex = record { low = subst (λ (i : ℕ). At C.vertices i v) (sym low) K.vertex; high = E.is_high } in
+            let H : HasEnds C e v E.high_vertex = record { low = subst (λ (i : ℕ). IsAt C.vertices i v) (sym low) K.vertex; high = E.is_high } in
             let V = from-low s C S n e at-n v E.high_vertex H in
             let ends = subst (λ (i : ℕ). EndsAt c i) (sym sv) o in
             let way = subst (λ (t : Vector). SameDirection t d) (dir-at v.map.svertices e.low_svertex V.start V.is_start) (subst (λ (i : ℕ). SameDirection (dir_of v.map.svertices i) d) (sym sv) w) in
             let A = goes-on s C S e.low e.low_svertex v e.high e.high_svertex E.high_vertex V j.item c listed ends in
             record {
-              corner = corner_of e.high A.1.number;
+              corner = corner_of_numbers e.high A.1.number;
               vertex = E.high_vertex;
               arc = A.1.arc;
               is_corner = record { vertex = E.is_high; item = at-arc E.high_vertex.map.arcs E.high_vertex.map.sloop A.1.number A.1.arc A.1.listed };
@@ -112,17 +112,17 @@ module _ (s : Set) (C : Complex) (S : Shows s C) (j : Corner) (v : Vertex) (c : 
               order = inl (subst (λ (i : ℕ). i < e.high) low E.upward, S.ordered e.low e.high v E.high_vertex E.upward H.low H.high);
             }
 
-        high-end : (n : ℕ) (e : Edge) → At C.edges n e → e.high ≡ j.vertex → e.high_svertex ≡ a → StepOn C j v c
+        high-end : (n : ℕ) (e : Edge) → IsAt C.edges n e → e.high ≡ j.vertex → e.high_svertex ≡ a → StepOn C j v c
         high-end n e at-n high sv =
             let E = S.edges.edges n e at-n in
             let x = E.low_vertex in
-            let H : HasEnds C e x v = record { low = E.is_low; high = subst (λ (i : ℕ). At C.vertices i v) (sym high) K.vertex } in
+            let H : HasEnds C e x v = record { low = E.is_low; high = subst (λ (i : ℕ). IsAt C.vertices i v) (sym high) K.vertex } in
             let V = from-high s C S n e at-n x v H in
             let ends = subst (λ (i : ℕ). EndsAt c i) (sym sv) o in
             let way = subst (λ (t : Vector). SameDirection t d) (dir-at v.map.svertices e.high_svertex V.start V.is_start) (subst (λ (i : ℕ). SameDirection (dir_of v.map.svertices i) d) (sym sv) w) in
             let A = goes-on s C S e.high e.high_svertex v e.low e.low_svertex x V j.item c listed ends in
             record {
-              corner = corner_of e.low A.1.number;
+              corner = corner_of_numbers e.low A.1.number;
               vertex = x;
               arc = A.1.arc;
               is_corner = record { vertex = E.is_low; item = at-arc x.map.arcs x.map.sloop A.1.number A.1.arc A.1.listed };
@@ -133,7 +133,7 @@ module _ (s : Set) (C : Complex) (S : Shows s C) (j : Corner) (v : Vertex) (c : 
               order = inr (subst (λ (i : ℕ). e.low < i) high E.upward, S.ordered e.low e.high x v E.upward H.low H.high);
             }
 
-        by-edge : ((n : ℕ) × (e : Edge) × At C.edges n e × (((e.low ≡ j.vertex) × (e.low_svertex ≡ a)) ⊎ ((e.high ≡ j.vertex) × (e.high_svertex ≡ a)))) → StepOn C j v c
+        by-edge : ((n : ℕ) × (e : Edge) × IsAt C.edges n e × (((e.low ≡ j.vertex) × (e.low_svertex ≡ a)) ⊎ ((e.high ≡ j.vertex) × (e.high_svertex ≡ a)))) → StepOn C j v c
         by-edge (n, e, at-n, inl x) = low-end n e at-n x.0 x.1
         by-edge (n, e, at-n, inr x) = high-end n e at-n x.0 x.1
 
@@ -147,21 +147,21 @@ module _ (s : Set) (C : Complex) (S : Shows s C) (j : Corner) (v : Vertex) (c : 
   abbrev to : Vector
   to = dir_of v.map.svertices c.target
 
-  pub three-ways : Reaches s C j v (arc_item c) ⊎ StepOn C j v c
+  pub three-ways : ReachesItem s C j v (arc_item c) ⊎ StepOn C j v c
   three-ways = by (SameDirection-decided from d) (SameDirection-decided to d) (OnItem-decided v.map (arc_item c) d)
     where
-      off : (triple c.normal from d <ℤ pos 0) ⊎ (triple c.normal d to <ℤ pos 0) → Reaches s C j v (arc_item c)
+      off : (triple c.normal from d <ℤ pos 0) ⊎ (triple c.normal d to <ℤ pos 0) → ReachesItem s C j v (arc_item c)
       off (inl h) = faced c.source ends.source ends.has_source (inl (refl, let r = right-turn c.normal from d in omega (arith, ints)))
       off (inr h) = faced c.target ends.target ends.has_target (inr (refl, let r = right-turn c.normal to d in let t = triple-turned c.normal to d in omega (arith, ints)))
 
-      by : Decided (SameDirection from d) → Decided (SameDirection to d) → Decided (OnItem v.map (arc_item c) d) → Reaches s C j v (arc_item c) ⊎ StepOn C j v c
+      by : Decided (SameDirection from d) → Decided (SameDirection to d) → Decided (OnItem v.map (arc_item c) d) → ReachesItem s C j v (arc_item c) ⊎ StepOn C j v c
       by (inl w) _ _ = inr (step-on c.source ends.source ends.has_source (inl refl) w)
       by (inr _) (inl w) _ = inr (step-on c.target ends.target ends.has_target (inr refl) w)
       by (inr _) (inr _) (inl o) = inl (onward-named s C S j v (arc_item c) K o)
       by (inr f) (inr g) (inr h) = inl (off (leads-away c.normal from to d n-some ends.source_direction ends.target_direction d-some ends.source_level ends.target_level level-d f g h))
 
 -- ---- the steps end
-pub toward-normal : (p q : Place) → IsPlaceBelow p q → IsNormal (toward p q)
+pub toward-normal : (p q : SpacePoint) → IsPointBelow p q → IsNormal (toward p q)
 toward-normal p q (inl h) = record { first = omega (arith, ints); second = λ e. absurd (omega (arith, ints)); third = λ e f. absurd (omega (arith, ints)) }
 toward-normal p q (inr (e, inl h)) = record { first = omega (arith, ints); second = λ z. omega (arith, ints); third = λ z w. absurd (omega (arith, ints)) }
 toward-normal p q (inr (e, inr (f, inl h))) = record { first = omega (arith, ints); second = λ z. omega (arith, ints); third = λ z w. omega (arith, ints) }
@@ -182,7 +182,7 @@ module _ (s : Set) (C : Complex) (S : Shows s C) where
     way-there : SameDirection (way_inward (arc_item c)) (way_inward (arc_item there))
     way-there = opposite-same (plane_dir c.normal) (plane_dir there.normal) (dir-same c.normal there.normal (SameDirection-turned there.normal c.normal T.same))
 
-    back-here : Reaches s C T.corner T.vertex (arc_item there) → Reaches s C j v (arc_item c)
+    back-here : ReachesItem s C T.corner T.vertex (arc_item there) → ReachesItem s C j v (arc_item c)
     back-here = carried s C S j v (arc_item c) K T.corner T.vertex (arc_item there) T.is_corner T.link T.same T.on_plane
 
     rises-there : Rises (way_inward (arc_item c)) → Rises (way_inward (arc_item there))
@@ -191,30 +191,30 @@ module _ (s : Set) (C : Complex) (S : Shows s C) where
     falls-there : Rises (opposite (way_inward (arc_item c))) → Rises (opposite (way_inward (arc_item there)))
     falls-there (a, N, w) = (a, N, SameDirection-trans a (opposite (way_inward (arc_item c))) (opposite (way_inward (arc_item there))) w (opposite-same (way_inward (arc_item c)) (way_inward (arc_item there)) way-there))
 
-    upward : IsPlaceBelow v.point T.vertex.point → Rises (way_inward (arc_item c))
+    upward : IsPointBelow v.point T.vertex.point → Rises (way_inward (arc_item c))
     upward b = (toward v.point T.vertex.point, toward-normal v.point T.vertex.point b, T.ahead)
 
-    downward : IsPlaceBelow T.vertex.point v.point → Rises (opposite (way_inward (arc_item c)))
+    downward : IsPointBelow T.vertex.point v.point → Rises (opposite (way_inward (arc_item c)))
     downward b = (toward T.vertex.point v.point, toward-normal T.vertex.point v.point b, ahead-back v.point T.vertex.point (way_inward (arc_item c)) T.ahead)
 
-  climb : (m : ℕ) (j : Corner) (v : Vertex) (c : Arc) → IsCorner C j v (arc_item c) → Rises (way_inward (arc_item c)) → length C.vertices ≤ j.vertex + m → Reaches s C j v (arc_item c)
+  climb : (m : ℕ) (j : Corner) (v : Vertex) (c : Arc) → IsCorner C j v (arc_item c) → Rises (way_inward (arc_item c)) → length C.vertices ≤ j.vertex + m → ReachesItem s C j v (arc_item c)
   climb zero j v c K U l = absurd (omega (arith, within C.vertices j.vertex v K.vertex))
   climb (suc m) j v c K U l = ⊎_elim (λ r. r)
       (λ (T : StepOn C j v c). ⊎_elim
       (λ o. let h = o.0 in back-here j v c K T (climb m T.corner T.vertex T.arc T.is_corner (rises-there j v c K T U) (omega arith)))
       (λ o. absurd (never-both (way_inward (arc_item c)) U (downward j v c K T o.1))) T.order) (three-ways s C S j v c K)
 
-  descend : (m : ℕ) (j : Corner) (v : Vertex) (c : Arc) → IsCorner C j v (arc_item c) → Rises (opposite (way_inward (arc_item c))) → j.vertex < m → Reaches s C j v (arc_item c)
+  descend : (m : ℕ) (j : Corner) (v : Vertex) (c : Arc) → IsCorner C j v (arc_item c) → Rises (opposite (way_inward (arc_item c))) → j.vertex < m → ReachesItem s C j v (arc_item c)
   descend zero j v c K U l = absurd (omega arith)
   descend (suc m) j v c K U l = ⊎_elim (λ r. r)
       (λ (T : StepOn C j v c). ⊎_elim
       (λ o. absurd (never-both (way_inward (arc_item c)) (upward j v c K T o.1) U))
       (λ o. let h = o.0 in back-here j v c K T (descend m T.corner T.vertex T.arc T.is_corner (falls-there j v c K T U) (omega arith))) T.order) (three-ways s C S j v c K)
 
-  arc-reaches : (j : Corner) (v : Vertex) (c : Arc) → IsCorner C j v (arc_item c) → Reaches s C j v (arc_item c)
+  arc-reaches : (j : Corner) (v : Vertex) (c : Arc) → IsCorner C j v (arc_item c) → ReachesItem s C j v (arc_item c)
   arc-reaches j v c K = by (three-ways s C S j v c K)
     where
-      by : Reaches s C j v (arc_item c) ⊎ StepOn C j v c → Reaches s C j v (arc_item c)
+      by : ReachesItem s C j v (arc_item c) ⊎ StepOn C j v c → ReachesItem s C j v (arc_item c)
       by (inl r) = r
       by (inr T) = ⊎_elim
           (λ o. climb (length C.vertices) j v c K (upward j v c K T o.1) (omega arith))

@@ -1,5 +1,5 @@
 -- A point in a facet is joined to a point at the item of its corner, and a point in a volume to one at the side that it has.
-use Rattle.nef_conn.proofs.Prelude.{inl, inr, opposite, up, between-turned, ahead, same-place_sym, ahead-back, facet-of, dim-same, free-flat, IsEvenAfter, corner-across, above-tied, facet-at, at-item, tied-both, tied-ray, CornersReached, SidesReached}
+use Rattle.nef_conn.proofs.Prelude.{inl, inr, opposite, up, between-turned, ahead, same-point_sym, ahead-back, facet-of, dim-same, free-flat, IsEvenAfter, corner-across, above-tied, facet-at, at-item, tied-both, tied-ray, CornersReached, SidesReached}
 
 pub corners-reached : CornersReached
 corners-reached s C p k S H =
@@ -15,4 +15,4 @@ sides-reached s C p x S u (off, R) =
   where
     even : IsEvenAfter s 3 R.place p
     even r (inl b) = free-flat s C S (facet-at s C S) (facet-of s C S) r (R.first r (between-turned R.place p r b))
-    even r (inr e) = dim-same s p r 3 (same-place_sym r p e) (free-flat s C S (facet-at s C S) (facet-of s C S) p off)
+    even r (inr e) = dim-same s p r 3 (same-point_sym r p e) (free-flat s C S (facet-at s C S) (facet-of s C S) p off)

@@ -1,24 +1,24 @@
 -- Two forms of one plane through a point: the same points, the same first meets and corners, the same numbers nought.
-use Rattle.nef_conn.proofs.Prelude.{◌≡◌, ℕ, ℤ, pos, ◌*ℤ◌, ◌<◌, ap, sym, ◌∙◌, inl, inr, ⊎_elim, ◌∷◌, [], sign, cancel_eq, ring, at, num, ◌⊗◌, Place, Form, form_at, normal_of, toward, Vector, cross, triple, SameDirection, SameUpToFactor, of_direction, some-pos, item_normal, Arc, dir_of, turn-last, same-plus, same-minus, Vertex, Complex, Corner, PlaneMeet, meets_vertex, meets_edge, LiesIn, Meets, IsFirstInPlane, IsArcOnSide, IsCornerAt, plane-onward, plane-way, on_item-way, dot-comm, SameDirection-turned, SameDirection-trans, dir-signs, direction-left}
+use Rattle.nef_conn.proofs.Prelude.{◌≡◌, ℕ, ℤ, pos, ◌*ℤ◌, ◌<◌, ap, sym, ◌∙◌, inl, inr, ⊎_elim, ◌∷◌, [], sign, cancel_eq, ring, at, num, ◌⊗◌, SpacePoint, Form, form_at, normal_of, toward, Vector, cross, triple, SameDirection, SameUpToFactor, of_direction, some-pos, item_normal, Arc, dir_of, turn-last, same-plus, same-minus, Vertex, Complex, Corner, PlaneMeet, meets_vertex, meets_edge, LiesIn, Meets, IsFirstInPlane, IsArcOnSide, IsCornerAt, plane-onward, plane-way, on_item-way, dot-comm, SameDirection-turned, SameDirection-trans, dir-signs, direction-left}
 use Rattle.std.specs.Bool.{one_answer}
 use Rattle.std.specs.Ordering.{int_eq}
 use Rattle.std.proofs.lemmas.Bool.Decides.{Decides-int_eq}
 use Rattle.nef_conn.proofs.Onward.{level-kept}
 
 -- ---- points
-module _ (g h : Form) (y : Place) (on_g : form_at g y ≡ pos 0) (on_h : form_at h y ≡ pos 0) (w : SameDirection (normal_of g) (normal_of h)) where
-  pub on-too : (q : Place) → form_at g q ≡ pos 0 → form_at h q ≡ pos 0
+module _ (g h : Form) (y : SpacePoint) (on_g : form_at g y ≡ pos 0) (on_h : form_at h y ≡ pos 0) (w : SameDirection (normal_of g) (normal_of h)) where
+  pub on-too : (q : SpacePoint) → form_at g q ≡ pos 0 → form_at h q ≡ pos 0
   on-too q e = plane-onward h y q (level-kept (normal_of g) (normal_of h) (toward y q) w (plane-way g y q on_g e)) on_h
 
   lies-too : (C : Complex) (k : ℕ) → LiesIn C g k → LiesIn C h k
   lies-too C k (e, v, u, a, H, i, j) = (e, v, u, a, H, on-too v.point i, on-too u.point j)
 
-  meets-too : (C : Complex) (m : PlaneMeet) (q : Place) → Meets C g m q → Meets C h m q
+  meets-too : (C : Complex) (m : PlaneMeet) (q : SpacePoint) → Meets C g m q → Meets C h m q
   meets-too C (meets_vertex k) q x = x
   meets-too C (meets_edge k) q x = (x.0, lies-too C k x.1)
 
 -- what is first met in a plane
-pub first-same : (C : Complex) (g h : Form) (y : Place) → form_at g y ≡ pos 0 → form_at h y ≡ pos 0 → SameDirection (normal_of g) (normal_of h) → (d f : Vector) → SameDirection d f
+pub first-same : (C : Complex) (g h : Form) (y : SpacePoint) → form_at g y ≡ pos 0 → form_at h y ≡ pos 0 → SameDirection (normal_of g) (normal_of h) → (d f : Vector) → SameDirection d f
     → (m : PlaneMeet) → IsFirstInPlane C g y d m → IsFirstInPlane C h y f m
 first-same C g h y on_g on_h w d f u m I = record {
   place = I.place;

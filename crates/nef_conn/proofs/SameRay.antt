@@ -1,11 +1,11 @@
 -- Points along a ray within a facet name the same corners.
-use Rattle.nef_conn.proofs.Prelude.{◌≡◌, pos, ◌<ℤ◌, ◌-ℤ◌, arith, ◌⊎◌, inl, inr, ⊎_elim, ◌∷◌, [], ints, by_order, ring, at, num, ◌⊕◌, ◌⊖◌, ◌⊗◌, IsEven, Place, Form, SamePlace, toward, IsBetween, Set, Vector, dot, cross, IsZero, IsDirection, SameDirection, same-place_sym, toward-place, Complex, Shows, PlaneMeet, Meets, IsFirstInPlane, between-way, between-cases, between-outer, two-off, meets-on, aligned, cross-back, NamesAlong, nought-if, SameDirection-turned, SameDirection-trans, direction-left}
+use Rattle.nef_conn.proofs.Prelude.{◌≡◌, pos, ◌<ℤ◌, ◌-ℤ◌, arith, ◌⊎◌, inl, inr, ⊎_elim, ◌∷◌, [], ints, by_order, ring, at, num, ◌⊕◌, ◌⊖◌, ◌⊗◌, IsEven, SpacePoint, Form, SamePoint, toward, IsBetween, Set, Vector, dot, cross, IsZero, IsDirection, SameDirection, same-point_sym, toward-point, Complex, Shows, PlaneMeet, Meets, IsFirstInPlane, between-way, between-cases, between-outer, two-off, meets-on, aligned, cross-back, NamesAlong, nought-if, SameDirection-turned, SameDirection-trans, direction-left}
 
 -- of two points ahead on one ray one lies before the other, or they are one
-pub on-ray : (v p q : Place) → SameDirection (toward v p) (toward v q) → IsBetween v p q ⊎ (SamePlace p q ⊎ IsBetween v q p)
+pub on-ray : (v p q : SpacePoint) → SameDirection (toward v p) (toward v q) → IsBetween v p q ⊎ (SamePoint p q ⊎ IsBetween v q p)
 on-ray v p q w = by_order (dot (toward v p) (toward p q)) (pos 0)
     (λ h. inr (inr (SameDirection-trans (toward v q) (toward v p) (toward q p) (SameDirection-turned (toward v p) (toward v q) w) (record { parallel = back; forward = turned h }))))
-    (λ e. inr (inl (toward-place p q (nought-if (toward v p) (toward p q) some along e))))
+    (λ e. inr (inl (toward-point p q (nought-if (toward v p) (toward p q) some along e))))
     (λ h. inl (record { parallel = along; forward = h }))
   where
     some : IsDirection (toward v p)
@@ -26,8 +26,8 @@ on-ray v p q w = by_order (dot (toward v p) (toward p q)) (pos 0)
             (num (pos 0) ⊖ (at 0 ⊗ (at 7 ⊗ at 6 ⊖ at 3 ⊗ at 10) ⊕ at 1 ⊗ (at 8 ⊗ at 6 ⊖ at 4 ⊗ at 10) ⊕ at 2 ⊗ (at 9 ⊗ at 6 ⊖ at 5 ⊗ at 10))) tt
 
 -- ---- along a ray
-module _ (s : Set) (C : Complex) (S : Shows s C) (h : Form) (y z : Place) (d : Vector) (to-z : SameDirection (toward y z) d) (even : IsEven s 2 y z) where
-  off : (r : Place) (n : PlaneMeet) → SamePlace r y ⊎ IsBetween y r z ⊎ SamePlace r z → Meets C h n r → ⊥
+module _ (s : Set) (C : Complex) (S : Shows s C) (h : Form) (y z : SpacePoint) (d : Vector) (to-z : SameDirection (toward y z) d) (even : IsEven s 2 y z) where
+  off : (r : SpacePoint) (n : PlaneMeet) → SamePoint r y ⊎ IsBetween y r z ⊎ SamePoint r z → Meets C h n r → ⊥
   off r n o e = two-off s C S r (even r o) (meets-on s C S h n r e)
 
   module _ (m : PlaneMeet) where
@@ -43,7 +43,7 @@ module _ (s : Set) (C : Complex) (S : Shows s C) (h : Form) (y z : Place) (d : V
         before = SameDirection-trans (toward y z) d (toward z I.place) to-z (SameDirection-turned (toward z I.place) d I.ahead)
 
     from-here : IsFirstInPlane C h y d m → IsFirstInPlane C h z d m
-    from-here I = ⊎_elim (λ b. made b) (⊎_elim (λ e. absurd (off I.place m (inr (inr (same-place_sym z I.place e))) I.meets)) (λ b. absurd (off I.place m (inr (inl b)) I.meets)))
+    from-here I = ⊎_elim (λ b. made b) (⊎_elim (λ e. absurd (off I.place m (inr (inr (same-point_sym z I.place e))) I.meets)) (λ b. absurd (off I.place m (inr (inl b)) I.meets)))
         (on-ray y z I.place (SameDirection-trans (toward y z) d (toward y I.place) to-z (SameDirection-turned (toward y I.place) d I.ahead)))
       where
         made : IsBetween y z I.place → IsFirstInPlane C h z d m

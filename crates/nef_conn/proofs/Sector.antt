@@ -1,5 +1,5 @@
 -- Turning from a direction on an item to another of its plane, by less than half a turn, one stays on the item, or its end comes first.
-use Rattle.nef_conn.proofs.Prelude.{◌≡◌, ℕ, zero, suc, ℤ, pos, negsuc, ◌<ℤ◌, true, cond, arith, refl, sym, ◌⊎◌, inl, inr, ⊎_elim, subst, ints, Vector, opposite, dot, triple, IsDirection, SameDirection, IsOnCircle, IsStrictlyOn, Passes, AboutThree, AboutFour, At, MapVertex, Arc, Item, arc_item, sloop_item, items, item_normal, Map, OnItem, dir_of, Shaped, Decided, normal-is, same-plus, same-minus, positive-or, negative-or, Ends, ends-of, on-direction, on-level, arc-at, dir-at, turn-last, IsStrictlyOn-same, triple-turned, SameDirection-turned, SameDirection-trans, dir-self, opposite-same, opposite-twice}
+use Rattle.nef_conn.proofs.Prelude.{◌≡◌, ℕ, zero, suc, ℤ, pos, negsuc, ◌<ℤ◌, true, cond, arith, refl, sym, ◌⊎◌, inl, inr, ⊎_elim, subst, ints, Vector, opposite, dot, triple, IsDirection, SameDirection, IsOnCircle, IsStrictlyOn, Passes, AboutThree, AboutFour, IsAt, MapVertex, Arc, Item, arc_item, sloop_item, items, item_normal, Map, OnItem, dir_of, Shaped, Decided, normal-is, same-plus, same-minus, positive-or, negative-or, Ends, ends-of, on-direction, on-level, arc-at, dir-at, turn-last, IsStrictlyOn-same, triple-turned, SameDirection-turned, SameDirection-trans, dir-self, opposite-same, opposite-twice}
 use lib.Dec.{T}
 use Rattle.law_cyclic.proofs.Signs.{sgn, is_plus, is_minus, both, one_of, rule, plus_is, is_plus_if}
 use Rattle.law_cyclic.proofs.StrictlyOn.{same_test}
@@ -65,9 +65,9 @@ abbrev pub start_of : (n m : Vector) → Seen n m → Arc → ℕ
 start_of n m (inl w) c = c.source
 start_of n m (inr w) c = c.target
 
-abbrev pub end_of : (n m : Vector) → Seen n m → Arc → ℕ
-end_of n m (inl w) c = c.target
-end_of n m (inr w) c = c.source
+abbrev pub sector_end : (n m : Vector) → Seen n m → Arc → ℕ
+sector_end n m (inl w) c = c.target
+sector_end n m (inr w) c = c.source
 
 pub seen-level : (n m d : Vector) → Seen n m → dot n d ≡ pos 0 → dot m d ≡ pos 0
 seen-level n m d (inl w) z = level-kept n m d w z
@@ -82,7 +82,7 @@ module _ (n m : Vector) (O : Seen n m) (m-some : IsDirection m) (M : Map) (V : S
   abbrev way : ℕ → Vector
   way k = dir_of M.svertices k
 
-  module _ (k : ℕ) (c : Arc) (listed : At (items M) k (arc_item c)) (same : SameDirection c.normal n) where
+  module _ (k : ℕ) (c : Arc) (listed : IsAt (items M) k (arc_item c)) (same : SameDirection c.normal n) where
     abbrev E : Ends M c
     E = ends-of M V k c (arc-at M.arcs M.sloop k c listed)
 
@@ -95,48 +95,48 @@ module _ (n m : Vector) (O : Seen n m) (m-some : IsDirection m) (M : Map) (V : S
     n-some : IsDirection c.normal
     n-some = normal-is V k (arc_item c) listed
 
-    seen-on : (e : Vector) → OnItem M (arc_item c) e → IsStrictlyOn m (way (start_of n m O c)) (way (end_of n m O c)) e
+    seen-on : (e : Vector) → OnItem M (arc_item c) e → IsStrictlyOn m (way (start_of n m O c)) (way (sector_end n m O c)) e
     seen-on e o = by O
       where
         self : SameDirection e e
         self = dir-self e (on-direction M (arc_item c) e o)
 
-        by : (O : Seen n m) → IsStrictlyOn m (way (start_of n m O c)) (way (end_of n m O c)) e
+        by : (O : Seen n m) → IsStrictlyOn m (way (start_of n m O c)) (way (sector_end n m O c)) e
         by (inl w) = IsStrictlyOn-same c.normal m (way c.source) (way c.source) (way c.target) (way c.target) e e (SameDirection-trans c.normal n m same w) (dir-self (way c.source) E.source_direction) (dir-self (way c.target) E.target_direction) self o
         by (inr w) = IsStrictlyOn-same (opposite c.normal) m (way c.target) (way c.target) (way c.source) (way c.source) e e (SameDirection-trans (opposite c.normal) (opposite n) m (opposite-same c.normal n same) w)
             (dir-self (way c.target) E.target_direction) (dir-self (way c.source) E.source_direction) self ((way_back_passes_the_same c.normal (way c.source) (way c.target) e n-some at-source at-target).1 o)
 
-    on-seen : (e : Vector) → IsStrictlyOn m (way (start_of n m O c)) (way (end_of n m O c)) e → OnItem M (arc_item c) e
+    on-seen : (e : Vector) → IsStrictlyOn m (way (start_of n m O c)) (way (sector_end n m O c)) e → OnItem M (arc_item c) e
     on-seen e o = by O o
       where
-        by : (O : Seen n m) → IsStrictlyOn m (way (start_of n m O c)) (way (end_of n m O c)) e → OnItem M (arc_item c) e
+        by : (O : Seen n m) → IsStrictlyOn m (way (start_of n m O c)) (way (sector_end n m O c)) e → OnItem M (arc_item c) e
         by (inl w) o = IsStrictlyOn-same m c.normal (way c.source) (way c.source) (way c.target) (way c.target) e e (SameDirection-turned c.normal m (SameDirection-trans c.normal n m same w)) (dir-self (way c.source) E.source_direction) (dir-self (way c.target) E.target_direction) (dir-self e o.on_circle.direction) o
         by (inr w) o = (way_back_passes_the_same c.normal (way c.source) (way c.target) e n-some at-source at-target).0
             (IsStrictlyOn-same m (opposite c.normal) (way c.target) (way c.target) (way c.source) (way c.source) e e (SameDirection-turned (opposite c.normal) m (SameDirection-trans (opposite c.normal) (opposite n) m (opposite-same c.normal n same) w))
             (dir-self (way c.target) E.target_direction) (dir-self (way c.source) E.source_direction) (dir-self e o.on_circle.direction) o)
 
     -- the end of the arc
-    end-listed : (u : MapVertex) × At M.svertices (end_of n m O c) u
+    end-listed : (u : MapVertex) × IsAt M.svertices (sector_end n m O c) u
     end-listed = by O
       where
-        by : (O : Seen n m) → (u : MapVertex) × At M.svertices (end_of n m O c) u
+        by : (O : Seen n m) → (u : MapVertex) × IsAt M.svertices (sector_end n m O c) u
         by (inl w) = (E.target, E.has_target)
         by (inr w) = (E.source, E.has_source)
 
-    end-level : dot n (way (end_of n m O c)) ≡ pos 0
+    end-level : dot n (way (sector_end n m O c)) ≡ pos 0
     end-level = by O
       where
-        by : (O : Seen n m) → dot n (way (end_of n m O c)) ≡ pos 0
+        by : (O : Seen n m) → dot n (way (sector_end n m O c)) ≡ pos 0
         by (inl w) = level-kept c.normal n (way c.target) same E.target_level
         by (inr w) = level-kept c.normal n (way c.source) same E.source_level
 
-    ends-about : IsOnCircle m (way (start_of n m O c)) × IsOnCircle m (way (end_of n m O c))
+    ends-about : IsOnCircle m (way (start_of n m O c)) × IsOnCircle m (way (sector_end n m O c))
     ends-about = by O
       where
         about : (O : Seen n m) (d : Vector) → IsOnCircle c.normal d → IsOnCircle m d
         about O d o = record { direction = o.direction; level = seen-level n m d O (level-kept c.normal n d same o.level) }
 
-        by : (O : Seen n m) → IsOnCircle m (way (start_of n m O c)) × IsOnCircle m (way (end_of n m O c))
+        by : (O : Seen n m) → IsOnCircle m (way (start_of n m O c)) × IsOnCircle m (way (sector_end n m O c))
         by (inl w) = (about (inl w) (way c.source) at-source, about (inl w) (way c.target) at-target)
         by (inr w) = (about (inr w) (way c.target) at-target, about (inr w) (way c.source) at-source)
 
@@ -151,19 +151,19 @@ pub record Stops (M : Map) (x : Item) (n m f g : Vector) (O : Seen n m) : Type 0
   pub arc : Arc
   pub is_arc : x ≡ arc_item arc
   pub svertex : MapVertex
-  pub end : At M.svertices (end_of n m O arc) svertex
+  pub end : IsAt M.svertices (sector_end n m O arc) svertex
   pub level : dot n svertex.dir ≡ pos 0
   pub left : pos 0 <ℤ triple m f svertex.dir
   pub before : SameDirection svertex.dir g ⊎ (pos 0 <ℤ triple m svertex.dir g)
   pub between : (e : Vector) → IsDirection e → dot n e ≡ pos 0 → pos 0 <ℤ triple m f e → pos 0 <ℤ triple m e svertex.dir → OnItem M x e
 
 module _ (n m : Vector) (O : Seen n m) (m-some : IsDirection m) (M : Map) (V : Shaped M) (f g : Vector) (g-some : IsDirection g) (level : dot n g ≡ pos 0) (turn : pos 0 <ℤ triple m f g) where
-  module _ (k : ℕ) (c : Arc) (listed : At (items M) k (arc_item c)) (same : SameDirection c.normal n) (on : OnItem M (arc_item c) f) where
+  module _ (k : ℕ) (c : Arc) (listed : IsAt (items M) k (arc_item c)) (same : SameDirection c.normal n) (on : OnItem M (arc_item c) f) where
     abbrev s : Vector
     s = dir_of M.svertices (start_of n m O c)
 
     abbrev t : Vector
-    t = dir_of M.svertices (end_of n m O c)
+    t = dir_of M.svertices (sector_end n m O c)
 
     at-f : IsOnCircle m f
     at-f = record { direction = on-direction M (arc_item c) f on; level = seen-level n m f O (level-kept c.normal n f same (on-level M (arc_item c) f on)) }
@@ -201,9 +201,9 @@ module _ (n m : Vector) (O : Seen n m) (m-some : IsDirection m) (M : Map) (V : S
             absurd (none p (omega (arith, ints)))
 
     stops : pos 0 <ℤ triple m f t → SameDirection g t ⊎ (triple m g t <ℤ pos 0) → Stops M (arc_item c) n m f g O
-    stops h o = let u = end-listed n m O m-some M V k c listed same in by u.0 u.1 (dir-at M.svertices (end_of n m O c) u.0 u.1)
+    stops h o = let u = end-listed n m O m-some M V k c listed same in by u.0 u.1 (dir-at M.svertices (sector_end n m O c) u.0 u.1)
       where
-        by : (u : MapVertex) → At M.svertices (end_of n m O c) u → t ≡ u.dir → Stops M (arc_item c) n m f g O
+        by : (u : MapVertex) → IsAt M.svertices (sector_end n m O c) u → t ≡ u.dir → Stops M (arc_item c) n m f g O
         by u a e = record {
           arc = c;
           is_arc = refl;
@@ -229,7 +229,7 @@ module _ (n m : Vector) (O : Seen n m) (m-some : IsDirection m) (M : Map) (V : S
         by (inr h) q (inl o) = go o (λ x y. h x)
         by p (inr l) (inl o) = go o (λ x y. l y)
 
-  pub turned : (k : ℕ) (x : Item) → At (items M) k x → SameDirection (item_normal x) n → OnItem M x f → Through M x n m f g ⊎ Stops M x n m f g O
+  pub turned : (k : ℕ) (x : Item) → IsAt (items M) k x → SameDirection (item_normal x) n → OnItem M x f → Through M x n m f g ⊎ Stops M x n m f g O
   turned k (arc_item c) listed same on = arc-turned k c listed same on
   turned k (sloop_item l) listed same on =
       let level-opposite = SameDirection-turned l.normal n same in

@@ -1,5 +1,5 @@
 -- Each side that isn't outside has a point at it that names, by the ray down, a side of its class; so where items whose points are joined are linked, sides are.
-use Rattle.nef_conn.proofs.Prelude.{◌≡◌, pos, ◌<ℤ◌, arith, refl, sym, ◌∙◌, inl, inr, ⊎_elim, List, ◌∷◌, subst, [], each, ring, at, num, ◌⊕◌, ◌⊖◌, ◌⊗◌, Chained, FlatDim, Place, Form, form_at, normal_of, slope, plane_through, InFrame, toward, IsBetween, Set, Vector, opposite, cross, triple, IsDirection, SameDirection, up, Label, Out, carriers, between-turned, between-inner, ray-cell, germs-by_cell, even-germs, ahead, start, start-close, start-between, signs-same, same-place_sym, all-vertices, reach_all, place-toward, At, HasSide, Sees, here, at-one, Beside, same_way, other_way, beside, cross-self, turn-last, turn-same, same-plus, Vertex, Complex, Shows, at_vertex, VertexSide, RayDown, through-at, ahead-back, facet-of, through-level, plane-between, dim-same, plane-ahead, even-by, skeleton-not_flat, skeleton-or_flat, between-way, between-cases, same-itself, VolumeLink, IsUpright, IsEvenAfter, IsAtSide, through-same, free-dim, side-sees, sees-way, seen-free, ahead-close, ahead-toward, dim-cell, even-after, facet-at, AreLinkedWhereJoined, SidesName, NamesOfFreeSegments, ConverseByItems, ConverseForAll, sliced, zero-decided, dot-zero, self-pos, SameDirection-turned, SameDirection-trans, dir-self, opposite-way, direction-left, direction-right}
+use Rattle.nef_conn.proofs.Prelude.{◌≡◌, pos, ◌<ℤ◌, arith, refl, sym, ◌∙◌, inl, inr, ⊎_elim, List, ◌∷◌, subst, [], each, ring, at, num, ◌⊕◌, ◌⊖◌, ◌⊗◌, Chained, FlatDim, SpacePoint, Form, form_at, normal_of, slope, plane_through, InFrame, toward, IsBetween, Set, Vector, opposite, cross, triple, IsDirection, SameDirection, up, Label, Out, carriers, between-turned, between-inner, ray-cell, germs-by_cell, even-germs, ahead, start, start-close, start-between, signs-same, same-point_sym, all-vertices, reach_all, point-toward, IsAt, HasSide, Sees, here, at-one, Beside, same_way, other_way, beside, cross-self, turn-last, turn-same, same-plus, Vertex, Complex, Shows, at_vertex, VertexSide, RayDown, through-at, ahead-back, facet-of, through-level, plane-between, dim-same, plane-ahead, even-by, skeleton-not_flat, skeleton-or_flat, between-way, between-cases, same-itself, VolumeLink, IsUpright, IsEvenAfter, IsAtSide, through-same, free-dim, side-sees, sees-way, seen-free, ahead-close, ahead-toward, dim-cell, even-after, facet-at, AreLinkedWhereJoined, SidesName, NamesOfFreeSegments, ConverseByItems, ConverseForAll, sliced, zero-decided, dot-zero, self-pos, SameDirection-turned, SameDirection-trans, dir-self, opposite-way, direction-left, direction-right}
 use Rattle.nef_conn.proofs.Chain.{chain-here}
 use Rattle.nef_conn.proofs.SidePaths.{side-label, label-inside, converse-by_segments}
 use Rattle.nef_conn.proofs.Downs.{vertex-falls}
@@ -19,9 +19,9 @@ module _ (s : Set) (C : Complex) (S : Shows s C) (upright : IsUpright C) (linked
       segment-names s C S upright linked (λ h. Unit {0}) (λ r. Unit {0}) (λ h al hn level r on f g. all-good s C S upright linked r h hn level on f) (λ h. tt) p q x y inside even (λ u o r d. tt) R T
 
   -- ---- sides
-  module _ (x : VertexSide) (l : Label) (v : Vertex) (a : At C.vertices x.vertex v) (has : HasSide v.map x.side l) (not-out : l ≡ Out → ⊥) where
+  module _ (x : VertexSide) (l : Label) (v : Vertex) (a : IsAt C.vertices x.vertex v) (has : HasSide v.map x.side l) (not-out : l ≡ Out → ⊥) where
     abbrev Named : Type 0
-    Named = (q : Place) × (z : VertexSide) × IsAtSide s C x q × RayDown C q z × Chained (VolumeLink C) x z
+    Named = (q : SpacePoint) × (z : VertexSide) × IsAtSide s C x q × RayDown C q z × Chained (VolumeLink C) x z
 
     module _ (d : Vector) (o : Sees v.map x.side d) where
       some : IsDirection d
@@ -31,10 +31,10 @@ module _ (s : Set) (C : Complex) (S : Shows s C) (upright : IsUpright C) (linked
       three = free-dim v.map s v.point (S.cones x.vertex v a) d (seen-free v.map x.side d o)
 
       -- a point toward d, as far as the set doesn't change
-      at-point : (q : Place) → SameDirection (toward v.point q) d → IsEvenAfter s 3 v.point q → IsAtSide s C x q
+      at-point : (q : SpacePoint) → SameDirection (toward v.point q) d → IsEvenAfter s 3 v.point q → IsAtSide s C x q
       at-point q w even = record { vertex = v; is_vertex = a; label = l; has = has; sees = sees-way v.map d (toward v.point q) (SameDirection-turned (toward v.point q) d w) x.side o; even = even }
 
-      inside-at : (q : Place) → IsAtSide s C x q → InFrame q
+      inside-at : (q : SpacePoint) → IsAtSide s C x q → InFrame q
       inside-at q A = label-inside s q A.label (side-label s C S x q A) (λ e. not-out (own-label A ∙ e))
         where
           -- a side has one label
@@ -84,14 +84,14 @@ module _ (s : Set) (C : Complex) (S : Shows s C) (upright : IsUpright C) (linked
           below : (z : VertexSide) × RayDown C (ahead s v.point d) z
           below = ray-down s C S upright (ahead s v.point d) inside three
 
-          module-ray : (z : VertexSide) (R : RayDown C (ahead s v.point d) z) → (r : Place) → IsBetween v.point r R.place → FlatDim s r 3 × InFrame r
+          module-ray : (z : VertexSide) (R : RayDown C (ahead s v.point d) z) → (r : SpacePoint) → IsBetween v.point r R.place → FlatDim s r 3 × InFrame r
           module-ray z R r m = ⊎_elim
               (λ k. (even r (inl k), germs-inside s (ahead s v.point d) r (germs-by_cell s (ahead s v.point d) r (ray-cell (carriers s) v.point (ahead s v.point d) r (ahead-close s v.point d) k)) inside))
-              (λ o'. ⊎_elim (λ e. (dim-same s (ahead s v.point d) r 3 (same-place_sym r (ahead s v.point d) e) three, germs-inside s (ahead s v.point d) r (germs-by_cell s (ahead s v.point d) r (signs-same (carriers s) (ahead s v.point d) r (same-place_sym r (ahead s v.point d) e))) inside))
+              (λ o'. ⊎_elim (λ e. (dim-same s (ahead s v.point d) r 3 (same-point_sym r (ahead s v.point d) e) three, germs-inside s (ahead s v.point d) r (germs-by_cell s (ahead s v.point d) r (signs-same (carriers s) (ahead s v.point d) r (same-point_sym r (ahead s v.point d) e))) inside))
               (λ k. (ray r k, germs-inside s (ahead s v.point d) r (even-germs s 3 (ahead s v.point d) r (even-by s 3 (ahead s v.point d) r three (λ u i. ray u (between-inner (ahead s v.point d) r R.place u k i)) (ray r k))) inside)) o')
               (between-cases v.point (ahead s v.point d) R.place r on m)
             where
-              ray : (u : Place) → IsBetween (ahead s v.point d) u R.place → FlatDim s u 3
+              ray : (u : SpacePoint) → IsBetween (ahead s v.point d) u R.place → FlatDim s u 3
               ray u k = ⊎_elim (λ f. f) (λ z. absurd (R.first u k z)) (skeleton-or_flat s C S (facet-at s C S) (facet-of s C S) u)
 
               on : IsBetween v.point (ahead s v.point d) R.place
@@ -148,13 +148,13 @@ module _ (s : Set) (C : Complex) (S : Shows s C) (upright : IsUpright C) (linked
         level-d = (through-level m d v.point).0 (ring (up.x ∷ up.y ∷ up.z ∷ d.x ∷ d.y ∷ d.z ∷ []) ((at 1 ⊗ at 5 ⊖ at 2 ⊗ at 4) ⊗ at 3 ⊕ (at 2 ⊗ at 3 ⊖ at 0 ⊗ at 5) ⊗ at 4 ⊕ (at 0 ⊗ at 4 ⊖ at 1 ⊗ at 3) ⊗ at 5) (num (pos 0)) tt)
 
         on-v : form_at h v.point ≡ pos 0
-        on-v = through-at m v.point v.point ∙ dot-zero m (toward v.point v.point) (place-toward v.point v.point (same-itself v.point))
+        on-v = through-at m v.point v.point ∙ dot-zero m (toward v.point v.point) (point-toward v.point v.point (same-itself v.point))
 
         abbrev t : Set
         t = sliced s h
 
         -- close to v toward d, for the slice
-        abbrev q : Place
+        abbrev q : SpacePoint
         q = ahead (sliced s h) v.point d
 
         to-q : SameDirection (toward v.point q) d
@@ -165,7 +165,7 @@ module _ (s : Set) (C : Complex) (S : Shows s C) (upright : IsUpright C) (linked
           where
             three-q : FlatDim s q 3
             three-q = dim-cell s (ahead s v.point d) q 3 (λ f i. sym (sliced-ahead s h v.point d f i)) three
-        even-q r (inr e) = dim-same s q r 3 (same-place_sym r q e) (dim-cell s (ahead s v.point d) q 3 (λ f i. sym (sliced-ahead s h v.point d f i)) three)
+        even-q r (inr e) = dim-same s q r 3 (same-point_sym r q e) (dim-cell s (ahead s v.point d) q 3 (λ f i. sym (sliced-ahead s h v.point d f i)) three)
 
         on-q : form_at h q ≡ pos 0
         on-q = plane-ahead h v.point q d to-q level-d on-v
@@ -180,7 +180,7 @@ module _ (s : Set) (C : Complex) (S : Shows s C) (upright : IsUpright C) (linked
         abbrev hs : List Form
         hs = each (λ p. up_line n p) (all-vertices (sliced s h)).0
 
-        abbrev b : Place
+        abbrev b : SpacePoint
         b = start (reach_all hs v.point) v.point q
 
         amid : IsBetween v.point b q
@@ -194,7 +194,7 @@ module _ (s : Set) (C : Complex) (S : Shows s C) (upright : IsUpright C) (linked
 
         even-b : IsEvenAfter s 3 v.point b
         even-b r (inl c) = even-q r (inl (between-inner v.point b q r amid c))
-        even-b r (inr e) = dim-same s b r 3 (same-place_sym r b e) (even-q b (inl amid))
+        even-b r (inr e) = dim-same s b r 3 (same-point_sym r b e) (even-q b (inl amid))
 
         at-b : IsAtSide s C x b
         at-b = at-point b to-b even-b

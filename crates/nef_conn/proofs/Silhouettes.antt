@@ -1,5 +1,5 @@
 -- What falls from a point b names a side of the class of what lies above the point at which the fall beside it ends: on an edge of the plane at once; at a vertex of the plane by what leaves it, or, where nothing does, by what lies below it.
-use Rattle.nef_conn.proofs.Prelude.{◌≡◌, ℕ, zero, suc, ◌<◌, pos, ◌<ℤ◌, arith, sym, ◌⊎◌, inl, inr, ⊎_elim, subst, Lies, lies-left, lies-right, lies-append, Germ, FlatDim, IsEven, Label, label_not, Germ-unique, facet-at, Place, Form, form_at, normal_of, slope, SamePlace, InFrame, toward, IsBetween, Set, halves, Vector, opposite, IsDirection, SameDirection, up, frame, carriers, SameGerms, FlatDim-one, FlatDim-by_germs, between-turned, between-inner, label_of, germ_of, ahead, start-close, even-germs, labels-by_germs, flat-toward, flat_dim-of, Flat-from_cone, same-place_sym, reach_all, toward-place, place-toward, between-same, Complex, Shows, VertexSide, RayDown, IsFlatIn, near_point, near-between, facet-of, plane-between, dim-same, even-by, skeleton-not_flat, skeleton-or_flat, between-outer, same-itself, same-place_trans, IsUpright, IsEvenAfter, beside-ahead, beside-cell, AreLinkedWhereJoined, plane_set, sliced, nought-or, SameDirection-turned, SameDirection-trans, opposite-same, direction-left}
+use Rattle.nef_conn.proofs.Prelude.{◌≡◌, ℕ, zero, suc, ◌<◌, pos, ◌<ℤ◌, arith, sym, ◌⊎◌, inl, inr, ⊎_elim, subst, Lies, lies-left, lies-right, lies-append, Germ, FlatDim, IsEven, Label, label_not, Germ-unique, facet-at, SpacePoint, Form, form_at, normal_of, slope, SamePoint, InFrame, toward, IsBetween, Set, halves, Vector, opposite, IsDirection, SameDirection, up, frame, carriers, SameGerms, FlatDim-one, FlatDim-by_germs, between-turned, between-inner, label_of, germ_of, ahead, start-close, even-germs, labels-by_germs, flat-toward, flat_dim-of, Flat-from_cone, same-point_sym, reach_all, toward-point, point-toward, between-same, Complex, Shows, VertexSide, RayDown, IsFlatIn, near_point, near-between, facet-of, plane-between, dim-same, even-by, skeleton-not_flat, skeleton-or_flat, between-outer, same-itself, same-point_trans, IsUpright, IsEvenAfter, beside-ahead, beside-cell, AreLinkedWhereJoined, plane_set, sliced, nought-or, SameDirection-turned, SameDirection-trans, opposite-same, direction-left}
 use Rattle.nef_conn.proofs.Leaves.{toward-same}
 use Rattle.law_near.specs.Cells.{SameSigns}
 use Rattle.nef_conn.proofs.SameRay.{on-ray}
@@ -13,22 +13,22 @@ use Rattle.nef_conn.proofs.SliceStrip.{lam, Clear, back-way}
 pub sliced-lies : (s : Set) (h f : Form) → Lies (carriers s) f → Lies (carriers (sliced s h)) f
 sliced-lies s h f l = ⊎_elim (λ m. lies-left frame (halves (sliced s h)) f m) (λ m. lies-right frame (halves (sliced s h)) f (lies-left (halves s) (halves (plane_set h)) f m)) (lies-append frame (halves s) f l)
 
-pub sliced-signs : (s : Set) (h : Form) (p q : Place) → SameSigns (carriers (sliced s h)) p q → SameSigns (carriers s) p q
+pub sliced-signs : (s : Set) (h : Form) (p q : SpacePoint) → SameSigns (carriers (sliced s h)) p q → SameSigns (carriers s) p q
 sliced-signs s h p q same f l = same f (sliced-lies s h f l)
 
-pub sliced-off : (s : Set) (h : Form) (y r : Place) → IsOff (sliced s h) y r → IsOff s y r
+pub sliced-off : (s : Set) (h : Form) (y r : SpacePoint) → IsOff (sliced s h) y r → IsOff s y r
 sliced-off s h y r off f l = off f (sliced-lies s h f l)
 
 -- what lies close to y for the slice lies in the same cell for the set
-pub sliced-ahead : (s : Set) (h : Form) (y : Place) (d : Vector) → SameSigns (carriers s) (ahead (sliced s h) y d) (ahead s y d)
+pub sliced-ahead : (s : Set) (h : Form) (y : SpacePoint) (d : Vector) → SameSigns (carriers s) (ahead (sliced s h) y d) (ahead s y d)
 sliced-ahead s h y d = beside-cell s y d (ahead (sliced s h) y d) (ahead s y d) (λ f l. beside-ahead (sliced s h) y d f (sliced-lies s h f l)) (beside-ahead s y d)
 
 -- points with the same germs lie in the frame together
-pub germs-inside : (s : Set) (p q : Place) → SameGerms s p q → InFrame p → InFrame q
+pub germs-inside : (s : Set) (p q : SpacePoint) → SameGerms s p q → InFrame p → InFrame q
 germs-inside s p q same i = let l = label_of s p in label-inside s q l.0 ((labels-by_germs s p q same l.0).0 l.1) (inside-label s p l.0 l.1 i)
 
 -- points of the plane with the same germs have the same for the slice
-module _ (s : Set) (h : Form) (p q : Place) (on-p : form_at h p ≡ pos 0) (on-q : form_at h q ≡ pos 0) where
+module _ (s : Set) (h : Form) (p q : SpacePoint) (on-p : form_at h p ≡ pos 0) (on-q : form_at h q ≡ pos 0) where
   there : SameGerms s p q → (v : Vector) (l : Label) → Germ (sliced s h) p v l → Germ (sliced s h) q v l
   there same v l g = ⊎_elim (λ z. level z) (λ n. apart n) (nought-or (slope h v))
     where
@@ -38,50 +38,50 @@ module _ (s : Set) (h : Form) (p q : Place) (on-p : form_at h p ≡ pos 0) (on-q
       apart : (slope h v ≡ pos 0 → ⊥) → Germ (sliced s h) q v l
       apart n = let k = germ_of s p v in subst (Germ (sliced s h) q v) (Germ-unique (sliced s h) p v k.0 l (germ-off s h p on-p v k.0 n k.1) g) (germ-off s h q on-q v k.0 n ((same v k.0).0 k.1))
 
-pub resliced : (s : Set) (h : Form) (p q : Place) → form_at h p ≡ pos 0 → form_at h q ≡ pos 0 → SameGerms s p q → SameGerms (sliced s h) p q
+pub resliced : (s : Set) (h : Form) (p q : SpacePoint) → form_at h p ≡ pos 0 → form_at h q ≡ pos 0 → SameGerms s p q → SameGerms (sliced s h) p q
 resliced s h p q on-p on-q same v l = (there s h p q on-p on-q same v l, there s h q p on-q on-p (λ d m. let g = same d m in (g.1, g.0)) v l)
 
 -- the way to an equal point
-pub toward-end : (y p c : Place) → SamePlace p c → IsDirection (toward y c) → SameDirection (toward y p) (toward y c)
+pub toward-end : (y p c : SpacePoint) → SamePoint p c → IsDirection (toward y c) → SameDirection (toward y p) (toward y c)
 toward-end y p c e i =
     subst (λ (v : Vector). SameDirection v (toward y c)) (sym (back-way p y)) (subst (λ (v : Vector). SameDirection (opposite (toward p y)) v) (sym (back-way c y))
-    (opposite-same (toward p y) (toward c y) (toward-same p c y e (λ z. i (place-toward y c (same-place_trans y p c (same-place_sym p y (toward-place p y z)) e))))))
+    (opposite-same (toward p y) (toward c y) (toward-same p c y e (λ z. i (point-toward y c (same-point_trans y p c (same-point_sym p y (toward-point p y z)) e))))))
 
 module _ (s : Set) (h : Form) (hn : IsDirection (normal_of h)) where
   abbrev t : Set
   t = sliced s h
 
   -- ---- points of the plane
-  pub two-of : (p : Place) → form_at h p ≡ pos 0 → FlatDim s p 3 → InFrame p → IsFlatIn (sliced s h) h p
+  pub two-of : (p : SpacePoint) → form_at h p ≡ pos 0 → FlatDim s p 3 → InFrame p → IsFlatIn (sliced s h) h p
   two-of p on f i = let l = label_of s p in free-slice s h hn p l.0 on f l.1 (inside-label s p l.0 l.1 i)
 
-  pub germs-of : (k : ℕ) (p r : Place) → form_at h p ≡ pos 0 → form_at h r ≡ pos 0 → IsEven (sliced s h) k p r → SameGerms s p r
+  pub germs-of : (k : ℕ) (p r : SpacePoint) → form_at h p ≡ pos 0 → form_at h r ≡ pos 0 → IsEven (sliced s h) k p r → SameGerms s p r
   germs-of k p r on-p on-r even = unsliced s h p r on-p on-r (even-germs (sliced s h) k p r even)
 
-  pub three-of : (k : ℕ) (p r : Place) → form_at h p ≡ pos 0 → form_at h r ≡ pos 0 → IsEven (sliced s h) k p r → FlatDim s p 3 → FlatDim s r 3
+  pub three-of : (k : ℕ) (p r : SpacePoint) → form_at h p ≡ pos 0 → form_at h r ≡ pos 0 → IsEven (sliced s h) k p r → FlatDim s p 3 → FlatDim s r 3
   three-of k p r on-p on-r even = FlatDim-by_germs s s p r (germs-of k p r on-p on-r even) 3
 
   -- along a way with three flat directions the slice has two
-  pub even-two : (p r : Place) → form_at h p ≡ pos 0 → form_at h r ≡ pos 0 → IsEven s 3 p r → InFrame p → IsEven (sliced s h) 2 p r
+  pub even-two : (p r : SpacePoint) → form_at h p ≡ pos 0 → form_at h r ≡ pos 0 → IsEven s 3 p r → InFrame p → IsEven (sliced s h) 2 p r
   even-two p r on-p on-r even i = even-by (sliced s h) 2 p r (let f = two-of p on-p (even p (inl (same-itself p))) i in f.0)
       (λ u m. let e = even-by s 3 p u (even p (inl (same-itself p))) (λ x n. even x (inr (inl (between-inner p u r x m n)))) (even u (inr (inl m))) in
       let f = two-of u (plane-between h p u r m on-p on-r) (even u (inr (inl m))) (germs-inside s p u (even-germs s 3 p u e) i) in f.0)
       (let f = two-of r on-r (even r (inr (inr (same-itself r)))) (germs-inside s p r (even-germs s 3 p r even) i) in f.0)
 
 -- no two close points are both vertices
-pub no-vertices : (s : Set) (c y : Place) → IsDirection (toward c y) → FlatDim s (near_point s c y) 0 → ⊥
+pub no-vertices : (s : Set) (c y : SpacePoint) → IsDirection (toward c y) → FlatDim s (near_point s c y) 0 → ⊥
 no-vertices s c y i f =
     let q = near_point s c y in
     f.1 (toward c q, direction-left (toward c q) (toward q y) (near-between s c y i), Flat-from_cone s q (toward c q) (flat-toward s c q (start-close (reach_all (carriers s) c) c y)))
 
 module _ (s : Set) (C : Complex) (S : Shows s C) (upright : IsUpright C) (linked : AreLinkedWhereJoined s C) (h : Form) (hn : IsDirection (normal_of h)) (level : slope h up ≡ pos 0) where
   -- ---- what falls from b ends where it lands
-  module _ (y' b : Place) (on-y' : form_at h y' ≡ pos 0) (on-b : form_at h b ≡ pos 0) (side : pos 0 <ℤ lam (normal_of h) y' b) (clear : Clear (sliced s h) h hn level y' b) (to-b : (r : Place) → IsBetween b r y' → FlatDim (sliced s h) r 2) (F : IsFlatIn (sliced s h) h b)
+  module _ (y' b : SpacePoint) (on-y' : form_at h y' ≡ pos 0) (on-b : form_at h b ≡ pos 0) (side : pos 0 <ℤ lam (normal_of h) y' b) (clear : Clear (sliced s h) h hn level y' b) (to-b : (r : SpacePoint) → IsBetween b r y' → FlatDim (sliced s h) r 2) (F : IsFlatIn (sliced s h) h b)
       (three : FlatDim s b 3) (inside : InFrame b) (g : Vector) (L : Landing (sliced s h) h hn level y' b on-y' on-b side clear to-b F g) (z : VertexSide) (R : RayDown C b z) where
-    abbrev c : Place
+    abbrev c : SpacePoint
     c = L.place
 
-    free-b : (r : Place) → IsBetween b r L.place → FlatDim s r 3
+    free-b : (r : SpacePoint) → IsBetween b r L.place → FlatDim s r 3
     free-b r m = three-of s h hn 2 b r on-b (plane-between h b r L.place m on-b L.on) (even-by (sliced s h) 2 b r F.0 (λ u k. L.free u (between-inner b r L.place u m k)) (L.free r m)) three
 
     not-free : FlatDim s L.place 3 → ⊥
@@ -90,10 +90,10 @@ module _ (s : Set) (C : Complex) (S : Shows s C) (upright : IsUpright C) (linked
         let two = two-of s h hn L.place L.on f (germs-inside s b L.place (even-germs s 3 b L.place even) inside) in
         let e = FlatDim-one (sliced s h) L.place 1 2 L.here two.0 in cc
 
-    pub lands : SamePlace R.place L.place
+    pub lands : SamePoint R.place L.place
     lands = by (on-ray b R.place L.place (SameDirection-trans (toward b R.place) (opposite up) (toward b L.place) R.ahead (SameDirection-turned (toward b L.place) (opposite up) L.below)))
       where
-        by : IsBetween b R.place L.place ⊎ (SamePlace R.place L.place ⊎ IsBetween b L.place R.place) → SamePlace R.place L.place
+        by : IsBetween b R.place L.place ⊎ (SamePoint R.place L.place ⊎ IsBetween b L.place R.place) → SamePoint R.place L.place
         by (inl m) = absurd (skeleton-not_flat s C S (facet-at s C S) (facet-of s C S) R.place (R.spot, R.is_spot) (free-b R.place m))
         by (inr (inl e)) = e
         by (inr (inr m)) = absurd (⊎_elim not-free (λ o. R.first L.place m o) (skeleton-or_flat s C S (facet-at s C S) (facet-of s C S) L.place))
@@ -105,25 +105,25 @@ module _ (s : Set) (C : Complex) (S : Shows s C) (upright : IsUpright C) (linked
     some-way : IsDirection (toward y' L.place)
     some-way = direction-left (toward y' L.place) g L.dir
 
-    along : (r : Place) → IsBetween y' r L.place → SameGerms s L.place r
+    along : (r : SpacePoint) → IsBetween y' r L.place → SameGerms s L.place r
     along r m =
         let even = even-by (sliced s h) 1 r L.place (L.edge r m) (λ u k. L.edge u (between-outer y' r u L.place m k)) L.here in
         let same = germs-of s h hn 1 r L.place (plane-between h y' r L.place m on-y' L.on) L.on even in
         λ d l. let i = same d l in (i.1, i.0)
 
-    pub edge-flat : (r : Place) → IsBetween y' r L.place → FlatDim s r flatness
+    pub edge-flat : (r : SpacePoint) → IsBetween y' r L.place → FlatDim s r flatness
     edge-flat r m = FlatDim-by_germs s s L.place r (along r m) flatness (flat_dim-of s L.place).1
 
     pub some-flat : 0 < flatness
     some-flat = by flatness (flat_dim-of s L.place).1 edge-flat
       where
         back : IsDirection (toward L.place y')
-        back z = some-way (place-toward y' L.place (same-place_sym L.place y' (toward-place L.place y' z)))
+        back z = some-way (point-toward y' L.place (same-point_sym L.place y' (toward-point L.place y' z)))
 
-        by : (k : ℕ) → FlatDim s L.place k → ((r : Place) → IsBetween y' r L.place → FlatDim s r k) → 0 < k
+        by : (k : ℕ) → FlatDim s L.place k → ((r : SpacePoint) → IsBetween y' r L.place → FlatDim s r k) → 0 < k
         by zero f all = absurd (no-vertices s L.place y' back (all (near_point s L.place y') (between-turned L.place y' (near_point s L.place y') (near-between s L.place y' back))))
         by (suc k) f all = omega arith
 
     pub even-hit : IsEvenAfter s flatness y' R.place
     even-hit r (inl m) = edge-flat r (between-same y' r R.place y' r L.place (same-itself y') (same-itself r) lands m)
-    even-hit r (inr e) = dim-same s L.place r flatness (same-place_trans L.place R.place r (same-place_sym R.place L.place lands) (same-place_sym r R.place e)) (flat_dim-of s L.place).1
+    even-hit r (inr e) = dim-same s L.place r flatness (same-point_trans L.place R.place r (same-point_sym R.place L.place lands) (same-point_sym r R.place e)) (flat_dim-of s L.place).1

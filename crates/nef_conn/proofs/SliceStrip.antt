@@ -1,5 +1,5 @@
 -- Triangles that lie between two lines along up, beside which no vertex lies: what falls from the one side comes down to what leaves the other.
-use Rattle.nef_conn.proofs.Prelude.{◌≡◌, ℕ, ◌+◌, ℤ, pos, ◌+ℤ◌, ◌-ℤ◌, ◌*ℤ◌, ◌<ℤ◌, ◌≤ℤ◌, neg_ℤ, arith, ap, sym, ◌∙◌, ◌⊎◌, inl, inr, ⊎_elim, ◌∷◌, List, refl, [], ints, sign, Lies, ring, at, num, neg, ◌⊕◌, ◌⊖◌, ◌⊗◌, Poly, by_order, mul_pos, mul_nonneg, cancel_lt, plus-is, minus-is, nought-is, sign-plus, sign-minus, plus-of, FlatDim, IsVertex, Place, Form, form_at, normal_of, slope, plane_through, SamePlace, toward, IsBetween, Within, Set, Vector, opposite, cross, triple, IsDirection, SameDirection, up, FlatDim-one, same-nought, between-way, dim-same, turn-last, turns, same-plus, same-minus, IsFlatIn, through-at, angle, turn-at, angle-turned, angle-inside, between-plus, IsInTriangle, LiesAlong, vector-same, triple-dot, triple-turned, SameDirection-turned, SameDirection-trans, apart, right-turn, each, lies-each, keeps-all, signs-same, all-vertices, reach_all, nonneg-of}
+use Rattle.nef_conn.proofs.Prelude.{◌≡◌, ℕ, ◌+◌, ℤ, pos, ◌+ℤ◌, ◌-ℤ◌, ◌*ℤ◌, ◌<ℤ◌, ◌≤ℤ◌, neg_ℤ, arith, ap, sym, ◌∙◌, ◌⊎◌, inl, inr, ⊎_elim, ◌∷◌, List, refl, [], ints, sign, Lies, ring, at, num, neg, ◌⊕◌, ◌⊖◌, ◌⊗◌, Poly, by_order, mul_pos, mul_nonneg, cancel_lt, plus-is, minus-is, nought-is, sign-plus, sign-minus, plus-of, FlatDim, IsVertex, SpacePoint, Form, form_at, normal_of, slope, plane_through, SamePoint, toward, IsBetween, Within, Set, Vector, opposite, cross, triple, IsDirection, SameDirection, up, FlatDim-one, same-nought, between-way, dim-same, turn-last, turns, same-plus, same-minus, IsFlatIn, through-at, angle, turn-at, angle-turned, angle-inside, between-plus, IsInTriangle, LiesAlong, vector-same, triple-dot, triple-turned, SameDirection-turned, SameDirection-trans, apart, right-turn, each, lies-each, keeps-all, signs-same, all-vertices, reach_all, nonneg-of}
 use Rattle.nef_conn.proofs.Triangles.{on-second, at-corner, never-passes, third-side}
 
 -- ---- signs of products
@@ -32,26 +32,26 @@ abbrev up-p : ℕ → ℕ → Poly
 up-p p q = at 0 ⊗ (at 4 ⊗ way-p p q 2 ⊖ at 5 ⊗ way-p p q 1) ⊕ at 1 ⊗ (at 5 ⊗ way-p p q 0 ⊖ at 3 ⊗ way-p p q 2) ⊕ at 2 ⊗ (at 3 ⊗ way-p p q 1 ⊖ at 4 ⊗ way-p p q 0)
 
 -- positive where q lies to the one side of p's line
-abbrev pub lam : Vector → Place → Place → ℤ
+abbrev pub lam : Vector → SpacePoint → SpacePoint → ℤ
 lam n p q = triple n up (toward p q)
 
-abbrev pub up_line : Vector → Place → Form
+abbrev pub up_line : Vector → SpacePoint → Form
 up_line n p = plane_through (cross n up) p
 
-pub lam-at : (n : Vector) (p q : Place) → form_at (up_line n p) q ≡ lam n p q
+pub lam-at : (n : Vector) (p q : SpacePoint) → form_at (up_line n p) q ≡ lam n p q
 lam-at n p q = through-at (cross n up) p q ∙ sym (triple-dot n up (toward p q))
 
-pub back-way : (p q : Place) → toward q p ≡ opposite (toward p q)
+pub back-way : (p q : SpacePoint) → toward q p ≡ opposite (toward p q)
 back-way p q = vector-same (toward q p) (opposite (toward p q)) (one p.x q.x) (one p.y q.y) (one p.z q.z)
   where
     one : (a b : ℤ) → a *ℤ pos q.w -ℤ b *ℤ pos p.w ≡ neg_ℤ (b *ℤ pos p.w -ℤ a *ℤ pos q.w)
     one a b = ring (a ∷ b ∷ pos p.w ∷ pos q.w ∷ []) (at 0 ⊗ at 3 ⊖ at 1 ⊗ at 2) (neg (at 1 ⊗ at 2 ⊖ at 0 ⊗ at 3)) tt
 
-pub lam-turned : (n : Vector) (p q : Place) → lam n q p ≡ neg_ℤ (lam n p q)
+pub lam-turned : (n : Vector) (p q : SpacePoint) → lam n q p ≡ neg_ℤ (lam n p q)
 lam-turned n p q = ap (λ (v : Vector). triple n up v) (back-way p q) ∙ right-turn n up (toward p q)
 
 -- the differences add up
-pub lam-sum : (n : Vector) (y b c : Place) → pos b.w *ℤ lam n y c ≡ pos c.w *ℤ lam n y b +ℤ pos y.w *ℤ lam n b c
+pub lam-sum : (n : Vector) (y b c : SpacePoint) → pos b.w *ℤ lam n y c ≡ pos c.w *ℤ lam n y b +ℤ pos y.w *ℤ lam n b c
 lam-sum n y b c = ring (n.x ∷ n.y ∷ n.z ∷ up.x ∷ up.y ∷ up.z ∷ y.x ∷ y.y ∷ y.z ∷ pos y.w ∷ b.x ∷ b.y ∷ b.z ∷ pos b.w ∷ c.x ∷ c.y ∷ c.z ∷ pos c.w ∷ [])
     (at 13 ⊗ up-p 6 14) (at 17 ⊗ up-p 6 10 ⊕ at 9 ⊗ up-p 10 14) tt
 
@@ -66,7 +66,7 @@ triple-self : (n v : Vector) → triple n v v ≡ pos 0
 triple-self n v = let e = triple-turned n v v in omega (arith, ints)
 
 -- sums of differences
-pub lam-plus : (n : Vector) (a b c : Place) → pos 0 ≤ℤ lam n a b → pos 0 <ℤ lam n b c → pos 0 <ℤ lam n a c
+pub lam-plus : (n : Vector) (a b c : SpacePoint) → pos 0 ≤ℤ lam n a b → pos 0 <ℤ lam n b c → pos 0 <ℤ lam n a c
 lam-plus n a b c l m = plain (lam n a c) (lam n a b) (lam n b c) (lam-sum n a b c) l m
   where
     plain : (g d e : ℤ) → pos b.w *ℤ g ≡ pos c.w *ℤ d +ℤ pos a.w *ℤ e → pos 0 ≤ℤ d → pos 0 <ℤ e → pos 0 <ℤ g
@@ -76,7 +76,7 @@ lam-plus n a b c l m = plain (lam n a c) (lam n a b) (lam n b c) (lam-sum n a b 
         plus-of (pos b.w) g (let j = b.proper in omega (arith, ints)) (omega (arith, ints))
 
 -- to a point of the line of b, from y before it
-pub slope-to : (n : Vector) (y b c : Place) → pos 0 <ℤ lam n y b → lam n b c ≡ pos 0 → pos 0 <ℤ lam n y c
+pub slope-to : (n : Vector) (y b c : SpacePoint) → pos 0 <ℤ lam n y b → lam n b c ≡ pos 0 → pos 0 <ℤ lam n y c
 slope-to n y b c l e = plain (lam n y b) (lam n b c) (lam n y c) (lam-sum n y b c) l e
   where
     plain : (a d g : ℤ) → pos b.w *ℤ g ≡ pos c.w *ℤ a +ℤ pos y.w *ℤ d → pos 0 <ℤ a → d ≡ pos 0 → pos 0 <ℤ g
@@ -92,7 +92,7 @@ products u v t c ry y rc e f = ap (λ r. r *ℤ t) e ∙ ring (v ∷ t ∷ []) (
 
 -- from the angle at one corner to that at the next, where it may be nought
 
-module _ (n : Vector) (y z w : Place) where
+module _ (n : Vector) (y z w : SpacePoint) where
   pub inside-level : pos 0 ≤ℤ angle n y z w → pos 0 ≤ℤ angle n z w y
   inside-level h = by_order (angle n z w y) (pos 0)
       (λ l. absurd (
@@ -107,17 +107,17 @@ module _ (t : Set) (h : Form) (hn : IsDirection (normal_of h)) (level : slope h 
   n = normal_of h
 
   -- no vertex of the plane lies between the lines of y and z, or on that of z
-  abbrev pub Clear : Place → Place → Type 0
-  Clear y z = (r : Place) → IsVertex t r → form_at h r ≡ pos 0 → pos 0 <ℤ lam n y r → pos 0 ≤ℤ lam n r z → ⊥
+  abbrev pub Clear : SpacePoint → SpacePoint → Type 0
+  Clear y z = (r : SpacePoint) → IsVertex t r → form_at h r ≡ pos 0 → pos 0 <ℤ lam n y r → pos 0 ≤ℤ lam n r z → ⊥
 
   -- the lines along up of all vertices: none lies between p and what is close to it
   abbrev pub lines : List Form
   lines = each (λ q. up_line n q) (all-vertices t).0
 
-  pub clear-close : (p b : Place) → Within (reach_all lines p) p b → Clear p b
+  pub clear-close : (p b : SpacePoint) → Within (reach_all lines p) p b → Clear p b
   clear-close p b near r vertex on l i = by ((all-vertices t).2 r vertex)
     where
-      by : (z : Place) × Lies (all-vertices t).0 z × SamePlace z r → ⊥
+      by : (z : SpacePoint) × Lies (all-vertices t).0 z × SamePoint z r → ⊥
       by (z, lies, same) =
           let g = lam-at n p r in
           let g' = lam-at n p z in
@@ -136,9 +136,9 @@ module _ (t : Set) (h : Form) (hn : IsDirection (normal_of h)) (level : slope h 
           omega (arith, ints)
 
   -- ---- a triangle with one side on the line of its start
-  module _ (y b c : Place) (on-y : form_at h y ≡ pos 0) (on-b : form_at h b ≡ pos 0) (on-c : form_at h c ≡ pos 0) (down : SameDirection (toward y c) (opposite up)) (side : pos 0 <ℤ lam n y b) (clear : Clear y b)
-      (first : (r : Place) → IsBetween y r b → FlatDim t r 2) (second : LiesAlong t y c) (F : IsFlatIn t h b)
-      (corner : (x : Place) → IsBetween b x c → ((r : Place) → IsBetween x r y → FlatDim t r 1) → ⊥) where
+  module _ (y b c : SpacePoint) (on-y : form_at h y ≡ pos 0) (on-b : form_at h b ≡ pos 0) (on-c : form_at h c ≡ pos 0) (down : SameDirection (toward y c) (opposite up)) (side : pos 0 <ℤ lam n y b) (clear : Clear y b)
+      (first : (r : SpacePoint) → IsBetween y r b → FlatDim t r 2) (second : LiesAlong t y c) (F : IsFlatIn t h b)
+      (corner : (x : SpacePoint) → IsBetween b x c → ((r : SpacePoint) → IsBetween x r y → FlatDim t r 1) → ⊥) where
     turn : pos 0 <ℤ angle n y b c
     turn = same-plus (lam n y b) (angle n y b c) (down-turn n (toward y b) (toward y c) down) side
 
@@ -148,7 +148,7 @@ module _ (t : Set) (h : Form) (hn : IsDirection (normal_of h)) (level : slope h 
         nought-from : sign (triple n up (toward y c)) ≡ sign (triple n up up) → lam n y c ≡ pos 0
         nought-from e = same-nought (triple n up up) (lam n y c) e (let f = triple-turned n up up in omega (arith, ints))
 
-    none : (r : Place) → IsVertex t r → form_at h r ≡ pos 0 → IsInTriangle n y b c r → (SamePlace y r → ⊥) → ⊥
+    none : (r : SpacePoint) → IsVertex t r → form_at h r ≡ pos 0 → IsInTriangle n y b c r → (SamePoint y r → ⊥) → ⊥
     none r vertex on (p, q, g) apart = by_order (lam n y r) (pos 0) (λ l. before l) (λ e. at-line e g) (λ l. clear r vertex on l (not-past g))
       where
         turned : sign (triple n (toward y r) (toward y c)) ≡ sign (lam n y r)
@@ -201,13 +201,13 @@ module _ (t : Set) (h : Form) (hn : IsDirection (normal_of h)) (level : slope h 
             beyond : lam n b c <ℤ pos 0
             beyond = before-start (lam n y c) (lam n b c) (lam-sum n y b c) level-c
 
-    pub along-start : (r : Place) → IsBetween b r c → FlatDim t r 2
+    pub along-start : (r : SpacePoint) → IsBetween b r c → FlatDim t r 2
     along-start = third-side t h hn y b c on-y on-b on-c turn first second F (never-passes t y b c corner) none
 
   -- ---- a triangle with one side on the line of its end
-  module _ (y b c : Place) (on-y : form_at h y ≡ pos 0) (on-b : form_at h b ≡ pos 0) (on-c : form_at h c ≡ pos 0) (down : SameDirection (toward b c) (opposite up)) (side : pos 0 <ℤ lam n y b) (clear : Clear y b)
-      (first : (r : Place) → IsBetween y r b → FlatDim t r 2) (second : LiesAlong t y c) (F : IsFlatIn t h b)
-      (corner : (x : Place) → IsBetween b x c → ((r : Place) → IsBetween x r y → FlatDim t r 1) → ⊥) where
+  module _ (y b c : SpacePoint) (on-y : form_at h y ≡ pos 0) (on-b : form_at h b ≡ pos 0) (on-c : form_at h c ≡ pos 0) (down : SameDirection (toward b c) (opposite up)) (side : pos 0 <ℤ lam n y b) (clear : Clear y b)
+      (first : (r : SpacePoint) → IsBetween y r b → FlatDim t r 2) (second : LiesAlong t y c) (F : IsFlatIn t h b)
+      (corner : (x : SpacePoint) → IsBetween b x c → ((r : SpacePoint) → IsBetween x r y → FlatDim t r 1) → ⊥) where
     at-b : pos 0 <ℤ angle n b c y
     at-b =
         let e = lam-turned n y b in
@@ -225,7 +225,7 @@ module _ (t : Set) (h : Form) (hn : IsDirection (normal_of h)) (level : slope h 
     beyond-c : pos 0 <ℤ lam n y c
     beyond-c = slope-to n y b c side same-line
 
-    none-end : (r : Place) → IsVertex t r → form_at h r ≡ pos 0 → IsInTriangle n y b c r → (SamePlace y r → ⊥) → ⊥
+    none-end : (r : SpacePoint) → IsVertex t r → form_at h r ≡ pos 0 → IsInTriangle n y b c r → (SamePoint y r → ⊥) → ⊥
     none-end r vertex on (p, q, g) apart = by_order (lam n y r) (pos 0) (λ l. absurd (let k = at-least in omega (arith, ints))) (λ e. at-line e) (λ l. clear r vertex on l (not-past g))
       where
         U : lam n y r *ℤ triple n (toward y b) (toward y c) ≡ lam n y b *ℤ triple n (toward y r) (toward y c) -ℤ lam n y c *ℤ triple n (toward y r) (toward y b)
@@ -264,14 +264,14 @@ module _ (t : Set) (h : Form) (hn : IsDirection (normal_of h)) (level : slope h 
             let k = lam-turned n b r in
             omega (arith, ints)
 
-    pub along-end : (r : Place) → IsBetween b r c → FlatDim t r 2
+    pub along-end : (r : SpacePoint) → IsBetween b r c → FlatDim t r 2
     along-end = third-side t h hn y b c on-y on-b on-c end-turn first second F (never-passes t y b c corner) none-end
 
   -- ---- a triangle with its start at b, and one point on the line of y
-  module _ (b q y : Place) (on-b : form_at h b ≡ pos 0) (on-q : form_at h q ≡ pos 0) (on-y : form_at h y ≡ pos 0) (tri-turn : pos 0 <ℤ angle n b q y) (side-b : pos 0 <ℤ lam n y b) (side-q : pos 0 <ℤ lam n y q) (before-b : pos 0 <ℤ lam n q b) (clear : Clear y b)
-      (first : (r : Place) → IsBetween b r q → FlatDim t r 2) (second : (r : Place) → IsBetween b r y → FlatDim t r 2) (F : IsFlatIn t h q) (two : FlatDim t y 2)
-      (corner : (x : Place) → IsBetween q x y → ((r : Place) → IsBetween x r b → FlatDim t r 1) → ⊥) where
-    none-back : (r : Place) → IsVertex t r → form_at h r ≡ pos 0 → IsInTriangle n b q y r → (SamePlace b r → ⊥) → ⊥
+  module _ (b q y : SpacePoint) (on-b : form_at h b ≡ pos 0) (on-q : form_at h q ≡ pos 0) (on-y : form_at h y ≡ pos 0) (tri-turn : pos 0 <ℤ angle n b q y) (side-b : pos 0 <ℤ lam n y b) (side-q : pos 0 <ℤ lam n y q) (before-b : pos 0 <ℤ lam n q b) (clear : Clear y b)
+      (first : (r : SpacePoint) → IsBetween b r q → FlatDim t r 2) (second : (r : SpacePoint) → IsBetween b r y → FlatDim t r 2) (F : IsFlatIn t h q) (two : FlatDim t y 2)
+      (corner : (x : SpacePoint) → IsBetween q x y → ((r : SpacePoint) → IsBetween x r b → FlatDim t r 1) → ⊥) where
+    none-back : (r : SpacePoint) → IsVertex t r → form_at h r ≡ pos 0 → IsInTriangle n b q y r → (SamePoint b r → ⊥) → ⊥
     none-back r vertex on (p, w, g) apart = by_order (lam n y r) (pos 0) (λ l. absurd (let k = at-least in omega (arith, ints))) (λ e. at-line e) (λ l. clear r vertex on l not-past)
       where
         T : pos 0 <ℤ angle n y b q
@@ -320,5 +320,5 @@ module _ (t : Set) (h : Form) (hn : IsDirection (normal_of h)) (level : slope h 
             sum-nonneg (triple n (toward b q) (toward b y)) (lam n r b) (neg_ℤ (lam n b q)) (triple n (toward b r) (toward b y)) (neg_ℤ (lam n b y)) (triple n (toward b r) (toward b q))
             (products (lam n r b) (lam n b r) (triple n (toward b q) (toward b y)) (lam n b q) (triple n (toward b r) (toward b y)) (lam n b y) (triple n (toward b r) (toward b q)) k V) tri-turn (omega (arith, ints)) (omega (arith, ints)) ry rq'
 
-    pub along-back : (r : Place) → IsBetween q r y → FlatDim t r 2
+    pub along-back : (r : SpacePoint) → IsBetween q r y → FlatDim t r 2
     along-back = third-side t h hn b q y on-b on-q on-y tri-turn first (inl second) F (never-passes t b q y corner) none-back

@@ -10,7 +10,7 @@
 --   too (AlongEdge). Where the item goes on to d and further, k is linked across the facet with the corner that a point of y's line close to w names, from which the way to z
 --   is clear (AcrossFacet); so it is the same again from there.
 -- Each step leads to a vertex further along d, where the number of the vertex is greater, or smaller for each; so it comes to an end.
-use Rattle.nef_conn.proofs.Prelude.{◌≡◌, ℤ, pos, neg_ℤ, ◌<ℤ◌, arith, ap, sym, ◌∙◌, inl, inr, ⊎_elim, ◌∷◌, subst, [], ints, ring, at, neg, ◌⊕◌, ◌⊗◌, sign, by_order, sign-plus, sign-minus, plus-is, minus-is, Chained, FlatDim, IsEven, Place, Form, form, form_at, normal_of, slope, SamePlace, toward, IsBetween, Set, Vector, opposite, cross, triple, IsDirection, IsNormal, SameDirection, plane_dir, between-turned, toward-place, between-same, Beside, same_way, other_way, beside, normal-direction, Vertex, Complex, Corner, Shows, IsFirstInPlane, RayNames, IsFlatIn, plane-way, same-itself, through-at, ahead-back, ahead-same, FacetLink, line_form, HasClearStrip, NamesOfSteps, JoinedItemsAreLinked, zero-decided, triple-dot, level-of_opposite, triple-turned, dir-self, parallel-in_plane, level-way, opposite-way, opposite-twice, direction-right, right-turn, toward-turned}
+use Rattle.nef_conn.proofs.Prelude.{◌≡◌, ℤ, pos, neg_ℤ, ◌<ℤ◌, arith, ap, sym, ◌∙◌, inl, inr, ⊎_elim, ◌∷◌, subst, [], ints, ring, at, neg, ◌⊕◌, ◌⊗◌, sign, by_order, sign-plus, sign-minus, plus-is, minus-is, Chained, FlatDim, IsEven, SpacePoint, Form, form, form_at, normal_of, slope, SamePoint, toward, IsBetween, Set, Vector, opposite, cross, triple, IsDirection, IsNormal, SameDirection, plane_dir, between-turned, toward-point, between-same, Beside, same_way, other_way, beside, normal-direction, Vertex, Complex, Corner, Shows, IsFirstInPlane, RayNames, IsFlatIn, plane-way, same-itself, through-at, ahead-back, ahead-same, FacetLink, line_form, HasClearStrip, NamesOfSteps, JoinedItemsAreLinked, zero-decided, triple-dot, level-of_opposite, triple-turned, dir-self, parallel-in_plane, level-way, opposite-way, opposite-twice, direction-right, right-turn, toward-turned}
 use Rattle.nef_conn.proofs.WayInward.{dir-level}
 use Rattle.nef_conn.proofs.Chain.{chain-here}
 use Rattle.nef_conn.proofs.SameRay.{names-along}
@@ -22,7 +22,7 @@ use Rattle.nef_conn.proofs.AlongEdge.{opposite-normal}
 use Rattle.nef_conn.proofs.Ahead.{strip-names}
 
 -- ---- the line through p
-line-at : (n d : Vector) (p q : Place) → form_at (line_form n d p) q ≡ triple n (toward q p) d
+line-at : (n d : Vector) (p q : SpacePoint) → form_at (line_form n d p) q ≡ triple n (toward q p) d
 line-at n d p q = through-at (cross n d) p q ∙ sym (triple-dot n d (toward p q)) ∙ ap (λ (r : Vector). triple n d r) (sym (toward-turned q p)) ∙ turned-ways
   where
     turned-ways : triple n d (opposite (toward q p)) ≡ triple n (toward q p) d
@@ -32,10 +32,10 @@ line-at n d p q = through-at (cross n d) p q ∙ sym (triple-dot n d (toward p q
 abbrev flip : Form → Form
 flip h = form (neg_ℤ h.a) (neg_ℤ h.b) (neg_ℤ h.c) (neg_ℤ h.d)
 
-flip-at : (h : Form) (p : Place) → form_at (flip h) p ≡ neg_ℤ (form_at h p)
+flip-at : (h : Form) (p : SpacePoint) → form_at (flip h) p ≡ neg_ℤ (form_at h p)
 flip-at h p = ring (h.a ∷ h.b ∷ h.c ∷ h.d ∷ p.x ∷ p.y ∷ p.z ∷ pos p.w ∷ []) (neg (at 0) ⊗ at 4 ⊕ neg (at 1) ⊗ at 5 ⊕ neg (at 2) ⊗ at 6 ⊕ neg (at 3) ⊗ at 7) (neg (at 0 ⊗ at 4 ⊕ at 1 ⊗ at 5 ⊕ at 2 ⊗ at 6 ⊕ at 3 ⊗ at 7)) tt
 
-module _ (s : Set) (C : Complex) (S : Shows s C) (h : Form) (d : Vector) (y z : Place) (k l : Corner) (N : IsNormal (normal_of h)) (on : form_at h y ≡ pos 0) (F : IsFlatIn s h y) (inward : SameDirection (opposite (plane_dir (normal_of h))) d) (even : IsEven s 2 y z)
+module _ (s : Set) (C : Complex) (S : Shows s C) (h : Form) (d : Vector) (y z : SpacePoint) (k l : Corner) (N : IsNormal (normal_of h)) (on : form_at h y ≡ pos 0) (F : IsFlatIn s h y) (inward : SameDirection (opposite (plane_dir (normal_of h))) d) (even : IsEven s 2 y z)
     (clear : HasClearStrip C h d y z) (a : RayNames C h y d k) (b : RayNames C h z d l) where
   abbrev n : Vector
   n = normal_of h
@@ -101,7 +101,7 @@ module _ (s : Set) (C : Complex) (S : Shows s C) (h : Form) (d : Vector) (y z : 
         omega (arith, ints);
   }
 
-  between : (r : Place) → IsBetween y r z → FlatDim s r 2
+  between : (r : SpacePoint) → IsBetween y r z → FlatDim s r 2
   between r x = even r (inr (inl x))
 
   -- ---- on one line
@@ -111,7 +111,7 @@ module _ (s : Set) (C : Complex) (S : Shows s C) (h : Form) (d : Vector) (y z : 
   same-corner : k ≡ l → Chained (FacetLink C) k l
   same-corner e = subst (λ (j : Corner). Chained (FacetLink C) k j) e (chain-here (FacetLink C) k)
 
-  one-place : SamePlace y z → Chained (FacetLink C) k l
+  one-place : SamePoint y z → Chained (FacetLink C) k l
   one-place e = same-corner (one-named s C S h y d back-some (level-of_opposite n d level) k l a (b.0, first b.1, b.2))
     where
       first : IsFirstInPlane C h z d b.0 → IsFirstInPlane C h y d b.0
@@ -128,7 +128,7 @@ module _ (s : Set) (C : Complex) (S : Shows s C) (h : Form) (d : Vector) (y z : 
   even-back r (inr (inr e)) = even r (inl e)
 
   one-line : triple n (toward y z) d ≡ pos 0 → Chained (FacetLink C) k l
-  one-line t = ⊎_elim (λ q. one-place (toward-place y z q)) (λ i. by (beside (toward y z) d i some (parallel-in_plane n (toward y z) d n-some (plane-way h y z on on-z) level t))) (zero-decided (toward y z))
+  one-line t = ⊎_elim (λ q. one-place (toward-point y z q)) (λ i. by (beside (toward y z) d i some (parallel-in_plane n (toward y z) d n-some (plane-way h y z on on-z) level t))) (zero-decided (toward y z))
     where
       by : Beside (toward y z) d → Chained (FacetLink C) k l
       by (same_way w) = same-corner (one-named s C S h z d back-some (level-of_opposite n d level) k l ((names-along s C h y z d k S w even).0 a) b)

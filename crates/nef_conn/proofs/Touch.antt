@@ -1,5 +1,5 @@
 -- The sides of a vertex that lie beside a point in a direction: the point is the vertex, or lies close to it, on an edge or in a facet. Directions that a free way joins have linked sides.
-use Rattle.nef_conn.proofs.Prelude.{◌≡◌, ℕ, ◌+◌, ◌<◌, ◌≤◌, ℤ, pos, ◌+ℤ◌, ◌*ℤ◌, neg_ℤ, arith, refl, ap, sym, ◌∙◌, inl, ⊎_elim, ◌∷◌, subst, [], sign, ring, at, num, neg, ◌⊕◌, ◌⊗◌, Chained, FlatDim, Place, SamePlace, IsBetween, Set, Vector, opposite, blend, dot, zero_vector, IsZero, IsOpposite, Label, carriers, ahead, steep, signs-same, same-place_sym, same-factor, forms, SameSigns, At, Map, IsFree, HasSide, IsClear, Sees, here, link, Shaped, free-by_signs, amount, far-keeps, far-level, far-same, dot-comb, Vertex, Edge, Complex, HasEnds, Shows, VertexSide, VolumeLink, edge-ways, tied-low, tied-turn, seen-free, ahead-cells, IsTied, tied-cell, tied-both, tied-ahead, nought-or, vector-same, opposite-way}
+use Rattle.nef_conn.proofs.Prelude.{◌≡◌, ℕ, ◌+◌, ◌<◌, ◌≤◌, ℤ, pos, ◌+ℤ◌, ◌*ℤ◌, neg_ℤ, arith, refl, ap, sym, ◌∙◌, inl, ⊎_elim, ◌∷◌, subst, [], sign, ring, at, num, neg, ◌⊕◌, ◌⊗◌, Chained, FlatDim, SpacePoint, SamePoint, IsBetween, Set, Vector, opposite, blend, dot, zero_vector, IsZero, IsOpposite, Label, carriers, ahead, steep, signs-same, same-point_sym, same-factor, forms, SameSigns, IsAt, Map, IsFree, HasSide, IsClear, Sees, here, link, Shaped, free-by_signs, amount, far-keeps, far-level, far-same, dot-comb, Vertex, Edge, Complex, HasEnds, Shows, VertexSide, VolumeLink, edge-ways, tied-low, tied-turn, seen-free, ahead-cells, IsTied, tied-cell, tied-both, tied-ahead, nought-or, vector-same, opposite-way}
 use Rattle.law_sphere.proofs.Labels.{same-clear, mixed-sign}
 use Rattle.law_sphere.proofs.Sight.{sees_both}
 use Rattle.nef_conn.proofs.Chain.{chain-both, chain-one}
@@ -13,7 +13,7 @@ pub record Seer (i : ℕ) (v : Vertex) (x : VertexSide) (a : Vector) : Type 0 wh
   pub has : HasSide v.map x.side label
   pub sees : Sees v.map x.side a
 
-module _ (s : Set) (C : Complex) (S : Shows s C) (i : ℕ) (v : Vertex) (listed : At C.vertices i v) where
+module _ (s : Set) (C : Complex) (S : Shows s C) (i : ℕ) (v : Vertex) (listed : IsAt C.vertices i v) where
   V : Shaped v.map
   V = (S.cones i v listed).valid.shaped
 
@@ -21,7 +21,7 @@ module _ (s : Set) (C : Complex) (S : Shows s C) (i : ℕ) (v : Vertex) (listed 
   pub meet : (x z : VertexSide) (a : Vector) → Seer i v x a → Seer i v z a → Chained (VolumeLink C) x z
   meet x z a p q = chain-one (VolumeLink C) x z (inl (record {
     vertex = v;
-    is_vertex = subst (λ (n : ℕ). At C.vertices n v) (sym p.here) listed;
+    is_vertex = subst (λ (n : ℕ). IsAt C.vertices n v) (sym p.here) listed;
     one_vertex = q.here ∙ sym p.here;
     one = p.label;
     other = q.label;
@@ -72,10 +72,10 @@ clear-by M a b F G all = record {
 
 -- ---- beside a point
 -- what lies off y in a direction is tied to what lies off the vertex close to the way
-pub record Frame (s : Set) (C : Complex) (y : Place) : Type 0 where
+pub record Frame (s : Set) (C : Complex) (y : SpacePoint) : Type 0 where
   pub number : ℕ
   pub vertex : Vertex
-  pub listed : At C.vertices number vertex
+  pub listed : IsAt C.vertices number vertex
   pub dir : Vector
   pub tied : (f : Vector) (k : ℕ) → steep (carriers s) f ≤ k → IsTied s (ahead s y f) (ahead s vertex.point (blend k dir 1 f))
 
@@ -83,7 +83,7 @@ abbrev pub bound : Set → Vertex → Vector → ℕ
 bound s v f = amount (forms v.map) f + steep (carriers s) f
 
 -- the side sees the directions close to the way toward f
-pub record Touch (s : Set) (C : Complex) (y : Place) (F : Frame s C y) (x : VertexSide) (f : Vector) : Type 0 where
+pub record Touch (s : Set) (C : Complex) (y : SpacePoint) (F : Frame s C y) (x : VertexSide) (f : Vector) : Type 0 where
   pub steps : ℕ
   pub large : bound s F.vertex f ≤ steps
   pub seer : Seer F.number F.vertex x (blend steps F.dir 1 f)
@@ -95,18 +95,18 @@ no-way k f = vector-same (blend k zero_vector 1 f) f (one f.x) (one f.y) (one f.
     one x = ring (pos k ∷ x ∷ []) (at 0 ⊗ num (pos 0) ⊕ num (pos 1) ⊗ at 1) (at 1) tt
 
 -- a vertex itself, and its points
-abbrev pub vertex-frame : (s : Set) (C : Complex) (i : ℕ) (v : Vertex) (y : Place) → At C.vertices i v → SamePlace v.point y → Frame s C y
+abbrev pub vertex-frame : (s : Set) (C : Complex) (i : ℕ) (v : Vertex) (y : SpacePoint) → IsAt C.vertices i v → SamePoint v.point y → Frame s C y
 vertex-frame s C i v y a e = record {
   number = i;
   vertex = v;
   listed = a;
   dir = zero_vector;
   tied = λ f k l. subst (λ (g : Vector). IsTied s (ahead s y f) (ahead s v.point g)) (sym (no-way k f))
-      (tied-cell s (ahead s y f) (ahead s v.point f) (ahead-cells s y v.point f (signs-same (carriers s) y v.point (same-place_sym v.point y e))));
+      (tied-cell s (ahead s y f) (ahead s v.point f) (ahead-cells s y v.point f (signs-same (carriers s) y v.point (same-point_sym v.point y e))));
 }
 
 -- what is tied to a point close to a vertex
-abbrev pub tied-frame : (s : Set) (C : Complex) (i : ℕ) (v : Vertex) (y : Place) (d : Vector) → At C.vertices i v → IsTied s y (ahead s v.point d) → Frame s C y
+abbrev pub tied-frame : (s : Set) (C : Complex) (i : ℕ) (v : Vertex) (y : SpacePoint) (d : Vector) → IsAt C.vertices i v → IsTied s y (ahead s v.point d) → Frame s C y
 tied-frame s C i v y d a t = record {
   number = i;
   vertex = v;
@@ -115,10 +115,10 @@ tied-frame s C i v y d a t = record {
   tied = λ f k l. tied-both s (ahead s y f) (ahead s (ahead s v.point d) f) (ahead s v.point (blend k d 1 f)) (tied-ahead s y (ahead s v.point d) f t) (tied-turn s v.point d f k l);
 }
 
-abbrev pub edge-frame : (s : Set) (C : Complex) (S : Shows s C) (k : ℕ) (e : Edge) (v w : Vertex) (y : Place) → At C.edges k e → (H : HasEnds C e v w) → IsBetween v.point y w.point → Frame s C y
+abbrev pub edge-frame : (s : Set) (C : Complex) (S : Shows s C) (k : ℕ) (e : Edge) (v w : Vertex) (y : SpacePoint) → IsAt C.edges k e → (H : HasEnds C e v w) → IsBetween v.point y w.point → Frame s C y
 edge-frame s C S k e v w y a H b = tied-frame s C e.low v y (edge-ways s C S k e v w a H).low.dir H.low (tied-low s C S k e v w a H y b)
 
-module _ (s : Set) (C : Complex) (S : Shows s C) (y : Place) (F : Frame s C y) where
+module _ (s : Set) (C : Complex) (S : Shows s C) (y : SpacePoint) (F : Frame s C y) where
   abbrev M : Map
   M = F.vertex.map
 

@@ -1,5 +1,5 @@
 -- Where an edge runs down from a vertex of a plane, along up, nothing else is at that svertex, nor at the lower end of the edge; what falls beside the vertex falls beside the edge to its lower end.
-use Rattle.nef_conn.proofs.Prelude.{◌≡◌, ℕ, ◌+◌, ◌<◌, ◌≤◌, ℤ, pos, ◌-ℤ◌, ◌*ℤ◌, ◌<ℤ◌, ◌≤ℤ◌, arith, refl, ap, sym, ◌∙◌, ◌⊎◌, inl, inr, ◌∷◌, subst, [], ints, sign, ring, at, num, ◌⊕◌, ◌⊖◌, ◌⊗◌, by_order, nought-is, sign-scaled, sign-plus, plus-is, turn-last, same-plus, same-minus, plane-way, Chained, FlatDim, IsEven, Place, Form, form_at, normal_of, slope, plane_through, SamePlace, InFrame, toward, IsBetween, Set, Vector, blend, dot, cross, opposite, IsZero, IsDirection, SameDirection, up, carriers, germs-by_cell, between-turned, between-inner, ahead, start-close, even-germs, joined-germs, signs-same, same-place_sym, reach_all, slope-toward, place-toward, between-same, forms, SameSigns, At, MapVertex, arc_item, HasArc, Shaped, at-arc, amount, free-close, Vertex, Edge, Complex, HasEnds, IsCorner, Shows, VertexSide, RayDown, IsFlatIn, near_point, near-between, edge-points, through-at, through-slope, between-plus, ahead-back, plane-between, dim-same, plane-ahead, even-by, between-way, between-outer, same-itself, VolumeLink, IsUpright, IsEvenAfter, EdgeWays, edge-ways, ends-tied, tied-turn, end-level, corner_of, free-dim, even-fan, dim-cell, ahead-cells, tied-cell, tied-both, tied-ahead, tied-ray, tied-turned, AreLinkedWhereJoined, sliced, triple-dot, cross-turned, SameDirection-turned, SameDirection-trans, dir-self, in-span, parallel-trans, opposite-same, dot-opposite, level-way, opposite-way, opposite-twice, direction-left, direction-right}
+use Rattle.nef_conn.proofs.Prelude.{◌≡◌, ℕ, ◌+◌, ◌<◌, ◌≤◌, ℤ, pos, ◌-ℤ◌, ◌*ℤ◌, ◌<ℤ◌, ◌≤ℤ◌, arith, refl, ap, sym, ◌∙◌, ◌⊎◌, inl, inr, ◌∷◌, subst, [], ints, sign, ring, at, num, ◌⊕◌, ◌⊖◌, ◌⊗◌, by_order, nought-is, sign-scaled, sign-plus, plus-is, turn-last, same-plus, same-minus, plane-way, Chained, FlatDim, IsEven, SpacePoint, Form, form_at, normal_of, slope, plane_through, SamePoint, InFrame, toward, IsBetween, Set, Vector, blend, dot, cross, opposite, IsZero, IsDirection, SameDirection, up, carriers, germs-by_cell, between-turned, between-inner, ahead, start-close, even-germs, joined-germs, signs-same, same-point_sym, reach_all, slope-toward, point-toward, between-same, forms, SameSigns, IsAt, MapVertex, arc_item, HasArc, Shaped, at-arc, amount, free-close, Vertex, Edge, Complex, HasEnds, IsCorner, Shows, VertexSide, RayDown, IsFlatIn, near_point, near-between, edge-points, through-at, through-slope, between-plus, ahead-back, plane-between, dim-same, plane-ahead, even-by, between-way, between-outer, same-itself, VolumeLink, IsUpright, IsEvenAfter, EdgeWays, edge-ways, ends-tied, tied-turn, end-level, corner_of_numbers, free-dim, even-fan, dim-cell, ahead-cells, tied-cell, tied-both, tied-ahead, tied-ray, tied-turned, AreLinkedWhereJoined, sliced, triple-dot, cross-turned, SameDirection-turned, SameDirection-trans, dir-self, in-span, parallel-trans, opposite-same, dot-opposite, level-way, opposite-way, opposite-twice, direction-left, direction-right}
 use Rattle.nef_conn.proofs.Chain.{chain-both}
 use Rattle.nef_conn.proofs.Claims.{Claim}
 use Rattle.nef_conn.proofs.EdgeFalls.{ways-toward, vertex-slice, edge-slice}
@@ -19,12 +19,12 @@ up-square m = ring (m.x ∷ m.y ∷ m.z ∷ up.x ∷ up.y ∷ up.z ∷ []) ((at 
 
 module _ (s : Set) (C : Complex) (S : Shows s C) (upright : IsUpright C) (linked : AreLinkedWhereJoined s C) where
   -- no arc ends at a svertex along up
-  pub lone-along : (i j : ℕ) (v : Vertex) (u : MapVertex) → At C.vertices i v → At v.map.svertices j u → IsZero (cross u.dir up) → HasArc v.map j → ⊥
+  pub lone-along : (i j : ℕ) (v : Vertex) (u : MapVertex) → IsAt C.vertices i v → IsAt v.map.svertices j u → IsZero (cross u.dir up) → HasArc v.map j → ⊥
   lone-along i j v u a b z (k, c, l, o) =
-      let K : IsCorner C (corner_of i k) v (arc_item c) = record { vertex = a; item = at-arc v.map.arcs v.map.sloop k c l } in
-      let e = end-level s C S (corner_of i k) v c K j u b o in
+      let K : IsCorner C (corner_of_numbers i k) v (arc_item c) = record { vertex = a; item = at-arc v.map.arcs v.map.sloop k c l } in
+      let e = end-level s C S (corner_of_numbers i k) v c K j u b o in
       let f = in-span c.normal u.dir up ((S.cones i v a).valid.shaped.svertex_dirs j u b) z e in
-      let g = upright (corner_of i k) v (arc_item c) K in
+      let g = upright (corner_of_numbers i k) v (arc_item c) K in
       omega (arith, ints)
 
   module _ (h : Form) (hn : IsDirection (normal_of h)) (level : slope h up ≡ pos 0) where
@@ -32,7 +32,7 @@ module _ (s : Set) (C : Complex) (S : Shows s C) (upright : IsUpright C) (linked
     n = normal_of h
 
     -- what lies aside of y doesn't lie along up
-    pub aside-any : (d : Vector) → IsDirection d → IsZero (cross d up) → (y b : Place) → pos 0 <ℤ lam (normal_of h) y b → IsDirection (cross d (toward y b))
+    pub aside-any : (d : Vector) → IsDirection d → IsZero (cross d up) → (y b : SpacePoint) → pos 0 <ℤ lam (normal_of h) y b → IsDirection (cross d (toward y b))
     aside-any d i z y b l g =
         let p = cross-turned d (toward y b) g in
         let q = parallel-trans (toward y b) d up i p z in
@@ -41,7 +41,7 @@ module _ (s : Set) (C : Complex) (S : Shows s C) (upright : IsUpright C) (linked
         omega (arith, ints)
 
     -- y is the higher end w of the edge, which runs along up
-    module _ (k : ℕ) (e : Edge) (v w : Vertex) (a : At C.edges k e) (H : HasEnds C e v w) (along : SameDirection (edge-ways s C S k e v w a H).low.dir up) (y : Place) (on-y : form_at h y ≡ pos 0) (top : SamePlace w.point y) where
+    module _ (k : ℕ) (e : Edge) (v w : Vertex) (a : IsAt C.edges k e) (H : HasEnds C e v w) (along : SameDirection (edge-ways s C S k e v w a H).low.dir up) (y : SpacePoint) (on-y : form_at h y ≡ pos 0) (top : SamePoint w.point y) where
       abbrev W : EdgeWays e v w
       W = edge-ways s C S k e v w a H
 
@@ -55,13 +55,13 @@ module _ (s : Set) (C : Complex) (S : Shows s C) (upright : IsUpright C) (linked
       down = SameDirection-trans (toward y v.point) (toward w.point v.point) (opposite up) (SameDirection-turned (toward w.point v.point) (toward y v.point) (toward-same w.point y v.point top (direction-left (toward w.point v.point) (opposite up) from-w))) from-w
 
       -- a point between y and v lies on the edge
-      on-edge : (r : Place) → IsBetween y r v.point → IsBetween v.point r w.point
-      on-edge r c = between-turned w.point v.point r (between-same y r v.point w.point r v.point (same-place_sym w.point y top) (same-itself r) (same-itself v.point) c)
+      on-edge : (r : SpacePoint) → IsBetween y r v.point → IsBetween v.point r w.point
+      on-edge r c = between-turned w.point v.point r (between-same y r v.point w.point r v.point (same-point_sym w.point y top) (same-itself r) (same-itself v.point) c)
 
       on-v : form_at h v.point ≡ pos 0
       on-v = plane-ahead h y v.point (opposite up) down (let f = dot-opposite n up in let l = level in omega (arith, ints)) on-y
 
-      edge-dim : (r : Place) → IsBetween v.point r w.point → FlatDim s r 1
+      edge-dim : (r : SpacePoint) → IsBetween v.point r w.point → FlatDim s r 1
       edge-dim r c = (edge-points s C k e v w r S a H c).0
 
       V : Shaped v.map
@@ -74,7 +74,7 @@ module _ (s : Set) (C : Complex) (S : Shows s C) (upright : IsUpright C) (linked
       free-beside : (f : Vector) → IsDirection (cross W.low.dir f) → (K : ℕ) → amount (forms v.map) f ≤ K → FlatDim s (ahead s v.point (blend K W.low.dir 1 f)) 3
       free-beside f i K large = free-dim v.map s v.point (S.cones e.low v H.low) (blend K W.low.dir 1 f) (free-close v.map V e.low_svertex W.low W.is_low lone-low f K large i)
 
-      module _ (b : Place) (x z : VertexSide) (on-b : form_at h b ≡ pos 0) (side : pos 0 <ℤ lam (normal_of h) y b) (clear : Clear (sliced s h) h hn level y b) (first : (r : Place) → IsBetween y r b → FlatDim s r 3) (three : FlatDim s b 3) (inside : InFrame b)
+      module _ (b : SpacePoint) (x z : VertexSide) (on-b : form_at h b ≡ pos 0) (side : pos 0 <ℤ lam (normal_of h) y b) (clear : Clear (sliced s h) h hn level y b) (first : (r : SpacePoint) → IsBetween y r b → FlatDim s r 3) (three : FlatDim s b 3) (inside : InFrame b)
           (R : RayDown C b z) (wedge-three : Wedge s 3 y (toward y b) (opposite up)) (wedge-two : Wedge (sliced s h) 2 y (toward y b) (opposite up))
           (K1 : ℕ) (large : bound s v (toward y b) ≤ K1) (o : VertexSide) (low : Seer e.low v o (blend K1 (edge-ways s C S k e v w a H).low.dir 1 (toward y b))) (claim : FlatDim (sliced s h) v.point 0 → Claim s C S upright linked h hn level v.point) where
         abbrev f : Vector
@@ -87,26 +87,26 @@ module _ (s : Set) (C : Complex) (S : Shows s C) (upright : IsUpright C) (linked
         not-along = aside-any W.low.dir (direction-left W.low.dir up along) (let c = along in c.parallel) y b side
 
         -- a point of the way from y to b, b counted
-        abbrev Part : Place → Type 0
-        Part u = IsBetween y u b ⊎ SamePlace u b
+        abbrev Part : SpacePoint → Type 0
+        Part u = IsBetween y u b ⊎ SamePoint u b
 
-        part-on : (u : Place) → Part u → form_at h u ≡ pos 0
+        part-on : (u : SpacePoint) → Part u → form_at h u ≡ pos 0
         part-on u (inl c) = plane-between h y u b c on-y on-b
         part-on u (inr g) = nought-is (form_at h u) (signs-same (h ∷ []) u b g h (inl refl) ∙ ap sign on-b)
 
-        part-three : (u : Place) → Part u → FlatDim s u 3
+        part-three : (u : SpacePoint) → Part u → FlatDim s u 3
         part-three u (inl c) = first u c
-        part-three u (inr g) = dim-same s b u 3 (same-place_sym u b g) three
+        part-three u (inr g) = dim-same s b u 3 (same-point_sym u b g) three
 
-        part-before : (u : Place) → Part u → (r : Place) → IsBetween y r u → IsBetween y r b
+        part-before : (u : SpacePoint) → Part u → (r : SpacePoint) → IsBetween y r u → IsBetween y r b
         part-before u (inl c) r m = between-inner y u b r c m
         part-before u (inr g) r m = between-same y r u y r b (same-itself y) (same-itself r) g m
 
-        part-inside : (u : Place) → Part u → InFrame u
+        part-inside : (u : SpacePoint) → Part u → InFrame u
         part-inside u (inl c) = germs-inside s b u (λ d l. let g = even-germs s 3 u b (even-by s 3 u b (first u c) (λ r m. first r (between-outer y u r b c m)) three) d l in (g.1, g.0)) inside
-        part-inside u (inr g) = germs-inside s b u (germs-by_cell s b u (signs-same (carriers s) b u (same-place_sym u b g))) inside
+        part-inside u (inr g) = germs-inside s b u (germs-by_cell s b u (signs-same (carriers s) b u (same-point_sym u b g))) inside
 
-        part-side : (u : Place) → Part u → pos 0 <ℤ lam (normal_of h) y u
+        part-side : (u : SpacePoint) → Part u → pos 0 <ℤ lam (normal_of h) y u
         part-side u (inl c) = same-plus (lam n y b) (lam n y u) (turn-last n up f (toward y u) (SameDirection-turned (toward y u) f (between-way y u b c))) side
         part-side u (inr g) =
             let p = lam-at n y b in
@@ -114,13 +114,13 @@ module _ (s : Set) (C : Complex) (S : Shows s C) (upright : IsUpright C) (linked
             let m = plus-is (form_at (up_line n y) u) (signs-same (up_line n y ∷ []) u b g (up_line n y) (inl refl) ∙ sign-plus (form_at (up_line n y) b) (let l = side in omega (arith, ints))) in
             omega (arith, ints)
 
-        part-clear : (u : Place) → Part u → Clear (sliced s h) h hn level y u
+        part-clear : (u : SpacePoint) → Part u → Clear (sliced s h) h hn level y u
         part-clear u (inl c) r vertex on l m = clear r vertex on l (let q = lam-past r u b m (past c) in omega (arith, ints))
           where
             past : IsBetween y u b → pos 0 <ℤ lam (normal_of h) u b
             past c = same-plus (lam n y u) (lam n u b) (turn-last n up (toward y u) (toward u b) c) (part-side u (inl c))
 
-            lam-past : (p q r : Place) → pos 0 ≤ℤ lam (normal_of h) p q → pos 0 <ℤ lam (normal_of h) q r → pos 0 <ℤ lam (normal_of h) p r
+            lam-past : (p q r : SpacePoint) → pos 0 ≤ℤ lam (normal_of h) p q → pos 0 <ℤ lam (normal_of h) q r → pos 0 <ℤ lam (normal_of h) p r
             lam-past p q r l m = lam-plus n p q r l m
         part-clear u (inr g) r vertex on l m = clear r vertex on l (at-least (form_at (up_line n r) u) (form_at (up_line n r) b) (signs-same (up_line n r ∷ []) u b g (up_line n r) (inl refl)) (lam-at n r u) (lam-at n r b) m)
           where
@@ -157,7 +157,7 @@ module _ (s : Set) (C : Complex) (S : Shows s C) (upright : IsUpright C) (linked
             let even = even-fan s y f (blend N W.high.dir 1 f) 3 free-y g.0 g.1 in
             let p = ahead s y (blend N W.high.dir 1 f) in
             let i = germs-inside s (ahead s y f) p (even-germs s 3 (ahead s y f) p even) inside-y in
-            let t1 = tied-cell s p (ahead s w.point (blend N W.high.dir 1 f)) (ahead-cells s y w.point (blend N W.high.dir 1 f) (signs-same (carriers s) y w.point (same-place_sym w.point y top))) in
+            let t1 = tied-cell s p (ahead s w.point (blend N W.high.dir 1 f)) (ahead-cells s y w.point (blend N W.high.dir 1 f) (signs-same (carriers s) y w.point (same-point_sym w.point y top))) in
             let t2 = tied-turned s (ahead s (ahead s w.point W.high.dir) f) (ahead s w.point (blend N W.high.dir 1 f)) (tied-turn s w.point W.high.dir f N (omega arith)) in
             let t3 = tied-ahead s (ahead s w.point W.high.dir) (ahead s v.point W.low.dir) f (tied-turned s (ahead s v.point W.low.dir) (ahead s w.point W.high.dir) (ends-tied s C S k e v w a H)) in
             let t4 = tied-turn s v.point W.low.dir f N (omega arith) in
@@ -166,7 +166,7 @@ module _ (s : Set) (C : Complex) (S : Shows s C) (upright : IsUpright C) (linked
             (tied-both s (ahead s (ahead s w.point W.high.dir) f) (ahead s (ahead s v.point W.low.dir) f) (ahead s v.point (blend N W.low.dir 1 f)) t3 t4)) in
             germs-inside s p (ahead s v.point (blend N W.low.dir 1 f)) (joined-germs s p (ahead s v.point (blend N W.low.dir 1 f)) t.0) i
 
-        edge-t : (r : Place) → IsBetween y r v.point → FlatDim (sliced s h) r 1
+        edge-t : (r : SpacePoint) → IsBetween y r v.point → FlatDim (sliced s h) r 1
         edge-t r c =
             let d = on-edge r c in
             let F = edge-frame s C S k e v w r a H d in
@@ -179,7 +179,7 @@ module _ (s : Set) (C : Complex) (S : Shows s C) (upright : IsUpright C) (linked
             (germs-inside s (ahead s r f) (ahead (sliced s h) r f) (germs-by_cell s (ahead s r f) (ahead (sliced s h) r f) (λ g l. sym (same g l))) (germs-inside s u (ahead s r f) (joined-germs s u (ahead s r f) t.0) inside-low))
 
         -- ---- the ways from v to the points between y and b
-        module _ (u : Place) (p : Part u) where
+        module _ (u : SpacePoint) (p : Part u) where
           way-u : SameDirection f (toward y u)
           way-u = by p
             where
@@ -190,26 +190,26 @@ module _ (s : Set) (C : Complex) (S : Shows s C) (upright : IsUpright C) (linked
           F : IsFlatIn (sliced s h) h u
           F = two-of s h hn u (part-on u p) (part-three u p) (part-inside u p)
 
-          first-two : (r : Place) → IsBetween y r u → FlatDim (sliced s h) r 2
+          first-two : (r : SpacePoint) → IsBetween y r u → FlatDim (sliced s h) r 2
           first-two r m = let c = inl (part-before u p r m) in let g = two-of s h hn r (part-on r c) (part-three r c) (part-inside r c) in g.0
 
-          corner : (q : Place) → IsBetween u q v.point → ((r : Place) → IsBetween q r y → FlatDim (sliced s h) r 1) → ⊥
+          corner : (q : SpacePoint) → IsBetween u q v.point → ((r : SpacePoint) → IsBetween q r y → FlatDim (sliced s h) r 1) → ⊥
           corner q m edge = corner-wedge (sliced s h) y q off edge u v.point m
               (wedge-way (sliced s h) 2 y f (toward y u) (opposite up) (toward y v.point) way-u (SameDirection-turned (toward y v.point) (opposite up) down)
               (λ i j si sj. blend-rises (cross n up) (toward y u) (toward y v.point) i j si (subst (λ (c : ℤ). pos 0 <ℤ c) (triple-dot n up (toward y u)) (part-side u p))
               (let g = triple-dot n up (toward y v.point) in let l = lam-down n y v.point down in omega (arith, ints))) wedge-two)
             where
-              off : SamePlace y q → ⊥
+              off : SamePoint y q → ⊥
               off g =
                   let c = between-plus (up_line n y) u q v.point m (let i = lam-at n y u in let l = part-side u p in omega (arith, ints)) (let i = lam-at n y v.point in let l = lam-down n y v.point down in omega (arith, ints)) in
                   let i = lam-at n y q in
-                  let l = lam-zero n y q (place-toward y q g) in
+                  let l = lam-zero n y q (point-toward y q g) in
                   omega (arith, ints)
 
-          way-two : (r : Place) → IsBetween u r v.point → FlatDim (sliced s h) r 2
+          way-two : (r : SpacePoint) → IsBetween u r v.point → FlatDim (sliced s h) r 2
           way-two = along-start (sliced s h) h hn level y u v.point on-y (part-on u p) on-v down (part-side u p) (part-clear u p) first-two (inr edge-t) F corner
 
-          way-three : (r : Place) → IsBetween v.point r u → FlatDim s r 3
+          way-three : (r : SpacePoint) → IsBetween v.point r u → FlatDim s r 3
           way-three r c =
               let d = between-turned v.point u r c in
               three-of s h hn 2 u r (part-on u p) (plane-between h v.point r u c on-v (part-on u p)) (even-by (sliced s h) 2 u r F.0 (λ q i. way-two q (between-inner u r v.point q d i)) (way-two r d)) (part-three u p)
@@ -222,7 +222,7 @@ module _ (s : Set) (C : Complex) (S : Shows s C) (upright : IsUpright C) (linked
             where
               even : IsEvenAfter s 3 v.point u
               even r (inl c) = way-three r c
-              even r (inr g) = dim-same s u r 3 (same-place_sym r u g) (part-three u p)
+              even r (inr g) = dim-same s u r 3 (same-point_sym r u g) (part-three u p)
 
         at-b : Part b
         at-b = inr (same-itself b)
@@ -231,7 +231,7 @@ module _ (s : Set) (C : Complex) (S : Shows s C) (upright : IsUpright C) (linked
         vertex-v = vertex-slice s h hn level v.point (near_point (sliced s h) v.point b) on-v (S.vertices e.low v H.low) (start-close (reach_all (carriers (sliced s h)) v.point) v.point b)
             (two-of s h hn q (plane-between h v.point q b c on-v on-b) (way-three b at-b q c) (germs-inside s b q (even-germs s 3 b q even) inside))
           where
-            q : Place
+            q : SpacePoint
             q = near_point (sliced s h) v.point b
 
             c : IsBetween v.point (near_point (sliced s h) v.point b) b
@@ -244,7 +244,7 @@ module _ (s : Set) (C : Complex) (S : Shows s C) (upright : IsUpright C) (linked
         M-some : 0 < bound s v (toward v.point b) + 1
         M-some = omega arith
 
-        abbrev r' : Place
+        abbrev r' : SpacePoint
         r' = mixed (bound s v (toward v.point b) + 1) y 1 b M-some
 
         amid-r' : IsBetween y r' b

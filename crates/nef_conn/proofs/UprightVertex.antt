@@ -1,5 +1,5 @@
 -- What falls beside a vertex of a plane from which an edge runs down along up: it falls beside the edge.
-use Rattle.nef_conn.proofs.Prelude.{◌≡◌, ℕ, ◌+◌, ℤ, pos, ◌<ℤ◌, arith, refl, ap, sym, inl, inr, ⊎_elim, subst, ints, Chained, FlatDim, IsVertex, Place, Form, form_at, normal_of, slope, SamePlace, InFrame, toward, IsBetween, IsPlaceBelow, Set, Vector, blend, dot, cross, opposite, IsZero, IsDirection, SameDirection, up, ahead, same-place_sym, forms, At, MapVertex, around_svertex, HasArc, Shaped, amount, at-one, sees-around, Vertex, Edge, Complex, HasEnds, Shows, VertexSide, RayDown, ahead-back, dim-same, plane-ahead, svertex-edge, VolumeLink, around_ends, IsUpright, IsEvenAfter, EdgeWays, edge-ways, tied-ray, AreLinkedWhereJoined, sliced, place_below-same, triple-dot, SameDirection-turned, SameDirection-trans, dir-self, opposite-turned, opposite-same, dot-opposite, level-way, opposite-way, opposite-twice, direction-left}
+use Rattle.nef_conn.proofs.Prelude.{◌≡◌, ℕ, ◌+◌, ℤ, pos, ◌<ℤ◌, arith, refl, ap, sym, inl, inr, ⊎_elim, subst, ints, Chained, FlatDim, IsVertex, SpacePoint, Form, form_at, normal_of, slope, SamePoint, InFrame, toward, IsBetween, IsPointBelow, Set, Vector, blend, dot, cross, opposite, IsZero, IsDirection, SameDirection, up, ahead, same-point_sym, forms, IsAt, MapVertex, around_svertex, HasArc, Shaped, amount, at-one, sees-around, Vertex, Edge, Complex, HasEnds, Shows, VertexSide, RayDown, ahead-back, dim-same, plane-ahead, svertex-edge, VolumeLink, around_ends, IsUpright, IsEvenAfter, EdgeWays, edge-ways, tied-ray, AreLinkedWhereJoined, sliced, point_below-same, triple-dot, SameDirection-turned, SameDirection-trans, dir-self, opposite-turned, opposite-same, dot-opposite, level-way, opposite-way, opposite-twice, direction-left}
 use Rattle.nef_conn.proofs.Chain.{chain-both, chain-back, chain-one}
 use Rattle.nef_conn.proofs.Claims.{Claim}
 use Rattle.nef_conn.proofs.Downs.{along-up}
@@ -20,8 +20,8 @@ module _ (s : Set) (C : Complex) (S : Shows s C) (upright : IsUpright C) (linked
     n = normal_of h
 
     -- ---- a vertex from which an edge runs down
-    module _ (y : Place) (on-y : form_at h y ≡ pos 0) (i : ℕ) (v : Vertex) (a : At C.vertices i v) (same : SamePlace v.point y) (j : ℕ) (u : MapVertex) (b : At v.map.svertices j u) (runs : SameDirection u.dir (opposite up))
-        (claims : (p : Place) → form_at h p ≡ pos 0 → IsPlaceBelow p y → IsVertex s p → FlatDim (sliced s h) p 0 → Claim s C S upright linked h hn level p) where
+    module _ (y : SpacePoint) (on-y : form_at h y ≡ pos 0) (i : ℕ) (v : Vertex) (a : IsAt C.vertices i v) (same : SamePoint v.point y) (j : ℕ) (u : MapVertex) (b : IsAt v.map.svertices j u) (runs : SameDirection u.dir (opposite up))
+        (claims : (p : SpacePoint) → form_at h p ≡ pos 0 → IsPointBelow p y → IsVertex s p → FlatDim (sliced s h) p 0 → Claim s C S upright linked h hn level p) where
       u-along : IsZero (cross u.dir up)
       u-along = along-up u.dir (let o = runs in o.parallel)
 
@@ -31,7 +31,7 @@ module _ (s : Set) (C : Complex) (S : Shows s C) (upright : IsUpright C) (linked
       lone-high : HasArc v.map j → ⊥
       lone-high = lone-along s C S upright linked i j v u a b u-along
 
-      module _ (c : Place) (x z : VertexSide) (on-c : form_at h c ≡ pos 0) (side : pos 0 <ℤ lam (normal_of h) y c) (clear : Clear (sliced s h) h hn level y c) (first : (r : Place) → IsBetween y r c → FlatDim s r 3) (three : FlatDim s c 3) (inside : InFrame c)
+      module _ (c : SpacePoint) (x z : VertexSide) (on-c : form_at h c ≡ pos 0) (side : pos 0 <ℤ lam (normal_of h) y c) (clear : Clear (sliced s h) h hn level y c) (first : (r : SpacePoint) → IsBetween y r c → FlatDim s r 3) (three : FlatDim s c 3) (inside : InFrame c)
           (T : Touch s C y (vertex-frame s C i v y a same) x (toward y c)) (R : RayDown C c z) (wedge-three : Wedge s 3 y (toward y c) (opposite up)) (wedge-two : Wedge (sliced s h) 2 y (toward y c) (opposite up)) where
         abbrev f : Vector
         f = toward y c
@@ -44,7 +44,7 @@ module _ (s : Set) (C : Complex) (S : Shows s C) (upright : IsUpright C) (linked
           where
             even : IsEvenAfter s 3 y c
             even r (inl m) = first r m
-            even r (inr g) = dim-same s c r 3 (same-place_sym r c g) three
+            even r (inr g) = dim-same s c r 3 (same-point_sym r c g) three
 
         u-some : IsDirection u.dir
         u-some = direction-left u.dir (opposite up) runs
@@ -75,15 +75,15 @@ module _ (s : Set) (C : Complex) (S : Shows s C) (upright : IsUpright C) (linked
             (meet s C S i v a o.0 high (blend N u.dir 1 f) p (record { here = refl; label = r.0; has = (u, b, r.1); sees = sees-around v.map V' j u b lone-high f N (omega arith) (aside-any s C S upright linked h hn level u.dir u-some u-along y c side) }))
 
         -- by the edge
-        module _ (k : ℕ) (e : Edge) (l w : Vertex) (d : At C.edges k e) (H : HasEnds C e l w) (at-high : e.high ≡ i) (at-svertex : e.high_svertex ≡ j) where
+        module _ (k : ℕ) (e : Edge) (l w : Vertex) (d : IsAt C.edges k e) (H : HasEnds C e l w) (at-high : e.high ≡ i) (at-svertex : e.high_svertex ≡ j) where
           abbrev W : EdgeWays e l w
           W = edge-ways s C S k e l w d H
 
           one : w ≡ v
-          one = at-one C.vertices i w v (subst (λ (q : ℕ). At C.vertices q w) at-high H.high) a
+          one = at-one C.vertices i w v (subst (λ (q : ℕ). IsAt C.vertices q w) at-high H.high) a
 
           high-is : W.high ≡ u
-          high-is = at-one v.map.svertices j W.high u (subst (λ (q : ℕ). At v.map.svertices q W.high) at-svertex (subst (λ (q : Vertex). At q.map.svertices e.high_svertex W.high) one W.is_high)) b
+          high-is = at-one v.map.svertices j W.high u (subst (λ (q : ℕ). IsAt v.map.svertices q W.high) at-svertex (subst (λ (q : Vertex). IsAt q.map.svertices e.high_svertex W.high) one W.is_high)) b
 
           along : SameDirection W.low.dir up
           along =
@@ -92,8 +92,8 @@ module _ (s : Set) (C : Complex) (S : Shows s C) (upright : IsUpright C) (linked
               let q = opposite-way W.high.dir W.low.dir (opposite-turned W.low.dir W.high.dir W.back) in
               subst (λ (r : Vector). SameDirection W.low.dir r) (opposite-twice up) (SameDirection-trans W.low.dir (opposite W.high.dir) (opposite (opposite up)) (SameDirection-turned (opposite W.high.dir) W.low.dir q) p)
 
-          top : SamePlace w.point y
-          top = subst (λ (q : Vertex). SamePlace q.point y) (sym one) same
+          top : SamePoint w.point y
+          top = subst (λ (q : Vertex). SamePoint q.point y) (sym one) same
 
           V'' : Shaped l.map
           V'' = (S.cones e.low l H.low).valid.shaped
@@ -104,8 +104,8 @@ module _ (s : Set) (C : Complex) (S : Shows s C) (upright : IsUpright C) (linked
           abbrev low : VertexSide
           low = record { vertex = e.low; side = around_svertex e.low_svertex }
 
-          lower : IsPlaceBelow l.point y
-          lower = place_below-same l.point w.point y (S.ordered e.low e.high l w (let E = S.edges.edges k e d in E.upward) H.low H.high) top
+          lower : IsPointBelow l.point y
+          lower = point_below-same l.point w.point y (S.ordered e.low e.high l w (let E = S.edges.edges k e d in E.upward) H.low H.high) top
 
           on-l : form_at h l.point ≡ pos 0
           on-l = plane-ahead h y l.point (opposite up) (below-y) (let g = dot-opposite n up in let q = level in omega (arith, ints)) on-y
@@ -136,11 +136,11 @@ module _ (s : Set) (C : Complex) (S : Shows s C) (upright : IsUpright C) (linked
               chain-both (VolumeLink C) x high z to-around (chain-both (VolumeLink C) high low z (chain-back (VolumeLink C) low high link) rest)
 
         -- an edge that begins there goes up
-        not-low : (k : ℕ) (e : Edge) (l w : Vertex) (d : At C.edges k e) (H : HasEnds C e l w) → e.low ≡ i → e.low_svertex ≡ j → ⊥
+        not-low : (k : ℕ) (e : Edge) (l w : Vertex) (d : IsAt C.edges k e) (H : HasEnds C e l w) → e.low ≡ i → e.low_svertex ≡ j → ⊥
         not-low k e l w d H at-low at-svertex =
             let W = edge-ways s C S k e l w d H in
-            let one = at-one C.vertices i l v (subst (λ (q : ℕ). At C.vertices q l) at-low H.low) a in
-            let is = at-one v.map.svertices j W.low u (subst (λ (q : ℕ). At v.map.svertices q W.low) at-svertex (subst (λ (q : Vertex). At q.map.svertices e.low_svertex W.low) one W.is_low)) b in
+            let one = at-one C.vertices i l v (subst (λ (q : ℕ). IsAt C.vertices q l) at-low H.low) a in
+            let is = at-one v.map.svertices j W.low u (subst (λ (q : ℕ). IsAt v.map.svertices q W.low) at-svertex (subst (λ (q : Vertex). IsAt q.map.svertices e.low_svertex W.low) one W.is_low)) b in
             let g = subst (λ (q : MapVertex). SameDirection q.dir (opposite up)) (sym is) runs in
             let m = normal-way (toward l.point w.point) (opposite up) (SameDirection-trans (toward l.point w.point) W.low.dir (opposite up) W.onward g)
             (toward-normal l.point w.point (S.ordered e.low e.high l w (let E = S.edges.edges k e d in E.upward) H.low H.high)) in

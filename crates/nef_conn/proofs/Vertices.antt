@@ -1,5 +1,5 @@
 -- What falls from a point beside a vertex of a plane names a side of the class of what touches the vertex toward it: by what leaves the vertex first, or, where nothing does, by what lies below.
-use Rattle.nef_conn.proofs.Prelude.{◌≡◌, ℤ, pos, ◌<ℤ◌, arith, sym, ◌⊎◌, inl, inr, ⊎_elim, subst, ints, Chained, FlatDim, IsEven, Place, Form, form_at, normal_of, slope, SamePlace, InFrame, toward, IsBetween, Set, Vector, opposite, cross, IsDirection, SameDirection, up, carriers, SameGerms, FlatDim-by_germs, germs-by_cell, between-turned, between-inner, ray-cell, ahead, even-germs, signs-same, same-place_sym, Complex, Shows, VertexSide, RayDown, IsFlatIn, facet-of, plane-between, dim-same, plane-ahead, even-by, plane-way, skeleton-not_flat, skeleton-or_flat, between-way, between-cases, between-outer, between-start, VolumeLink, IsUpright, IsEvenAfter, ahead-close, dim-cell, tied-ray, facet-at, AreLinkedWhereJoined, sliced, triple-dot, triple-turned, SameDirection-turned, SameDirection-trans, dir-self, dot-opposite, level-way, direction-left}
+use Rattle.nef_conn.proofs.Prelude.{◌≡◌, ℤ, pos, ◌<ℤ◌, arith, sym, ◌⊎◌, inl, inr, ⊎_elim, subst, ints, Chained, FlatDim, IsEven, SpacePoint, Form, form_at, normal_of, slope, SamePoint, InFrame, toward, IsBetween, Set, Vector, opposite, cross, IsDirection, SameDirection, up, carriers, SameGerms, FlatDim-by_germs, germs-by_cell, between-turned, between-inner, ray-cell, ahead, even-germs, signs-same, same-point_sym, Complex, Shows, VertexSide, RayDown, IsFlatIn, facet-of, plane-between, dim-same, plane-ahead, even-by, plane-way, skeleton-not_flat, skeleton-or_flat, between-way, between-cases, between-outer, between-start, VolumeLink, IsUpright, IsEvenAfter, ahead-close, dim-cell, tied-ray, facet-at, AreLinkedWhereJoined, sliced, triple-dot, triple-turned, SameDirection-turned, SameDirection-trans, dir-self, dot-opposite, level-way, direction-left}
 use Rattle.nef_conn.proofs.Chain.{chain-both}
 use Rattle.nef_conn.proofs.Fall.{lam-zero}
 use Rattle.nef_conn.proofs.Fans.{off-between}
@@ -23,28 +23,28 @@ module _ (s : Set) (C : Complex) (S : Shows s C) (upright : IsUpright C) (linked
   down-some : IsDirection (opposite up)
   down-some z = let e = z.2 in omega (arith, ints)
 
-  module _ (y : Place) (on-y : form_at h y ≡ pos 0) (corner-y : FlatDim (sliced s h) y 0) (down : FlatDim s (ahead s y (opposite up)) 3 ⊎ ((b : Place) (x z : VertexSide) → form_at h b ≡ pos 0 → pos 0 <ℤ lam (normal_of h) y b → Clear (sliced s h) h hn level y b → ((r : Place) → IsBetween y r b → FlatDim s r 3) → FlatDim s b 3 → InFrame b
+  module _ (y : SpacePoint) (on-y : form_at h y ≡ pos 0) (corner-y : FlatDim (sliced s h) y 0) (down : FlatDim s (ahead s y (opposite up)) 3 ⊎ ((b : SpacePoint) (x z : VertexSide) → form_at h b ≡ pos 0 → pos 0 <ℤ lam (normal_of h) y b → Clear (sliced s h) h hn level y b → ((r : SpacePoint) → IsBetween y r b → FlatDim s r 3) → FlatDim s b 3 → InFrame b
       → Beside-point s C S upright linked y (toward y b) x → RayDown C b z → Wedge s 3 y (toward y b) (opposite up) → Wedge (sliced s h) 2 y (toward y b) (opposite up) → Chained (VolumeLink C) x z))
-      (below : (y2 : Place) → form_at h y2 ≡ pos 0 → SameDirection (toward y y2) (opposite up) → FlatDim (sliced s h) y2 0 → Claim s C S upright linked h hn level y2)
-      (falls : (x x2 : VertexSide) → Beside-point s C S upright linked y (opposite up) x → (R : RayDown C y x2) → ((r : Place) → IsBetween y r R.place → FlatDim s r 3 × InFrame r) → Chained (VolumeLink C) x x2) where
-    module _ (b : Place) (x z : VertexSide) (on-b : form_at h b ≡ pos 0) (side : pos 0 <ℤ lam (normal_of h) y b) (clear : Clear (sliced s h) h hn level y b) (first : (r : Place) → IsBetween y r b → FlatDim s r 3) (three : FlatDim s b 3) (inside : InFrame b)
+      (below : (y2 : SpacePoint) → form_at h y2 ≡ pos 0 → SameDirection (toward y y2) (opposite up) → FlatDim (sliced s h) y2 0 → Claim s C S upright linked h hn level y2)
+      (falls : (x x2 : VertexSide) → Beside-point s C S upright linked y (opposite up) x → (R : RayDown C y x2) → ((r : SpacePoint) → IsBetween y r R.place → FlatDim s r 3 × InFrame r) → Chained (VolumeLink C) x x2) where
+    module _ (b : SpacePoint) (x z : VertexSide) (on-b : form_at h b ≡ pos 0) (side : pos 0 <ℤ lam (normal_of h) y b) (clear : Clear (sliced s h) h hn level y b) (first : (r : SpacePoint) → IsBetween y r b → FlatDim s r 3) (three : FlatDim s b 3) (inside : InFrame b)
         (B : Beside-point s C S upright linked y (toward y b) x) (R : RayDown C b z) where
       F : IsFlatIn (sliced s h) h b
       F = two-of s h hn b on-b three inside
 
-      germs-b : (r : Place) → IsBetween y r b → SameGerms s b r
+      germs-b : (r : SpacePoint) → IsBetween y r b → SameGerms s b r
       germs-b r m d l = let e = even-germs s 3 r b (even-by s 3 r b (first r m) (λ u k. first u (between-outer y r u b m k)) three) d l in (e.1, e.0)
 
-      first-two : (r : Place) → IsBetween y r b → FlatDim (sliced s h) r 2
+      first-two : (r : SpacePoint) → IsBetween y r b → FlatDim (sliced s h) r 2
       first-two r m = let f = two-of s h hn r (plane-between h y r b m on-y on-b) (first r m) (germs-inside s b r (germs-b r m) inside) in f.0
 
       some-b : IsDirection (toward y b)
       some-b z = let e = lam-zero n y b z in let l = side in omega (arith, ints)
 
-      abbrev P : Place
+      abbrev P : SpacePoint
       P = near-b (sliced s h) h hn level y b on-y on-b side clear first-two F
 
-      abbrev Q : Place
+      abbrev Q : SpacePoint
       Q = near-down (sliced s h) h hn level y b on-y on-b side clear first-two F
 
       on-P : form_at h P ≡ pos 0
@@ -66,7 +66,7 @@ module _ (s : Set) (C : Complex) (S : Shows s C) (upright : IsUpright C) (linked
       way-P = way-near (sliced s h) h hn level y b on-y on-b side clear first-two F
 
       -- free points that follow P
-      after-P : (r : Place) → form_at h r ≡ pos 0 → IsEven (sliced s h) 2 P r → FlatDim s r 3
+      after-P : (r : SpacePoint) → form_at h r ≡ pos 0 → IsEven (sliced s h) 2 P r → FlatDim s r 3
       after-P r on-r even = three-of s h hn 2 P r on-P on-r even three-P
 
       free-toward : FlatDim s (ahead s y (toward y b)) 3
@@ -74,17 +74,17 @@ module _ (s : Set) (C : Complex) (S : Shows s C) (upright : IsUpright C) (linked
         where
           even : IsEvenAfter s 3 y b
           even u (inl m) = first u m
-          even u (inr e) = dim-same s b u 3 (same-place_sym u b e) three
+          even u (inr e) = dim-same s b u 3 (same-point_sym u b e) three
 
       -- ---- what leaves y lands under b
       module _ (K : Blocked (sliced s h) h hn level y b on-y on-b side clear first-two F) where
-        abbrev to-b : (r : Place) → IsBetween b r y → FlatDim (sliced s h) r 2
+        abbrev to-b : (r : SpacePoint) → IsBetween b r y → FlatDim (sliced s h) r 2
         to-b r m = first-two r (between-turned b y r m)
 
         abbrev L : Landing (sliced s h) h hn level y b on-y on-b side clear (λ r m. first-two r (between-turned b y r m)) F (toward y K.place)
         L = K.landing
 
-        hit : SamePlace R.place L.place
+        hit : SamePoint R.place L.place
         hit = lands s C S upright linked h hn level y b on-y on-b side clear (λ r m. first-two r (between-turned b y r m)) F three inside (toward y K.place) K.landing z R
 
         some-L : IsDirection (toward y L.place)
@@ -116,14 +116,14 @@ module _ (s : Set) (C : Complex) (S : Shows s C) (upright : IsUpright C) (linked
             level-hit = level-way n (toward y L.place) (toward y R.place) (SameDirection-turned (toward y R.place) (toward y L.place) to-hit) (plane-way h y L.place on-y L.on)
 
       -- ---- or nothing leaves y to the side of b
-      module _ (all : (r : Place) → IsBetween P r Q → FlatDim (sliced s h) r 2) where
+      module _ (all : (r : SpacePoint) → IsBetween P r Q → FlatDim (sliced s h) r 2) where
         on-Q : form_at h Q ≡ pos 0
         on-Q = on-down (sliced s h) h hn level y b on-y on-b side clear first-two F
 
         to-Q : SameDirection (toward y Q) (opposite up)
         to-Q = to-down (sliced s h) h hn level y b on-y on-b side clear first-two F
 
-        three-amid : (r : Place) → IsBetween P r Q → FlatDim s r 3
+        three-amid : (r : SpacePoint) → IsBetween P r Q → FlatDim s r 3
         three-amid r m = after-P r (plane-between h P r Q m on-P on-Q) (even-by (sliced s h) 2 P r two-P (λ u k. all u (between-inner P r Q u m k)) (all r m))
 
         wedge-down : Wedge s 3 y (toward y b) (opposite up)
@@ -164,15 +164,15 @@ module _ (s : Set) (C : Complex) (S : Shows s C) (upright : IsUpright C) (linked
             on-place : form_at h D.place ≡ pos 0
             on-place = plane-ahead h Q D.place (opposite up) D.ahead (let e = dot-opposite n up in let l = level in omega (arith, ints)) on-Q
 
-            germs-ray : (r : Place) → IsBetween y r D.place → SameGerms s Q r
+            germs-ray : (r : SpacePoint) → IsBetween y r D.place → SameGerms s Q r
             germs-ray r m = ⊎_elim (λ k. germs-by_cell s Q r (sliced-signs s h Q r (ray-cell (carriers (sliced s h)) y Q r (ahead-close (sliced s h) y (opposite up)) k)))
-                (λ o. ⊎_elim (λ e. germs-by_cell s Q r (signs-same (carriers s) Q r (same-place_sym r Q e))) (λ k. even-germs s 3 Q r (even-by s 3 Q r three-Q (λ u i. three-ray u (between-inner Q r D.place u k i)) (three-ray r k))) o)
+                (λ o. ⊎_elim (λ e. germs-by_cell s Q r (signs-same (carriers s) Q r (same-point_sym r Q e))) (λ k. even-germs s 3 Q r (even-by s 3 Q r three-Q (λ u i. three-ray u (between-inner Q r D.place u k i)) (three-ray r k))) o)
                 (between-cases y Q D.place r on-ray-Q m)
               where
-                three-ray : (u : Place) → IsBetween Q u D.place → FlatDim s u 3
+                three-ray : (u : SpacePoint) → IsBetween Q u D.place → FlatDim s u 3
                 three-ray u k = ⊎_elim (λ f. f) (λ o. absurd (D.first u k o)) (skeleton-or_flat s C S (facet-at s C S) (facet-of s C S) u)
 
-            second : (r : Place) → IsBetween y r D.place → FlatDim s r 3 × InFrame r
+            second : (r : SpacePoint) → IsBetween y r D.place → FlatDim s r 3 × InFrame r
             second r m = let g = germs-ray r m in (FlatDim-by_germs s s Q r g 3 three-Q, germs-inside s Q r g inside-Q)
 
             abbrev ray-y : RayDown C y x2

@@ -1,11 +1,11 @@
 -- The same ray names the same corners in each form of a plane, and there is one way inward.
-use Rattle.nef_conn.proofs.Prelude.{◌≡◌, ℕ, ℤ, pos, ◌+ℤ◌, ◌*ℤ◌, neg_ℤ, Bool, true, false, cond, ◌&&◌, arith, refl, ◌∷◌, subst, Decides, [], ints, given, none, follows, ring, at, num, neg, ◌⊕◌, ◌⊗◌, axis_factor, Place, Form, form_at, normal_of, Vector, opposite, dot, blend, IsDirection, SameDirection, plane_dir, beside_x, beside_y, beside_z, SameUpToFactor, of_direction, same-factor, factor-same, Complex, Corner, RayNames, opposed, opposite-same, direction-left, level-blend}
+use Rattle.nef_conn.proofs.Prelude.{◌≡◌, ℕ, ℤ, pos, ◌+ℤ◌, ◌*ℤ◌, neg_ℤ, Bool, true, false, cond, ◌&&◌, arith, refl, ◌∷◌, subst, Decides, [], ints, given, none, follows, ring, at, num, neg, ◌⊕◌, ◌⊗◌, axis_factor, SpacePoint, Form, form_at, normal_of, Vector, opposite, dot, blend, IsDirection, SameDirection, plane_dir, beside_x, beside_y, beside_z, SameUpToFactor, of_direction, same-factor, factor-same, Complex, Corner, RayNames, opposed, opposite-same, direction-left, level-blend}
 use Rattle.std.specs.Ordering.{int_eq}
 use Rattle.std.proofs.lemmas.Bool.Decides.{Decides-int_eq}
 use Rattle.nef_conn.proofs.SamePlanes.{first-same, corner-same, level, same-test}
 
 -- the same ray names the same corners in each form of a plane
-pub names-same : (C : Complex) (g h : Form) (y : Place) → form_at g y ≡ pos 0 → form_at h y ≡ pos 0 → SameDirection (normal_of g) (normal_of h) → (d f : Vector) → SameDirection d f
+pub names-same : (C : Complex) (g h : Form) (y : SpacePoint) → form_at g y ≡ pos 0 → form_at h y ≡ pos 0 → SameDirection (normal_of g) (normal_of h) → (d f : Vector) → SameDirection d f
     → (k : Corner) → RayNames C g y d k → RayNames C h y f k
 names-same C g h y on_g on_h w d f u k (m, I, c) = (m, first-same C g h y on_g on_h w d f u m I, corner-same C g h w (opposite d) (opposite f) (opposite-same d f u) m k c)
 

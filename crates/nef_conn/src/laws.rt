@@ -3,7 +3,7 @@
 ghost use Rattle.nef_conn.specs.Components.{JoinedAreAsFlat, JoinedVertices, JoinedEdges, OneCount, VerticesCounted, EdgesCounted};
 ghost use Rattle.nef_conn.specs.Items.{ArcsGoOn, ItemsName, NamesAlong, ConverseBySteps, ThirdSides, JoinedItemsAreLinked};
 ghost use Rattle.nef_conn.specs.Reach.{PointsReachSides, PointsReachItems, CornersReached, SidesReached};
-ghost use Rattle.nef_conn.specs.Sides.{RaysEnd, ConverseBySegments, ConverseByItems, JoinedSidesAreLinked};
+ghost use Rattle.nef_conn.specs.Sides.{RaysEnd, SidesBySegments, ConverseByItems, JoinedSidesAreLinked};
 
 /// In a complex that shows a set, each point with three flat directions is joined to a point at some side, and each
 /// point with two to a point at some item, outside the frame too. A point in a facet is joined to a point at the item
@@ -49,7 +49,7 @@ pub fn facet_laws()
 /// items with joined points are linked, which is always so.
 pub fn volume_laws()
     ensures rays { RaysEnd }
-    ensures segments { ConverseBySegments }
+    ensures segments { SidesBySegments }
     ensures converse { ConverseByItems }
     ensures sides { JoinedSidesAreLinked }
 {}

@@ -1,8 +1,8 @@
 -- Each claim of a pass is a job in its hand, a job that it deposited, or one that it gave back.
 use Rattle.nef_core.proofs.Prelude.{◌≡◌, ◌≢◌, ℕ, zero, suc, ◌+◌, ◌<◌, ◌≤◌, ◌==◌, ◌&&◌, List, [], ◌∷◌, refl, ap, sym, ◌∙◌, Some, None, slice_get, slice_set, arith, set, ◌⊎◌, inl, inr, Bool, true, false, eq-eqb, ne_eqb, slice_get_within, State, start, after, replay, IsLegal, Slot, Open, InHand, Done, Event, Claim, Deposit, GiveBack}
-use Rattle.nef_core.specs.Counts.{one_if, is_own, is_done_by, total, at_most_one, claims, deposits, givings_back, claims_of, deposits_of, givings_back_of, handings_out}
+use Rattle.nef_core.specs.Counts.{one_if, is_own_slot, is_done_by, total, at_most_one, claims, deposits, givings_back, claims_of, deposits_of, givings_back_of, handings_out}
 use Rattle.nef_core.proofs.Places.{get_set_here, get_set_other, same_or_not}
-use Rattle.nef_core.proofs.Schedules.{claimed, IsFresh, fresh_after, fresh_start}
+use Rattle.nef_core.proofs.Schedules.{claimed, RestIsOpen, fresh_after, fresh_start}
 
 no_slot : (x : Slot) → None ≡ Some x → ⊥
 no_slot x e = cc
@@ -20,24 +20,24 @@ total_start : (count : Slot → ℕ) (n : ℕ) → count Open ≡ 0 → total co
 total_start count zero h = refl
 total_start count (suc n) h = let k = total_start count n h in omega arith
 
-counted : (w : ℕ) (s : State) (es : List Event) → IsLegal s es → IsFresh s → claims w es + total (is_own w) s.slots ≡ total (is_own w) (replay s es).slots + givings_back w es
+counted : (w : ℕ) (s : State) (es : List Event) → IsLegal s es → RestIsOpen s → claims w es + total (is_own_slot w) s.slots ≡ total (is_own_slot w) (replay s es).slots + givings_back w es
 counted w s [] h f = omega arith
 counted w s (Claim v ∷ es) h f =
     let k = counted w (after s (Claim v)) es h.1 (fresh_after s (Claim v) h.0 f) in
     let there = f s.next (omega arith) h.0 in
-    let o = total_set (is_own w) s.slots s.next Open (InHand v) there in
-    let a : total (is_own w) (after s (Claim v)).slots ≡ total (is_own w) (set s.slots s.next (InHand v)) = ap (λ (z : State). total (is_own w) z.slots) (claimed s v h.0) in
+    let o = total_set (is_own_slot w) s.slots s.next Open (InHand v) there in
+    let a : total (is_own_slot w) (after s (Claim v)).slots ≡ total (is_own_slot w) (set s.slots s.next (InHand v)) = ap (λ (z : State). total (is_own_slot w) z.slots) (claimed s v h.0) in
     omega arith
 counted w s (Deposit v job ∷ es) h f =
     let k = counted w (after s (Deposit v job)) es h.1 (fresh_after s (Deposit v job) h.0 f) in
-    let o = total_set (is_own w) s.slots job (InHand v) (Done v) h.0 in
+    let o = total_set (is_own_slot w) s.slots job (InHand v) (Done v) h.0 in
     omega arith
 counted w s (GiveBack v job ∷ es) h f =
     let k = counted w (after s (GiveBack v job)) es h.1 (fresh_after s (GiveBack v job) h.0 f) in
-    let o = total_set (is_own w) s.slots job (InHand v) Open h.0 in
+    let o = total_set (is_own_slot w) s.slots job (InHand v) Open h.0 in
     omega arith
 
-done_counted : (w : ℕ) (s : State) (es : List Event) → IsLegal s es → IsFresh s → deposits w es + total (is_done_by w) s.slots ≡ total (is_done_by w) (replay s es).slots
+done_counted : (w : ℕ) (s : State) (es : List Event) → IsLegal s es → RestIsOpen s → deposits w es + total (is_done_by w) s.slots ≡ total (is_done_by w) (replay s es).slots
 done_counted w s [] h f = omega arith
 done_counted w s (Claim v ∷ es) h f =
     let k = done_counted w (after s (Claim v)) es h.1 (fresh_after s (Claim v) h.0 f) in
@@ -54,8 +54,8 @@ done_counted w s (GiveBack v job ∷ es) h f =
     let o = total_set (is_done_by w) s.slots job (InHand v) Open h.0 in
     omega arith
 
-pub claims_accounted : (n w : ℕ) (es : List Event) → IsLegal (start n) es → claims w es ≡ total (is_own w) (replay (start n) es).slots + givings_back w es
-claims_accounted n w es h = let k = counted w (start n) es h (fresh_start n) in let z = total_start (is_own w) n refl in omega arith
+pub claims_accounted : (n w : ℕ) (es : List Event) → IsLegal (start n) es → claims w es ≡ total (is_own_slot w) (replay (start n) es).slots + givings_back w es
+claims_accounted n w es h = let k = counted w (start n) es h (fresh_start n) in let z = total_start (is_own_slot w) n refl in omega arith
 
 pub deposits_done : (n w : ℕ) (es : List Event) → IsLegal (start n) es → deposits w es ≡ total (is_done_by w) (replay (start n) es).slots
 deposits_done n w es h = let k = done_counted w (start n) es h (fresh_start n) in let z = total_start (is_done_by w) n refl in omega arith
@@ -98,24 +98,24 @@ leaves count slots i job x y e same =
       | inr q ↦ sym q.1
     ]
 
-counted_of : (w job : ℕ) (s : State) (es : List Event) → IsLegal s es → IsFresh s
-    → claims_of w job s es + at_most_one (is_own w) (slice_get s.slots job) ≡ at_most_one (is_own w) (slice_get (replay s es).slots job) + givings_back_of w job es
+counted_of : (w job : ℕ) (s : State) (es : List Event) → IsLegal s es → RestIsOpen s
+    → claims_of w job s es + at_most_one (is_own_slot w) (slice_get s.slots job) ≡ at_most_one (is_own_slot w) (slice_get (replay s es).slots job) + givings_back_of w job es
 counted_of w job s [] h f = omega arith
 counted_of w job s (Claim v ∷ es) h f =
     let k = counted_of w job (after s (Claim v)) es h.1 (fresh_after s (Claim v) h.0 f) in
-    let o = gains (is_own w) s.slots s.next job Open (InHand v) (v == w) (f s.next (omega arith) h.0) refl refl in
-    let a : at_most_one (is_own w) (slice_get (after s (Claim v)).slots job) ≡ at_most_one (is_own w) (slice_get (slice_set s.slots s.next (InHand v)) job) = ap (λ (z : State). at_most_one (is_own w) (slice_get z.slots job)) (claimed s v h.0) in
+    let o = gains (is_own_slot w) s.slots s.next job Open (InHand v) (v == w) (f s.next (omega arith) h.0) refl refl in
+    let a : at_most_one (is_own_slot w) (slice_get (after s (Claim v)).slots job) ≡ at_most_one (is_own_slot w) (slice_get (slice_set s.slots s.next (InHand v)) job) = ap (λ (z : State). at_most_one (is_own_slot w) (slice_get z.slots job)) (claimed s v h.0) in
     omega arith
 counted_of w job s (Deposit v i ∷ es) h f =
     let k = counted_of w job (after s (Deposit v i)) es h.1 (fresh_after s (Deposit v i) h.0 f) in
-    let o = leaves (is_own w) s.slots i job (InHand v) (Done v) h.0 refl in
+    let o = leaves (is_own_slot w) s.slots i job (InHand v) (Done v) h.0 refl in
     omega arith
 counted_of w job s (GiveBack v i ∷ es) h f =
     let k = counted_of w job (after s (GiveBack v i)) es h.1 (fresh_after s (GiveBack v i) h.0 f) in
-    let o = loses (is_own w) s.slots i job (InHand v) Open (v == w) h.0 refl refl in
+    let o = loses (is_own_slot w) s.slots i job (InHand v) Open (v == w) h.0 refl refl in
     omega arith
 
-done_counted_of : (w job : ℕ) (s : State) (es : List Event) → IsLegal s es → IsFresh s
+done_counted_of : (w job : ℕ) (s : State) (es : List Event) → IsLegal s es → RestIsOpen s
     → deposits_of w job es + at_most_one (is_done_by w) (slice_get s.slots job) ≡ at_most_one (is_done_by w) (slice_get (replay s es).slots job)
 done_counted_of w job s [] h f = omega arith
 done_counted_of w job s (Claim v ∷ es) h f =
@@ -137,8 +137,8 @@ none_at_start count zero job h = refl
 none_at_start count (suc n) zero h = h
 none_at_start count (suc n) (suc job) h = none_at_start count n job h
 
-pub each_claim_accounted : (n w job : ℕ) (es : List Event) → IsLegal (start n) es → claims_of w job (start n) es ≡ at_most_one (is_own w) (slice_get (replay (start n) es).slots job) + givings_back_of w job es
-each_claim_accounted n w job es h = let k = counted_of w job (start n) es h (fresh_start n) in let z = none_at_start (is_own w) n job refl in omega arith
+pub each_claim_accounted : (n w job : ℕ) (es : List Event) → IsLegal (start n) es → claims_of w job (start n) es ≡ at_most_one (is_own_slot w) (slice_get (replay (start n) es).slots job) + givings_back_of w job es
+each_claim_accounted n w job es h = let k = counted_of w job (start n) es h (fresh_start n) in let z = none_at_start (is_own_slot w) n job refl in omega arith
 
 pub each_deposit_done : (n w job : ℕ) (es : List Event) → IsLegal (start n) es → deposits_of w job es ≡ at_most_one (is_done_by w) (slice_get (replay (start n) es).slots job)
 each_deposit_done n w job es h = let k = done_counted_of w job (start n) es h (fresh_start n) in let z = none_at_start (is_done_by w) n job refl in omega arith
@@ -188,7 +188,7 @@ pub held_is_claimed : (n w job : ℕ) (es : List Event) → IsLegal (start n) es
 held_is_claimed n w job es h at =
     let a = each_claim_accounted n w job es h in
     let b = each_deposit_done n w job es h in
-    let own : at_most_one (is_own w) (slice_get (replay (start n) es).slots job) ≡ 1 = ap (at_most_one (is_own w)) at ∙ ap one_if (eq-eqb w w refl) in
+    let own : at_most_one (is_own_slot w) (slice_get (replay (start n) es).slots job) ≡ 1 = ap (at_most_one (is_own_slot w)) at ∙ ap one_if (eq-eqb w w refl) in
     let done : at_most_one (is_done_by w) (slice_get (replay (start n) es).slots job) ≡ 0 = ap (at_most_one (is_done_by w)) at in
     let c = claims_among w job (start n) es in
     let d = once_at_most job (start n) es h in
@@ -199,7 +199,7 @@ pub done_is_claimed : (n w job : ℕ) (es : List Event) → IsLegal (start n) es
 done_is_claimed n w job es h at =
     let a = each_claim_accounted n w job es h in
     let b = each_deposit_done n w job es h in
-    let own : at_most_one (is_own w) (slice_get (replay (start n) es).slots job) ≡ 1 = ap (at_most_one (is_own w)) at ∙ ap one_if (eq-eqb w w refl) in
+    let own : at_most_one (is_own_slot w) (slice_get (replay (start n) es).slots job) ≡ 1 = ap (at_most_one (is_own_slot w)) at ∙ ap one_if (eq-eqb w w refl) in
     let done : at_most_one (is_done_by w) (slice_get (replay (start n) es).slots job) ≡ 1 = ap (at_most_one (is_done_by w)) at ∙ ap one_if (eq-eqb w w refl) in
     let c = claims_among w job (start n) es in
     let d = once_at_most job (start n) es h in

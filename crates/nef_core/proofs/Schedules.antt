@@ -27,8 +27,8 @@ grows s [] h = omega arith
 grows s (e ∷ es) h = let a = next_grows s e h.0 in let b = grows (after s e) es h.1 in omega arith
 
 -- what was not handed out is open
-abbrev pub IsFresh : State → Type 0
-IsFresh s = (j : ℕ) → s.next ≤ j → j < length s.slots → slice_get s.slots j ≡ Some Open
+abbrev pub RestIsOpen : State → Type 0
+RestIsOpen s = (j : ℕ) → s.next ≤ j → j < length s.slots → slice_get s.slots j ≡ Some Open
 
 open_not_held : (w : ℕ) → Some Open ≡ Some (InHand w) → ⊥
 open_not_held w e = cc
@@ -40,7 +40,7 @@ open_not_done : (w : ℕ) → Some Open ≡ Some (Done w) → ⊥
 open_not_done w e = cc
 
 -- one place below `next` is set
-fresh_set : (s : State) (i w : ℕ) (x : Slot) → slice_get s.slots i ≡ Some (InHand w) → IsFresh s → IsFresh (record { next = s.next; slots = slice_set s.slots i x })
+fresh_set : (s : State) (i w : ℕ) (x : Slot) → slice_get s.slots i ≡ Some (InHand w) → RestIsOpen s → RestIsOpen (record { next = s.next; slots = slice_set s.slots i x })
 fresh_set s i w x held f j a b =
     let b' : j < length s.slots = omega (arith, length-set s.slots i x) in
     let here = f j a b' in
@@ -49,7 +49,7 @@ fresh_set s i w x held f j a b =
       | inr n ↦ get_set_other s.slots i j x n ∙ here
     ]
 
-pub fresh_after : (s : State) (e : Event) → IsLegalStep s e → IsFresh s → IsFresh (after s e)
+pub fresh_after : (s : State) (e : Event) → IsLegalStep s e → RestIsOpen s → RestIsOpen (after s e)
 fresh_after s (Claim w) h f =
     rw (claimed s w h) (λ j a b.
     get_set_other s.slots s.next j (InHand w) (λ e. omega arith)
@@ -57,11 +57,11 @@ fresh_after s (Claim w) h f =
 fresh_after s (Deposit w i) h f = fresh_set s i w (Done w) h f
 fresh_after s (GiveBack w i) h f = fresh_set s i w Open h f
 
-pub fresh : (s : State) (es : List Event) → IsLegal s es → IsFresh s → IsFresh (replay s es)
+pub fresh : (s : State) (es : List Event) → IsLegal s es → RestIsOpen s → RestIsOpen (replay s es)
 fresh s [] h f = f
 fresh s (e ∷ es) h f = fresh (after s e) es h.1 (fresh_after s e h.0 f)
 
-pub fresh_start : (n : ℕ) → IsFresh (start n)
+pub fresh_start : (n : ℕ) → RestIsOpen (start n)
 fresh_start n j a b = get_replicate n j Open (omega (arith, length-replicate {A = Slot}))
 
 -- a done slot stays
@@ -72,7 +72,7 @@ kept_set s i v job w x held d =
       | inr n ↦ get_set_other s.slots i job x n ∙ d
     ]
 
-done_after : (s : State) (e : Event) (job w : ℕ) → IsLegalStep s e → IsFresh s → slice_get s.slots job ≡ Some (Done w) → slice_get (after s e).slots job ≡ Some (Done w)
+done_after : (s : State) (e : Event) (job w : ℕ) → IsLegalStep s e → RestIsOpen s → slice_get s.slots job ≡ Some (Done w) → slice_get (after s e).slots job ≡ Some (Done w)
 done_after s (Claim v) job w h f d =
     rw (claimed s v h) (elim (same_or_not job s.next) [
       | inl e ↦ absurd (open_not_done w (sym (f s.next (omega arith) h) ∙ (ap (slice_get s.slots) (sym e) ∙ d)))
@@ -81,7 +81,7 @@ done_after s (Claim v) job w h f d =
 done_after s (Deposit v i) job w h f d = kept_set s i v job w (Done v) h d
 done_after s (GiveBack v i) job w h f d = kept_set s i v job w Open h d
 
-pub done_stays : (s : State) (es : List Event) (job w : ℕ) → IsLegal s es → IsFresh s → slice_get s.slots job ≡ Some (Done w) → slice_get (replay s es).slots job ≡ Some (Done w)
+pub done_stays : (s : State) (es : List Event) (job w : ℕ) → IsLegal s es → RestIsOpen s → slice_get s.slots job ≡ Some (Done w) → slice_get (replay s es).slots job ≡ Some (Done w)
 done_stays s [] job w h f d = d
 done_stays s (e ∷ es) job w h f d = done_stays (after s e) es job w h.1 (fresh_after s e h.0 f) (done_after s e job w h.0 f d)
 

@@ -10,10 +10,10 @@ abbrev pub one_if : Bool → ℕ
 one_if b = if b then 1 else 0
 
 -- 1 for a job in the hand of w or done by w
-abbrev pub is_own : ℕ → Slot → ℕ
-is_own w Open = 0
-is_own w (InHand v) = one_if (v == w)
-is_own w (Done v) = one_if (v == w)
+abbrev pub is_own_slot : ℕ → Slot → ℕ
+is_own_slot w Open = 0
+is_own_slot w (InHand v) = one_if (v == w)
+is_own_slot w (Done v) = one_if (v == w)
 
 -- 1 for a job done by w
 abbrev pub is_done_by : ℕ → Slot → ℕ

@@ -1,7 +1,7 @@
 -- The laws of the machine, over every legal list of events from the start.
 use Rattle.std.specs.Prelude.{◌≡◌, ℕ, ◌+◌, ◌<◌, ◌≤◌, List, ◌∷◌, ◌++◌, Some, slice_get, ◌⊎◌}
 use Rattle.nef_core.specs.Machine.{State, start, reply, replay, IsLegal}
-use Rattle.nef_core.specs.Counts.{is_own, is_done_by, total, at_most_one, claims, deposits, givings_back, claims_of, deposits_of, givings_back_of, handings_out}
+use Rattle.nef_core.specs.Counts.{is_own_slot, is_done_by, total, at_most_one, claims, deposits, givings_back, claims_of, deposits_of, givings_back_of, handings_out}
 use Rattle.nef_core.specs.declared.machine.Slot.TheVariants.{Open, InHand, Done}
 use Rattle.nef_core.specs.declared.machine.Event.{Event}
 use Rattle.nef_core.specs.declared.machine.Event.TheVariants.{Claim}
@@ -41,7 +41,7 @@ DoneStays = (jobs job w : ℕ) (before rest : List Event) → IsHistory jobs (be
 -- each claim of a pass is a job in its hand, a job that it deposited, or one that it gave back
 abbrev pub ClaimsAreAccounted : Type 0
 ClaimsAreAccounted = (jobs w : ℕ) (events : List Event) → IsHistory jobs events
-    → claims w events ≡ total (is_own w) (reached jobs events).slots + givings_back w events
+    → claims w events ≡ total (is_own_slot w) (reached jobs events).slots + givings_back w events
 
 -- each deposit of a pass is a job that is done by it
 abbrev pub DepositsAreDone : Type 0
@@ -51,7 +51,7 @@ DepositsAreDone = (jobs w : ℕ) (events : List Event) → IsHistory jobs events
 -- the same for each job by itself
 abbrev pub EachClaimIsAccounted : Type 0
 EachClaimIsAccounted = (jobs w job : ℕ) (events : List Event) → IsHistory jobs events
-    → claims_of w job (start jobs) events ≡ at_most_one (is_own w) (slice_get (reached jobs events).slots job) + givings_back_of w job events
+    → claims_of w job (start jobs) events ≡ at_most_one (is_own_slot w) (slice_get (reached jobs events).slots job) + givings_back_of w job events
 
 abbrev pub EachDepositIsDone : Type 0
 EachDepositIsDone = (jobs w job : ℕ) (events : List Event) → IsHistory jobs events

@@ -1,5 +1,5 @@
 -- The vertices of a set are joined: their svertices are ends of edges.
-use Rattle.nef_edges.proofs.Prelude.{◌≡◌, ℕ, ◌<◌, List, map, length, sym, subst, IsAt, IsPlaceBelow, Set, form_of, Plane, At, Shaped, InOrder, Complex as PlainComplex, Edges, Shows, Vertex, Edge, vertex_of, edge_of, AreVerticesOf, ShowsSet, AreFlagged, IsIndexed, AreHeld, AreInOrder, HaveEnds, AreJoined}
+use Rattle.nef_edges.proofs.Prelude.{◌≡◌, ℕ, ◌<◌, List, map, length, sym, subst, IsAt, IsPointBelow, Set, form_of, Plane, Shaped, InOrder, Complex as PlainComplex, Edges, Shows, Vertex, Edge, vertex_of, edge_of, AreVerticesOf, ShowsSet, AreFlagged, IsIndexed, ItemsAreHeld, AreInOrder, HaveEnds, AreJoined}
 use Rattle.law_complex.specs.Complexes.{Vertex as PlainVertex}
 use Rattle.nef_complex.specs.declared.complex.Complex.{Complex}
 use Rattle.nef_complex.proofs.Carried.{items-held}
@@ -8,13 +8,13 @@ use Rattle.nef_edges.proofs.Partners.{partner, partner-back}
 use Rattle.nef_edges.proofs.Places.{at-some, some-at, at-map, map-at, at-within}
 
 module _ (s : Set) (carriers : List Plane) (vertices : List Vertex) (V : AreVerticesOf s carriers vertices) where
-  ordered : InOrder (λ u v. IsPlaceBelow u.point v.point) (map vertex_of vertices)
+  ordered : InOrder (λ u v. IsPointBelow u.point v.point) (map vertex_of vertices)
   ordered i k x y l a b =
       let u = map-at vertex_of vertices i x a in let v = map-at vertex_of vertices k y b in
-      subst (λ (w : PlainVertex). IsPlaceBelow x.point w.point) v.2 (subst (λ (w : PlainVertex). IsPlaceBelow w.point (vertex_of v.0).point) u.2
+      subst (λ (w : PlainVertex). IsPointBelow x.point w.point) v.2 (subst (λ (w : PlainVertex). IsPointBelow w.point (vertex_of v.0).point) u.2
       (V.sorted i k u.0 v.0 l (at-some vertices i u.0 u.1) (at-some vertices k v.0 v.1)))
 
-  shaped : (k : ℕ) (v : PlainVertex) → At (map vertex_of vertices) k v → Shaped v.map
+  shaped : (k : ℕ) (v : PlainVertex) → IsAt (map vertex_of vertices) k v → Shaped v.map
   shaped k v a = let u = map-at vertex_of vertices k v a in subst (λ (w : PlainVertex). Shaped w.map) u.2 (V.maps k u.0 (at-some vertices k u.0 u.1)).sphere_map.valid.shaped
 
   pub are-joined : AreJoined (map vertex_of vertices)
@@ -34,7 +34,7 @@ module _ (s : Set) (carriers : List Plane) (vertices : List Vertex) (V : AreVert
     shown : Shows s (record { carriers = map form_of carriers; vertices = map vertex_of vertices; edges = map edge_of es })
     shown = V.shown (map edge_of es) E
 
-    pub all-held : AreHeld carriers vertices
+    pub all-held : ItemsAreHeld carriers vertices
     all-held = items-held s carriers vertices (map edge_of es) shown
 
     pub have-ends : HaveEnds vertices es
@@ -42,7 +42,7 @@ module _ (s : Set) (carriers : List Plane) (vertices : List Vertex) (V : AreVert
         let F = E.edges k (edge_of e) (at-map edge_of es k e (some-at es k e a)) in
         (vertex-within e.low F.low_vertex F.is_low, vertex-within e.high F.high_vertex F.is_high)
       where
-        vertex-within : (i : ℕ) (v : PlainVertex) → At (map vertex_of vertices) i v → i < length vertices
+        vertex-within : (i : ℕ) (v : PlainVertex) → IsAt (map vertex_of vertices) i v → i < length vertices
         vertex-within i v b = let u = map-at vertex_of vertices i v b in at-within vertices i u.0 u.1
 
     pub shows-set : (c : Complex) → c.carriers ≡ carriers → c.vertices ≡ vertices → c.edges ≡ es → AreFlagged c.carriers c.vertices c.has_item → IsIndexed c → ShowsSet s c

@@ -1,5 +1,5 @@
 -- The order of ends is total, and ends tie by their lines where they lie on one line.
-use Rattle.nef_edges.proofs.Prelude.{◌≡◌, ℕ, ◌<◌, ◌≤◌, ℤ, pos, ◌+ℤ◌, ◌-ℤ◌, ◌*ℤ◌, ◌<ℤ◌, nat_abs, [], ◌∷◌, false, Ordering, Less, Equal, Greater, arith, refl, ap, sym, subst, ◌∙◌, IsTotalOrder, int_ranks, MatchOrdering, int_cmp, nat_cmp, ordering_then, ordering_reverse, is_lt, false≢true, int_cmp_total, nat_cmp_total, on_total, then_total, ranked, tied_itself, ints, follows, given, none, by_order, sign-plus, sign-minus, plus-is, minus-is, nought-is, pos-abs, at, num, ◌⊕◌, ◌⊖◌, ◌⊗◌, sign, toward, Vector, cross, IsZero, triple_of, IsBelow, place_of, vector_of, Dir, Point, dir_total, dir-ordered, EdgeEnd, sum_of, clamped, moment_of, ratio_order, moment_order, dir_order, line_order, end_order}
+use Rattle.nef_edges.proofs.Prelude.{◌≡◌, ℕ, ◌<◌, ◌≤◌, ℤ, pos, ◌+ℤ◌, ◌-ℤ◌, ◌*ℤ◌, ◌<ℤ◌, nat_abs, [], ◌∷◌, false, Ordering, Less, Equal, Greater, arith, refl, ap, sym, subst, ◌∙◌, IsTotalOrder, int_ranks, MatchOrdering, int_cmp, nat_cmp, ordering_then, ordering_reverse, is_lt, false≢true, int_cmp_total, nat_cmp_total, on_total, then_total, ranked, tied_itself, ints, follows, given, none, by_order, sign-plus, sign-minus, plus-is, minus-is, nought-is, pos-abs, at, num, ◌⊕◌, ◌⊖◌, ◌⊗◌, sign, toward, Vector, cross, IsZero, direction_numbers, IsBelow, point_of, vector_of, Dir, Point, dir_total, dir-ordered, EdgeEnd, sum_of, clamped, moment_of, ratio_order, moment_order, dir_order, line_order, end_order}
 use Rattle.nef_space.proofs.Fractions.{fraction-trans, fraction-alike}
 use Rattle.nef_edges.proofs.Wholes.{wholes-alike}
 
@@ -61,7 +61,7 @@ then-equal Greater p e = let i : Greater ≡ Equal = e in absurd (cc)
 
 dir-tied : (d e : Dir) → dir_order d e ≡ Equal → d ≡ e
 dir-tied d e h =
-    subst (λ (o : Ordering). MatchOrdering o (IsBelow (triple_of (vector_of d)) (triple_of (vector_of e))) (d ≡ e) (IsBelow (triple_of (vector_of e)) (triple_of (vector_of d)))) h (dir-ordered d e (dir_order d e) refl)
+    subst (λ (o : Ordering). MatchOrdering o (IsBelow (direction_numbers (vector_of d)) (direction_numbers (vector_of e))) (d ≡ e) (IsBelow (direction_numbers (vector_of e)) (direction_numbers (vector_of d)))) h (dir-ordered d e (dir_order d e) refl)
 
 -- p x d / w = q x d / v says that q - p is parallel to d
 zero-from : (a b a' b' e f w v : ℤ) → (a *ℤ f -ℤ b *ℤ e) *ℤ v ≡ (a' *ℤ f -ℤ b' *ℤ e) *ℤ w → (a' *ℤ w -ℤ a *ℤ v) *ℤ f -ℤ (b' *ℤ w -ℤ b *ℤ v) *ℤ e ≡ pos 0
@@ -77,16 +77,16 @@ module _ (p q : Point) (d : Vector) where
   Level w v = ((q.y *ℤ w -ℤ p.y *ℤ v) *ℤ d.z -ℤ (q.z *ℤ w -ℤ p.z *ℤ v) *ℤ d.y ≡ pos 0) × ((q.z *ℤ w -ℤ p.z *ℤ v) *ℤ d.x -ℤ (q.x *ℤ w -ℤ p.x *ℤ v) *ℤ d.z ≡ pos 0)
       × ((q.x *ℤ w -ℤ p.x *ℤ v) *ℤ d.y -ℤ (q.y *ℤ w -ℤ p.y *ℤ v) *ℤ d.x ≡ pos 0)
 
-  pub to-level : Level p.w q.w → IsZero (cross (toward (place_of p) (place_of q)) d)
+  pub to-level : Level p.w q.w → IsZero (cross (toward (point_of p) (point_of q)) d)
   to-level z = subst (λ w. Level w (pos (nat_abs q.w))) (sym (pos-abs p.w p.proper)) (subst (λ v. Level p.w v) (sym (pos-abs q.w q.proper)) z)
 
-  from-level : IsZero (cross (toward (place_of p) (place_of q)) d) → Level p.w q.w
+  from-level : IsZero (cross (toward (point_of p) (point_of q)) d) → Level p.w q.w
   from-level z = subst (λ v. Level p.w v) (pos-abs q.w q.proper) (subst (λ w. Level w (pos (nat_abs q.w))) (pos-abs p.w p.proper) z)
 
 -- two ends on one line
 pub record OnOneLine (a b : EdgeEnd) : Type 0 where
   pub same_dir : a.dir ≡ b.dir
-  pub level : IsZero (cross (toward (place_of a.point) (place_of b.point)) (vector_of a.dir))
+  pub level : IsZero (cross (toward (point_of a.point) (point_of b.point)) (vector_of a.dir))
 
 pub tied-line : (a b : EdgeEnd) → line_order a b ≡ Equal → OnOneLine a b
 tied-line a b h =

@@ -1,12 +1,12 @@
 -- The place where the sorted ends of edges pass one.
-use Rattle.nef_edges.proofs.Prelude.{◌≡◌, ℕ, ◌+◌, ◌<◌, ◌≤◌, List, length, get_or, true, false, Ordering, Less, Equal, Greater, arith, refl, sym, ap, ◌∙◌, ⊎_elim, IsStrictWeakOrder, upto, IsPermutation, IsPartitionPoint, ordering_reverse, is_lt, is_le, is_gt, false≢true, cases_lt, ranks_by, sorted_far, Contains-permutation, IsPermutation-sym, At, Vertex, EdgeEnd, end_order, end_lt, AreArriving, IsAfter, NoneAfter, IsNext}
+use Rattle.nef_edges.proofs.Prelude.{◌≡◌, ℕ, ◌+◌, ◌<◌, ◌≤◌, List, length, get_or, true, false, Ordering, Less, Equal, Greater, arith, refl, sym, ap, ◌∙◌, ⊎_elim, IsStrictWeakOrder, upto, IsPermutation, IsPartitionPoint, ordering_reverse, is_lt, is_le, is_gt, false≢true, cases_lt, ranks_by, sorted_far, Contains-permutation, IsPermutation-sym, IsAt, Vertex, EdgeEnd, end_order, end_lt, AreArriving, IsAfter, NoneAfter, IsNextEnd}
 use Rattle.std.specs.List.Sorted.{IsSortedBy, IsPartitionedBy}
 use Rattle.nef_edges.proofs.Lines.{end_total}
 use Rattle.nef_edges.proofs.Places.{at-within, at-read, read-at}
 
 -- all ends from number p on stand after f
 abbrev pub AllAfter : List EdgeEnd → EdgeEnd → ℕ → Type 0
-AllAfter hs f p = (k : ℕ) (h : EdgeEnd) → At hs k h → p ≤ k → IsAfter f h
+AllAfter hs f p = (k : ℕ) (h : EdgeEnd) → IsAt hs k h → p ≤ k → IsAfter f h
 
 pub weak : IsStrictWeakOrder end_lt
 weak = ranks_by end_total (λ (h : EdgeEnd). h)
@@ -38,14 +38,14 @@ gt-greater Greater e = refl
 
 module _ (hs : List EdgeEnd) (sorted : IsSortedBy end_lt hs) where
   -- of two sorted ends the later isn't less
-  pub not-less : (i k : ℕ) (g h : EdgeEnd) → At hs i g → At hs k h → i ≤ k → end_lt h g ≡ false
+  pub not-less : (i k : ℕ) (g h : EdgeEnd) → IsAt hs i g → IsAt hs k h → i ≤ k → end_lt h g ≡ false
   not-less i k g h a b l =
       let far = sorted_far end_lt weak hs sorted i k g l (at-within hs k h b) in
       ap (λ r. end_lt r g) (sym (at-read hs k g h b)) ∙ ap (end_lt (get_or hs k g)) (sym (at-read hs i g g a)) ∙ far
 
   module _ (f : EdgeEnd) where
     -- all from one on that stands after f do
-    pub all-after : (p : ℕ) (h : EdgeEnd) → At hs p h → IsAfter f h → AllAfter hs f p
+    pub all-after : (p : ℕ) (h : EdgeEnd) → IsAt hs p h → IsAfter f h → AllAfter hs f p
     all-after p h a t k g b l = by (end_order g h) refl
       where
         by : (o : Ordering) → end_order g h ≡ o → end_order g f ≡ Greater
@@ -54,7 +54,7 @@ module _ (hs : List EdgeEnd) (sorted : IsSortedBy end_lt hs) where
         by Greater e = end_total.antisymm g f ∙ ap ordering_reverse (end_total.trans f h g (end_total.antisymm f h ∙ ap ordering_reverse t) (end_total.antisymm h g ∙ ap ordering_reverse e))
 
     -- where one doesn't, none before it does
-    pub none-up_to : (n : ℕ) (h : EdgeEnd) → At hs n h → is_le (end_order h f) ≡ true → NoneAfter hs f (n + 1)
+    pub none-up_to : (n : ℕ) (h : EdgeEnd) → IsAt hs n h → is_le (end_order h f) ≡ true → NoneAfter hs f (n + 1)
     none-up_to n h a e k g b l t = false≢true (sym (ap is_le (all-after k g b t n h a (omega arith))) ∙ e)
 
     -- those that don't stand after f come first
@@ -72,10 +72,10 @@ module _ (hs : List EdgeEnd) (sorted : IsSortedBy end_lt hs) where
       all-from k h a l = no-le-greater (end_order h f) (sym (ap (λ (g : EdgeEnd). is_le (end_order g f)) (at-read hs k h h a)) ∙ point.1 k h l (at-within hs k h a))
 
     module _ (p : ℕ) (none : NoneAfter hs f p) (all : AllAfter hs f p) where
-      pub next-within : (k : ℕ) (g : EdgeEnd) → At hs k g → IsAfter f g → p < length hs
+      pub next-within : (k : ℕ) (g : EdgeEnd) → IsAt hs k g → IsAfter f g → p < length hs
       next-within k g a t = ⊎_elim (λ l. absurd (none k g a l t)) (λ l. let m = at-within hs k g a in omega arith) (cases_lt k p)
 
-      pub next-is : (h : EdgeEnd) → At hs p h → IsNext hs f h
+      pub next-is : (h : EdgeEnd) → IsAt hs p h → IsNextEnd hs f h
       next-is h a = record {
         listed = (p, a);
         after = all p h a (omega arith);

@@ -1,12 +1,12 @@
 -- Points on one line: those that come later in the order of points lie ahead.
-use Rattle.nef_edges.proofs.Prelude.{◌≡◌, ℕ, ◌<◌, ℤ, pos, ◌-ℤ◌, ◌*ℤ◌, neg_ℤ, ◌≤ℤ◌, ◌<ℤ◌, arith, ap, ◌∙◌, inl, inr, [], ◌∷◌, ints, ring, at, num, neg, ◌⊕◌, ◌⊖◌, ◌⊗◌, by_order, mul_pos, mul_neg, mul_nonneg, cancel_eq, Place, toward, IsAhead, IsBetween, IsPlaceBelow, Vector, dot, cross, opposite, IsZero, IsNormal, SameDirection, IsOpposite, on_line, SameDirection-turned, SameDirection-trans}
+use Rattle.nef_edges.proofs.Prelude.{◌≡◌, ℕ, ◌<◌, ℤ, pos, ◌-ℤ◌, ◌*ℤ◌, neg_ℤ, ◌≤ℤ◌, ◌<ℤ◌, arith, ap, ◌∙◌, inl, inr, [], ◌∷◌, ints, ring, at, num, neg, ◌⊕◌, ◌⊖◌, ◌⊗◌, by_order, mul_pos, mul_neg, mul_nonneg, cancel_eq, SpacePoint, toward, IsAhead, IsBetween, IsPointBelow, Vector, dot, cross, opposite, IsZero, IsNormal, SameDirection, IsOpposite, on_line, SameDirection-turned, SameDirection-trans}
 use Rattle.nef_space.proofs.Vectors.{dot-opposite}
 use Rattle.law_near.proofs.Directions.{same-factor}
 use Rattle.law_near.proofs.Sums.{some-pos}
 use Rattle.law_sphere.proofs.Compare.{normals-same}
 
 -- q - p for a later point q begins with a positive number
-pub toward-normal : (p q : Place) → IsPlaceBelow p q → IsNormal (toward p q)
+pub toward-normal : (p q : SpacePoint) → IsPointBelow p q → IsNormal (toward p q)
 toward-normal p q (inl h) = record { first = omega (arith, ints); second = λ e. absurd (omega (arith, ints)); third = λ e f. absurd (omega (arith, ints)) }
 toward-normal p q (inr (e, inl h)) = record { first = omega (arith, ints); second = λ z. omega (arith, ints); third = λ z w. absurd (omega (arith, ints)) }
 toward-normal p q (inr (e, inr (f, inl h))) = record { first = omega (arith, ints); second = λ z. omega (arith, ints); third = λ z w. omega (arith, ints) }
@@ -73,14 +73,14 @@ opposites-same d a b g h = turned (SameDirection-trans (opposite a) d (opposite 
 
 -- ---- points on one line, in order
 -- a later point on the line through p along a normal d lies ahead
-pub later-ahead : (p q : Place) (d : Vector) → IsNormal d → IsPlaceBelow p q → IsZero (cross (toward p q) d) → IsAhead p d q
+pub later-ahead : (p q : SpacePoint) (d : Vector) → IsNormal d → IsPointBelow p q → IsZero (cross (toward p q) d) → IsAhead p d q
 later-ahead p q d n h z = normals-same (toward p q) d (toward-normal p q h) n z
 
 -- and what lies ahead of p, later, lies along a normal
-pub ahead-normal : (p q : Place) (d : Vector) → IsPlaceBelow p q → IsAhead p d q → IsNormal d
+pub ahead-normal : (p q : SpacePoint) (d : Vector) → IsPointBelow p q → IsAhead p d q → IsNormal d
 ahead-normal p q d h a = normal-kept (toward p q) d a (toward-normal p q h)
 
 -- of three points in order on one line the second lies between the others
-pub middle-between : (p u v : Place) (d : Vector) → IsNormal d → IsPlaceBelow p u → IsPlaceBelow u v → IsZero (cross (toward p u) d) → IsZero (cross (toward p v) d) → IsBetween p u v
+pub middle-between : (p u v : SpacePoint) (d : Vector) → IsNormal d → IsPointBelow p u → IsPointBelow u v → IsZero (cross (toward p u) d) → IsZero (cross (toward p v) d) → IsBetween p u v
 middle-between p u v d n h k y z =
     SameDirection-trans (toward p u) d (toward u v) (later-ahead p u d n h y) (SameDirection-turned (toward u v) d (later-ahead u v d n k (on_line p u v d y z)))

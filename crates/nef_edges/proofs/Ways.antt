@@ -1,5 +1,5 @@
 -- The way from one point to another, times both denominators, as the machine works it; and whether it goes along a direction.
-use Rattle.nef_edges.proofs.Prelude.{◌≡◌, ℕ, ◌≤◌, ℤ, pos, ◌-ℤ◌, ◌*ℤ◌, nat_abs, [], ◌∷◌, w64, to_z, of_z, FitsSigned, arith, sym, ap, subst, ◌∙◌, ints, direction_limit, point_limit, toward, cross, IsZero, follows, ring, given, none, Code, load, wrap, run, ◌⊟◌, fits_of, exact_of, size_of, at, num, ◌⊖◌, ◌⊗◌, place_of, vector_of, Dir, Point, moment_limit}
+use Rattle.nef_edges.proofs.Prelude.{◌≡◌, ℕ, ◌≤◌, ℤ, pos, ◌-ℤ◌, ◌*ℤ◌, nat_abs, [], ◌∷◌, w64, to_z, of_z, FitsSigned, arith, sym, ap, subst, ◌∙◌, ints, direction_limit, point_limit, toward, cross, IsZero, follows, ring, given, none, Code, load, wrap, run, ◌⊟◌, fits_of, exact_of, size_of, at, num, ◌⊖◌, ◌⊗◌, point_of, vector_of, Dir, Point, moment_limit}
 use mir.Syntax.{Width, w128}
 use Rattle.nef_complex.proofs.Prelude.{to_z-of_z}
 use Rattle.nef_space.specs.Vectors.{vector}
@@ -44,7 +44,7 @@ multiple-read d x y z dx dy dy' dz dz' dx' hx hy hz ex ey ey' ez ez' ex' a b c =
 
 -- the way is a multiple of x, y and z, which are as the direction's numbers
 along-multiple : (p q : Point) (d : Dir) (x y z k : ℤ) → q.x *ℤ p.w -ℤ p.x *ℤ q.w ≡ k *ℤ x → q.y *ℤ p.w -ℤ p.y *ℤ q.w ≡ k *ℤ y → q.z *ℤ p.w -ℤ p.z *ℤ q.w ≡ k *ℤ z
-    → IsZero (cross (vector x y z) (vector_of d)) → IsZero (cross (toward (place_of p) (place_of q)) (vector_of d))
+    → IsZero (cross (vector x y z) (vector_of d)) → IsZero (cross (toward (point_of p) (point_of q)) (vector_of d))
 along-multiple p q d x y z k ex ey ez (a, b, c) = to-level p q (vector_of d) (times y z d.y d.z _ _ ey ez a, times z x d.z d.x _ _ ez ex b, times x y d.x d.y _ _ ex ey c)
   where
     times : (m n e f m' n' : ℤ) → m' ≡ k *ℤ m → n' ≡ k *ℤ n → m *ℤ f -ℤ n *ℤ e ≡ pos 0 → m' *ℤ f -ℤ n' *ℤ e ≡ pos 0
@@ -52,14 +52,14 @@ along-multiple p q d x y z k ex ey ez (a, b, c) = to-level p q (vector_of d) (ti
 
 -- so is the way that minor gives, and where both points have one weight the one that step gives
 pub along-way : (p q : Point) (d : Dir) (x y z : ℤ) → x ≡ q.x *ℤ p.w -ℤ p.x *ℤ q.w → y ≡ q.y *ℤ p.w -ℤ p.y *ℤ q.w → z ≡ q.z *ℤ p.w -ℤ p.z *ℤ q.w → nat_abs x ≤ moment_limit → nat_abs y ≤ moment_limit → nat_abs z ≤ moment_limit
-    → IsZero (cross (vector (to_z w128 (of_z w128 x)) (to_z w128 (of_z w128 y)) (to_z w128 (of_z w128 z))) (vector_of d)) → IsZero (cross (toward (place_of p) (place_of q)) (vector_of d))
+    → IsZero (cross (vector (to_z w128 (of_z w128 x)) (to_z w128 (of_z w128 y)) (to_z w128 (of_z w128 z))) (vector_of d)) → IsZero (cross (toward (point_of p) (point_of q)) (vector_of d))
 along-way p q d x y z ex ey ez hx hy hz = along-multiple p q d _ _ _ (pos 1) (once x _ ex hx) (once y _ ey hy) (once z _ ez hz)
   where
     once : (n m : ℤ) → n ≡ m → nat_abs n ≤ moment_limit → m ≡ pos 1 *ℤ to_z w128 (of_z w128 n)
     once n m e h = let k = kept n h in omega (arith, ints, e, k)
 
 pub along-step : (p q : Point) (d : Dir) (x y z : ℤ) → p.w ≡ q.w → x ≡ q.x -ℤ p.x → y ≡ q.y -ℤ p.y → z ≡ q.z -ℤ p.z → nat_abs x ≤ moment_limit → nat_abs y ≤ moment_limit → nat_abs z ≤ moment_limit
-    → IsZero (cross (vector (to_z w128 (of_z w128 x)) (to_z w128 (of_z w128 y)) (to_z w128 (of_z w128 z))) (vector_of d)) → IsZero (cross (toward (place_of p) (place_of q)) (vector_of d))
+    → IsZero (cross (vector (to_z w128 (of_z w128 x)) (to_z w128 (of_z w128 y)) (to_z w128 (of_z w128 z))) (vector_of d)) → IsZero (cross (toward (point_of p) (point_of q)) (vector_of d))
 along-step p q d x y z same ex ey ez hx hy hz = along-multiple p q d _ _ _ p.w (times x p.x q.x ex hx) (times y p.y q.y ey hy) (times z p.z q.z ez hz)
   where
     times : (n a b : ℤ) → n ≡ b -ℤ a → nat_abs n ≤ moment_limit → b *ℤ p.w -ℤ a *ℤ q.w ≡ p.w *ℤ to_z w128 (of_z w128 n)

@@ -22,5 +22,5 @@ abbrev pub sum_of : Point → Dir → ℤ
 sum_of p d = (product_of p d).x +ℤ pos 61 *ℤ (product_of p d).y +ℤ pos 3721 *ℤ (product_of p d).z
 
 -- the key of the line through the point along the direction: the same sum for the line's moment, rounded down
-abbrev pub key_of : Point → Dir → ℤ
-key_of p d = whole_of (sum_of p d) p.w
+abbrev pub line_key_of : Point → Dir → ℤ
+line_key_of p d = whole_of (sum_of p d) p.w

@@ -1,7 +1,7 @@
 //! Whether one point lies along a direction from another.
 
 ghost use Rattle.std.specs.Prelude.{◌≡◌, ◌≤◌, ◌-ℤ◌, ◌*ℤ◌};
-ghost use Rattle.nef_edges.specs.Prelude.{nat_abs, direction_limit, point_limit, IsTrue, place_of, toward, cross, IsZero, vector_of, moment_limit};
+ghost use Rattle.nef_edges.specs.Prelude.{nat_abs, direction_limit, point_limit, IsTrue, point_of, toward, cross, IsZero, vector_of, moment_limit};
 ghost use Rattle.nef_space.specs.Prelude.{vector};
 
 use crate::edge_end::minor;
@@ -59,7 +59,7 @@ fn is_multiple(x: i128, y: i128, z: i128, dir: &Dir) -> bool
 // As `is_along`, for any two points, whose differences may have more than 64 bits.
 #[inline(never)]
 fn is_along_way(p: &Point, dir: &Dir, q: &Point) -> bool
-    ensures along { IsTrue result → IsZero (cross (toward (place_of p.now) (place_of q.now)) (vector_of dir.now)) }
+    ensures along { IsTrue result → IsZero (cross (toward (point_of p.now) (point_of q.now)) (vector_of dir.now)) }
 {
     let x = minor(q.x(), p.x(), q.w(), p.w());
     let y = minor(q.y(), p.y(), q.w(), p.w());
@@ -69,7 +69,7 @@ fn is_along_way(p: &Point, dir: &Dir, q: &Point) -> bool
 
 /// Whether q lies on the line through p along the direction: the cross product of q - p and the direction is zero.
 pub(crate) fn is_along(p: &Point, dir: &Dir, q: &Point) -> bool
-    ensures along { IsTrue result → IsZero (cross (toward (place_of p.now) (place_of q.now)) (vector_of dir.now)) }
+    ensures along { IsTrue result → IsZero (cross (toward (point_of p.now) (point_of q.now)) (vector_of dir.now)) }
 {
     if p.w() != q.w() {
         return is_along_way(p, dir, q);

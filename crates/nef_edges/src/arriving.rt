@@ -1,7 +1,7 @@
 //! The ends at which edges arrive, sorted by their lines, and on one line by their vertices.
 
 ghost use Rattle.std.specs.Prelude.{◌<◌, ◌≤◌, ◌+◌, ◌≡◌, ◌*ℤ◌};
-ghost use Rattle.nef_edges.specs.Prelude.{ℕ, length, IsTrue, IfOk, OnOk, nat_abs, IsSortedBy, At, int_cmp, nat_cmp, ordering_then, Equal, EdgeEnd, end_lt, moment_order, dir_order, line_order, end_order, IsBefore, AreArriving, IsAfter, NoneAfter, IsNext, moment_limit};
+ghost use Rattle.nef_edges.specs.Prelude.{ℕ, length, IsTrue, IfOk, OnOk, nat_abs, IsSortedBy, IsAt, int_cmp, nat_cmp, ordering_then, Equal, EdgeEnd, end_lt, moment_order, dir_order, line_order, end_order, IsEarlierSvertex, AreArriving, IsAfter, NoneAfter, IsNextEnd, moment_limit};
 
 use crate::OutOfMemory;
 use crate::along::is_along;
@@ -13,8 +13,8 @@ use std::cmp::Ordering;
 // Adds the ends at which edges arrive at vertex number i.
 fn add_arriving(ends: &mut Vec<EdgeEnd>, vertices: &[Vertex], i: usize) -> Result<(), OutOfMemory>
     requires within { i < length vertices.now }
-    requires before { AreArriving vertices.now (IsBefore i 0) ends.old.items }
-    ensures added { OnOk result (AreArriving vertices.now (IsBefore (i + 1) 0) ends.new.items) }
+    requires before { AreArriving vertices.now (IsEarlierSvertex i 0) ends.old.items }
+    ensures added { OnOk result (AreArriving vertices.now (IsEarlierSvertex (i + 1) 0) ends.new.items) }
 {
     let vertex = &vertices[i];
     for (k, svertex) in vertex.map.svertices.as_slice().iter().enumerate() {
@@ -34,7 +34,7 @@ pub(crate) fn sorted_arriving(
     alloc: Global,
     vertices: &[Vertex],
 ) -> Result<Vec<EdgeEnd>, OutOfMemory>
-    ensures all { IfOk result (λ v. AreArriving vertices.now (IsBefore (length vertices.now) 0) v.items) }
+    ensures all { IfOk result (λ v. AreArriving vertices.now (IsEarlierSvertex (length vertices.now) 0) v.items) }
     ensures sorted { IfOk result (λ v. IsSortedBy end_lt v.items) }
 {
     let mut ends = Vec::with_capacity(alloc, vertices.len().saturating_mul(ENDS_AT_VERTEX))?;
@@ -47,7 +47,7 @@ pub(crate) fn sorted_arriving(
 
 // Whether the end with this number stands after `from` in the order of ends.
 fn is_after(ends: &[EdgeEnd], number: usize, from: &EdgeEnd) -> bool
-    ensures after { IsTrue result → (h : EdgeEnd) × At ends.now number h × IsAfter from.now h }
+    ensures after { IsTrue result → (h : EdgeEnd) × IsAt ends.now number h × IsAfter from.now h }
 {
     match ends.get(number) {
         Some(end) => end_cmp(end, from).is_gt(),
@@ -78,8 +78,8 @@ fn is_up_to(ends: &[EdgeEnd], number: usize, from: &EdgeEnd) -> bool
 /// takes one comparison of lines for each step among the ends with one key.
 pub(crate) fn next_after(ends: &[EdgeEnd], from: &EdgeEnd) -> EdgeEnd
     requires sorted { IsSortedBy end_lt ends.now }
-    requires some { (k : ℕ) × (h : EdgeEnd) × At ends.now k h × IsAfter from.now h }
-    ensures next { IsNext ends.now from.now result }
+    requires some { (k : ℕ) × (h : EdgeEnd) × IsAt ends.now k h × IsAfter from.now h }
+    ensures next { IsNextEnd ends.now from.now result }
 {
     let guess = guess_up_to(ends, from);
     if is_after(ends, guess, from) && is_up_to(ends, guess, from) {

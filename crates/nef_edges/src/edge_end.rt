@@ -3,7 +3,7 @@
 
 ghost use Rattle.std.specs.Prelude.{◌≡◌, ◌≤◌, ◌-ℤ◌, ◌*ℤ◌, ◌<ℤ◌};
 ghost use Rattle.nef_complex.specs.Prelude.{pos, nat_abs, direction_limit, point_limit};
-ghost use Rattle.nef_edges.specs.Moments.{key_of, product_of, sum_of, whole_of};
+ghost use Rattle.nef_edges.specs.Moments.{line_key_of, product_of, sum_of, whole_of};
 ghost use Rattle.nef_edges.specs.Widths.{moment_limit};
 
 use nef_geo::{Dir, Point};
@@ -18,7 +18,7 @@ pub(crate) struct EdgeEnd {
     pub(crate) key: i64,
     pub(crate) vertex: usize,
     pub(crate) svertex: usize,
-    pub(crate) ghost is_key: { key ≡ key_of point dir },
+    pub(crate) ghost is_key: { key ≡ line_key_of point dir },
 }
 
 impl EdgeEnd {
@@ -91,7 +91,7 @@ fn product_sum(point: &Point, dir: &Dir) -> i128
 /// The key of the line through the point along the direction: a sum of multiples of the moment's numbers, rounded down.
 /// All points of a line give one key, and few lines share it.
 pub(crate) fn line_key(point: &Point, dir: &Dir) -> i64
-    ensures key { result ≡ key_of point.now dir.now }
+    ensures key { result ≡ line_key_of point.now dir.now }
 {
     whole(product_sum(point, dir), point.w())
 }

@@ -1,6 +1,6 @@
 //! Edges by guesses, each of which is checked alone: edges of the operands, and edges between the ends that are left.
 
-ghost use Rattle.nef_edges.specs.Prelude.{[], set, true, ℕ, length, map, IsTrue, IfSome, IfOk, At, vertex_of, edge_of, Edges, Edge as EdgeValue, IsMatched, AreApart, slot_of, AreLaid, IsJoinedAt, IsBefore, AreJoined};
+ghost use Rattle.nef_edges.specs.Prelude.{[], set, true, ℕ, length, map, IsTrue, IfSome, IfOk, IsAt, vertex_of, edge_of, Edges, Edge as EdgeValue, IsMatched, ArriveApart, slot_of, AreLaid, IsJoinedAt, IsEarlierSvertex, AreJoined};
 ghost use Rattle.std.specs.Prelude.{◌≡◌};
 
 use crate::OutOfMemory;
@@ -8,16 +8,16 @@ use crate::arriving::end_cmp;
 use crate::edge_end::EdgeEnd;
 use crate::ends::{are_matched, end_at};
 use crate::guesses::{Sources, lay_edges};
-use crate::kept::Source;
+use crate::kept::KeptEdges;
 use crate::loose::{Loose, part_edges};
 use nef_complex::{Complex, Edge, Vertex};
 use std::alloc::Global;
 
 /// Sets the mark with this number, and says whether there is such a mark that wasn't set before.
 pub(crate) fn take(marks: &mut Vec<bool>, slot: usize) -> bool
-    ensures free { IsTrue result → At marks.old.items slot true → ⊥ }
-    ensures taken { IsTrue result → At marks.new.items slot true }
-    ensures kept { (k : ℕ) → At marks.old.items k true → At marks.new.items k true }
+    ensures free { IsTrue result → IsAt marks.old.items slot true → ⊥ }
+    ensures taken { IsTrue result → IsAt marks.new.items slot true }
+    ensures kept { (k : ℕ) → IsAt marks.old.items k true → IsAt marks.new.items k true }
 {
     if slot < marks.len() && !marks[slot] {
         marks[slot] = true;
@@ -51,7 +51,7 @@ fn starts_of(alloc: Global, vertices: &[Vertex]) -> Result<(Vec<usize>, usize), 
 // The edge with this number, led to `end` instead, where its lower end matches `end`.
 fn joined_edge(edges: &[Edge], vertices: &[Vertex], number: usize, end: &EdgeEnd) -> Option<Edge>
     ensures matched { IfSome result (λ f. IsMatched (map vertex_of vertices.now) (edge_of f)) }
-    ensures old { IfSome result (λ f. (e : EdgeValue) × At edges.now number e × (f.low ≡ e.low) × (f.low_svertex ≡ e.low_svertex)) }
+    ensures old { IfSome result (λ f. (e : EdgeValue) × IsAt edges.now number e × (f.low ≡ e.low) × (f.low_svertex ≡ e.low_svertex)) }
 {
     let edge = edges.get(number)?;
     let low = end_at(vertices, edge.low, edge.low_svertex)?;
@@ -105,8 +105,8 @@ fn join_loose(
     leading: &[EdgeEnd],
     arriving: &[EdgeEnd],
 ) -> bool
-    requires laid { AreLaid vertices.now (IsBefore (length vertices.now) 0) edges.old.items numbers.now 0 }
-    ensures joined { IsTrue result → AreLaid vertices.now (IsBefore (length vertices.now) 0) edges.new.items [] 0 }
+    requires laid { AreLaid vertices.now (IsEarlierSvertex (length vertices.now) 0) edges.old.items numbers.now 0 }
+    ensures joined { IsTrue result → AreLaid vertices.now (IsEarlierSvertex (length vertices.now) 0) edges.new.items [] 0 }
 {
     for j in 0..numbers.len() {
         let number = numbers[j];
@@ -122,7 +122,7 @@ fn join_loose(
 
 // Whether no two of the edges arrive at one svertex.
 fn are_apart(marks: &mut Vec<bool>, starts: &[usize], edges: &[Edge]) -> bool
-    ensures apart { IsTrue result → AreApart edges.now (length edges.now) }
+    ensures apart { IsTrue result → ArriveApart edges.now (length edges.now) }
 {
     for k in 0..edges.len() {
         let edge = &edges[k];
@@ -145,8 +145,8 @@ pub(crate) fn edges_guessed(
     ensures edges { IfOk result (λ o. IfSome o (λ v. Edges (map vertex_of vertices.now) (map edge_of v.items))) }
 {
     let mut sources = Sources {
-        first: Source::of(alloc, first, vertices)?,
-        second: Source::of(alloc, second, vertices)?,
+        first: KeptEdges::of(alloc, first, vertices)?,
+        second: KeptEdges::of(alloc, second, vertices)?,
     };
     let (starts, count) = starts_of(alloc, vertices)?;
     let starts = starts.as_slice();

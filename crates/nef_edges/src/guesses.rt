@@ -1,13 +1,13 @@
 //! Guesses of the edges from all svertices that lead on, by the edges of the operands. Ends without a guess are loose.
 
-ghost use Rattle.nef_edges.specs.Prelude.{List, Some, length, IfSome, IfOk, OnOk, Vertex as VertexValue, IsBefore, AreLaid, IsEnd, LeadsTo};
+ghost use Rattle.nef_edges.specs.Prelude.{List, Some, length, IfSome, IfOk, OnOk, Vertex as VertexValue, IsEarlierSvertex, AreLaid, IsEnd, LeadsTo};
 ghost use Rattle.std.specs.Prelude.{◌≡◌, ◌<◌, ◌+◌};
 
 use crate::OutOfMemory;
 use crate::edge_end::EdgeEnd;
 use crate::ends::End;
 use crate::guessed::{slot, take};
-use crate::kept::{Source, kept_end};
+use crate::kept::{KeptEdges, kept_end};
 use crate::loose::Loose;
 use nef_complex::{Edge, Vertex};
 use std::alloc::Global;
@@ -15,8 +15,8 @@ use std::alloc::Global;
 /// The edges of the two operands.
 #[derive(Drop)]
 pub(crate) struct Sources<'a> {
-    pub(crate) first: Source<'a>,
-    pub(crate) second: Source<'a>,
+    pub(crate) first: KeptEdges<'a>,
+    pub(crate) second: KeptEdges<'a>,
 }
 
 // For each svertex a mark: whether an edge arrives there. `starts` has the number of each vertex's first svertex.
@@ -57,7 +57,7 @@ fn end_from(
 
 // Adds the edge from `low` without a guess, and notes the end as loose.
 fn lay_loose(edges: &mut Vec<Edge>, loose: &mut Loose, low: &End) -> Result<(), OutOfMemory>
-    ensures added { OnOk result ((vs : List VertexValue) → AreLaid vs (IsBefore low.now.vertex_number low.now.svertex_number) edges.old.items loose.old.numbers.items 0 → AreLaid vs (IsBefore low.now.vertex_number (low.now.svertex_number + 1)) edges.new.items loose.new.numbers.items 0) }
+    ensures added { OnOk result ((vs : List VertexValue) → AreLaid vs (IsEarlierSvertex low.now.vertex_number low.now.svertex_number) edges.old.items loose.old.numbers.items 0 → AreLaid vs (IsEarlierSvertex low.now.vertex_number (low.now.svertex_number + 1)) edges.new.items loose.new.numbers.items 0) }
 {
     loose.numbers.push(edges.len())?;
     loose.leading.push(EdgeEnd::of(
@@ -86,8 +86,8 @@ fn lay_edge(
     low: &End,
 ) -> Result<(), OutOfMemory>
     requires end { IsEnd vertices.now low.now }
-    requires before { AreLaid vertices.now (IsBefore low.now.vertex_number low.now.svertex_number) edges.old.items loose.old.numbers.items 0 }
-    ensures added { OnOk result (AreLaid vertices.now (IsBefore low.now.vertex_number (low.now.svertex_number + 1)) edges.new.items loose.new.numbers.items 0) }
+    requires before { AreLaid vertices.now (IsEarlierSvertex low.now.vertex_number low.now.svertex_number) edges.old.items loose.old.numbers.items 0 }
+    ensures added { OnOk result (AreLaid vertices.now (IsEarlierSvertex low.now.vertex_number (low.now.svertex_number + 1)) edges.new.items loose.new.numbers.items 0) }
 {
     if let Some(end) = end_from(arrived, sources, vertices, low) {
         edges.push(Edge {
@@ -141,8 +141,8 @@ fn lay_edges_from(
     i: usize,
 ) -> Result<(), OutOfMemory>
     requires within { i < length vertices.now }
-    requires before { AreLaid vertices.now (IsBefore i 0) edges.old.items loose.old.numbers.items 0 }
-    ensures added { OnOk result (AreLaid vertices.now (IsBefore (i + 1) 0) edges.new.items loose.new.numbers.items 0) }
+    requires before { AreLaid vertices.now (IsEarlierSvertex i 0) edges.old.items loose.old.numbers.items 0 }
+    ensures added { OnOk result (AreLaid vertices.now (IsEarlierSvertex (i + 1) 0) edges.new.items loose.new.numbers.items 0) }
 {
     let vertex = &vertices[i];
     for (k, svertex) in vertex.map.svertices.as_slice().iter().enumerate() {
@@ -170,7 +170,7 @@ pub(crate) fn lay_edges(
     sources: &mut Sources,
     loose: &mut Loose,
 ) -> Result<Vec<Edge>, OutOfMemory>
-    ensures laid { IfOk result (λ es. AreLaid vertices.now (IsBefore (length vertices.now) 0) es.items loose.new.numbers.items 0) }
+    ensures laid { IfOk result (λ es. AreLaid vertices.now (IsEarlierSvertex (length vertices.now) 0) es.items loose.new.numbers.items 0) }
 {
     let mut edges = Vec::with_capacity(alloc, count / 2)?;
     let mut arrived = Arrived {

@@ -95,7 +95,7 @@ fn svertex_along(svertices: &[SVertex], number: usize, dir: &Dir) -> Option<usiz
 /// The edges of an operand, passed in order together with the svertices of the result. Maps may have been moved out of
 /// the operand into the vertices of the result.
 #[derive(Drop)]
-pub(crate) struct Source<'a> {
+pub(crate) struct KeptEdges<'a> {
     old: &'a [Vertex],
     edges: &'a [Edge],
     numbers: Vec<usize>,
@@ -113,7 +113,7 @@ fn number_of(numbers: &[usize], old: usize) -> usize {
 }
 
 // Passes the edges before the first edge, from number `from` on, that leads on from vertex i or a later one.
-fn pass(source: &mut Source, from: usize, i: usize) {
+fn pass(source: &mut KeptEdges, from: usize, i: usize) {
     let edges = source.edges;
     for number in from..edges.len() {
         let low = number_of(source.numbers.as_slice(), edges[number].low);
@@ -127,16 +127,16 @@ fn pass(source: &mut Source, from: usize, i: usize) {
     source.low = usize::MAX;
 }
 
-impl<'a> Source<'a> {
+impl<'a> KeptEdges<'a> {
     /// The edges of the operand, with the numbers of the result's vertices.
     pub(crate) fn of(
         alloc: Global,
         complex: &'a Complex,
         vertices: &[Vertex],
-    ) -> Result<Source<'a>, OutOfMemory> {
+    ) -> Result<KeptEdges<'a>, OutOfMemory> {
         let old = complex.vertices.as_slice();
         let numbers = numbers_of(alloc, old, vertices)?;
-        let mut source = Source {
+        let mut source = KeptEdges {
             old,
             edges: complex.edges.as_slice(),
             numbers,
@@ -150,7 +150,7 @@ impl<'a> Source<'a> {
 
 // The direction of the edge, which leads on from the vertex. An old vertex whose map was moved has no svertices any
 // more: the new vertex at its point has them.
-fn dir_of(source: &Source, edge: &Edge, vertex: &Vertex) -> Option<Dir> {
+fn dir_of(source: &KeptEdges, edge: &Edge, vertex: &Vertex) -> Option<Dir> {
     let old = source.old.get(edge.low)?;
     match old.map.svertices.as_slice().get(edge.low_svertex) {
         Some(svertex) => Some(svertex.dir),
@@ -159,7 +159,7 @@ fn dir_of(source: &Source, edge: &Edge, vertex: &Vertex) -> Option<Dir> {
 }
 
 // Compares the direction of the edge, which leads on from the vertex of `low`, with the direction of `low`.
-fn dir_order(source: &Source, edge: &Edge, low: &End) -> Ordering {
+fn dir_order(source: &KeptEdges, edge: &Edge, low: &End) -> Ordering {
     match dir_of(source, edge, low.vertex) {
         Some(dir) => dir.cmp(&low.svertex.dir),
         None => Ordering::Less,
@@ -167,7 +167,7 @@ fn dir_order(source: &Source, edge: &Edge, low: &End) -> Ordering {
 }
 
 // The edge that leads on from `low` along its direction, where there is one. The edges before this edge are passed.
-fn edge_along(source: &mut Source, low: &End) -> Option<Edge> {
+fn edge_along(source: &mut KeptEdges, low: &End) -> Option<Edge> {
     let edges = source.edges;
     for number in source.passed..edges.len() {
         let edge = edges[number];
@@ -190,7 +190,7 @@ fn edge_along(source: &mut Source, low: &End) -> Option<Edge> {
 
 // As `kept_end`, where maps differ: svertices are searched by their directions.
 #[inline(never)]
-fn searched_end(source: &mut Source, vertices: &[Vertex], low: &End) -> Option<(usize, usize)>
+fn searched_end(source: &mut KeptEdges, vertices: &[Vertex], low: &End) -> Option<(usize, usize)>
     ensures leads { IfSome result (λ t. LeadsTo vertices.now low.now t.0 t.1) }
 {
     let edge = edge_along(source, low)?;
@@ -205,7 +205,7 @@ fn searched_end(source: &mut Source, vertices: &[Vertex], low: &End) -> Option<(
 }
 
 // As `kept_end`, where the next edge leads on from `low` and its svertices have their old numbers. This edge is passed.
-fn same_end(source: &mut Source, vertices: &[Vertex], low: &End) -> Option<(usize, usize)>
+fn same_end(source: &mut KeptEdges, vertices: &[Vertex], low: &End) -> Option<(usize, usize)>
     ensures leads { IfSome result (λ t. LeadsTo vertices.now low.now t.0 t.1) }
 {
     let edges = source.edges;
@@ -223,7 +223,7 @@ fn same_end(source: &mut Source, vertices: &[Vertex], low: &End) -> Option<(usiz
 }
 
 // As `kept_end`, where the next edge doesn't lead on from a later vertex.
-fn near_end(source: &mut Source, vertices: &[Vertex], low: &End) -> Option<(usize, usize)>
+fn near_end(source: &mut KeptEdges, vertices: &[Vertex], low: &End) -> Option<(usize, usize)>
     ensures leads { IfSome result (λ t. LeadsTo vertices.now low.now t.0 t.1) }
 {
     if source.low < low.vertex_number {
@@ -242,7 +242,7 @@ fn near_end(source: &mut Source, vertices: &[Vertex], low: &End) -> Option<(usiz
 /// The end to which an edge of the operand leads from `low`, as the numbers of vertex and svertex, where the two ends
 /// still match. Mostly both maps were taken over, so that svertices have their old numbers.
 pub(crate) fn kept_end(
-    source: &mut Source,
+    source: &mut KeptEdges,
     vertices: &[Vertex],
     low: &End,
 ) -> Option<(usize, usize)>

@@ -1,7 +1,7 @@
 //! Complexes from vertices, with all edges between these.
 
 ghost use Rattle.std.specs.Prelude.{◌≡◌, ◌<◌, ◌+◌};
-ghost use Rattle.nef_edges.specs.Prelude.{length, map, IfOk, OnOk, IsSortedBy, Set, Edges, vertex_of, edge_of, AreVerticesOf, ShowsSet, AreVertexHolders, end_lt, IsBefore, AreArriving, AreJoined, AreEdges};
+ghost use Rattle.nef_edges.specs.Prelude.{length, map, IfOk, OnOk, IsSortedBy, Set, Edges, vertex_of, edge_of, AreVerticesOf, ShowsSet, AreVertexHolders, end_lt, IsEarlierSvertex, AreArriving, AreJoined, AreEdges};
 
 use crate::OutOfMemory;
 use crate::arriving::{next_after, sorted_arriving};
@@ -20,10 +20,10 @@ fn add_edges(
 ) -> Result<(), OutOfMemory>
     requires within { i < length vertices.now }
     requires joined { AreJoined (map vertex_of vertices.now) }
-    requires arriving { AreArriving vertices.now (IsBefore (length vertices.now) 0) arriving.now }
+    requires arriving { AreArriving vertices.now (IsEarlierSvertex (length vertices.now) 0) arriving.now }
     requires sorted { IsSortedBy end_lt arriving.now }
-    requires before { AreEdges vertices.now (IsBefore i 0) edges.old.items }
-    ensures added { OnOk result (AreEdges vertices.now (IsBefore (i + 1) 0) edges.new.items) }
+    requires before { AreEdges vertices.now (IsEarlierSvertex i 0) edges.old.items }
+    ensures added { OnOk result (AreEdges vertices.now (IsEarlierSvertex (i + 1) 0) edges.new.items) }
 {
     let vertex = &vertices[i];
     for (k, svertex) in vertex.map.svertices.as_slice().iter().enumerate() {

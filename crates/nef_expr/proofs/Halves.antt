@@ -1,5 +1,5 @@
 -- A turned plane is read as it is given.
-use Rattle.nef_expr.proofs.Prelude.{◌≡◌, ℕ, ◌≤◌, ℤ, pos, ◌-ℤ◌, ◌*ℤ◌, neg_ℤ, nat_abs, Bool, true, false, cond, [], ◌∷◌, arith, ap, sym, ◌∙◌, subst, w64, to_z, of_z, ints, unsigned_abs-mul, ◌∣◌, ring, at, num, ◌⊗◌, normal_limit, offset_limit, point_limit, IsLowest, Form, form, form_numbers, normal_of, Vector, vector, IsDirection, IsAtMost, IsInRange, IsPositiveMultiple, form_of, given_form, turned_form as opposite_form, Oriented, Triple, turned, turned_vector, turned_plane, same-form}
+use Rattle.nef_expr.proofs.Prelude.{◌≡◌, ℕ, ◌≤◌, ℤ, pos, ◌-ℤ◌, ◌*ℤ◌, neg_ℤ, nat_abs, Bool, true, false, cond, [], ◌∷◌, arith, ap, sym, ◌∙◌, subst, w64, to_z, of_z, ints, unsigned_abs-mul, ◌∣◌, ring, at, num, ◌⊗◌, normal_limit, offset_limit, point_limit, IsLowest, Form, form, form_numbers, normal_of, Vector, vector, IsDirection, IsAtMost, IsInRange, IsPositiveMultiple, form_of, given_form, opposite_form, Oriented, Triple, turned, turned_vector, turned_plane, same-form}
 use Rattle.std.proofs.Math.Nat.{dvd-mul_right}
 use Rattle.nef_geo.specs.declared.plane.Plane.{Plane}
 use Rattle.nef_geo.proofs.Products.{kept}

@@ -1,5 +1,5 @@
 -- The nodes that a node is made of, marked from the last one on.
-use Rattle.nef_expr.proofs.Prelude.{◌≡◌, ℕ, ◌+◌, ◌-◌, ◌≤◌, Bool, true, false, List, [], ◌∷◌, ◌++◌, length, Some, arith, sym, subst, ◌∙◌, inl, inr, get_or, slice_get, slice_index_or, get_or-append_seam, cases_lt, false≢true, Node, IsOrdered, IsOperand, IsMarked, MarksOperands, AreClosedFrom, AreNeeded}
+use Rattle.nef_expr.proofs.Prelude.{◌≡◌, ℕ, ◌+◌, ◌-◌, ◌≤◌, Bool, true, false, List, [], ◌∷◌, ◌++◌, length, Some, arith, sym, subst, ◌∙◌, inl, inr, get_or, slice_get, slice_index_or, get_or-append_seam, cases_lt, false≢true, Node, IsOrdered, IsOperand, IsMarked, MarksOperands, AreClosedFrom, AreWithOperands}
 use Rattle.nef_expr.proofs.Operands.{operand-below}
 use Rattle.nef_expr.proofs.Places.{one-there}
 
@@ -12,7 +12,7 @@ pub record MarksFrom (nodes : List Node) (k back : ℕ) (marks : List Bool) : Ty
 pub marks-start : (nodes : List Node) (k : ℕ) (marks : List Bool) → length marks ≡ k + 1 → IsMarked marks k → MarksFrom nodes k 0 marks
 marks-start nodes k marks count itself = record { count = count; itself = itself; closed = λ m n low high marked is o operand. absurd (omega (arith, low, high)) }
 
-pub marks-end : (nodes : List Node) (k back : ℕ) (marks : List Bool) → k + 1 ≤ back → MarksFrom nodes k back marks → AreNeeded nodes k marks
+pub marks-end : (nodes : List Node) (k back : ℕ) (marks : List Bool) → k + 1 ≤ back → MarksFrom nodes k back marks → AreWithOperands nodes k marks
 marks-end nodes k back marks l M = record { count = M.count; itself = M.itself; closed = λ m n low high. M.closed m n (omega (arith, l)) high }
 
 module _ (nodes : List Node) (ordered : IsOrdered nodes) (k back i : ℕ) (at : i + back ≡ k) (n : Node) (is : slice_get nodes i ≡ Some n) where

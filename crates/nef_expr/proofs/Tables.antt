@@ -1,5 +1,5 @@
 -- Nodes with their bases and turns: what one node more keeps, and how a copy is made.
-use Rattle.nef_expr.proofs.Prelude.{◌≡◌, ℕ, zero, suc, ◌+◌, ◌*◌, ◌<◌, ◌≤◌, ◌⊎◌, ◌||◌, Bool, true, false, List, [], ◌∷◌, ◌++◌, length, map, get_or, Some, Ordering, Less, Equal, Greater, arith, refl, ap, sym, subst, ◌∙◌, inl, inr, append-nil, append_assoc, length-append, slice_get, slice_index, nat_eq, nat_cmp, MatchOrdering, is_eq, BTreeMap, get, Updates, get_or-append, get_or-append_seam, cases_eq, ne_eqb, get_or-map, get_or_default, length-map, slice_get_within, slice_get-get_or, get_or_from_slice_get, IsComposition, Node, Origin, Shape, shape_of, UsesBelow, Uses, NamesBelow, IsOrdered, IsNode, TurnOf, most_bases, origin, key_of, HasOrigin, IsOfOrigin, AreOrigins, Table, IsCopyOf, HavePlaces, IsTable, Extends, Stays, turned_shape, IsTurnedNode, OperandsTurned, IsMarked, AreNeeded, AreCopies}
+use Rattle.nef_expr.proofs.Prelude.{◌≡◌, ℕ, zero, suc, ◌+◌, ◌*◌, ◌<◌, ◌≤◌, ◌⊎◌, ◌||◌, Bool, true, false, List, [], ◌∷◌, ◌++◌, length, map, get_or, Some, Ordering, Less, Equal, Greater, arith, refl, ap, sym, subst, ◌∙◌, inl, inr, append-nil, append_assoc, length-append, slice_get, slice_index, nat_eq, nat_cmp, MatchOrdering, is_eq, BTreeMap, get, Updates, get_or-append, get_or-append_seam, cases_eq, ne_eqb, get_or-map, get_or_default, length-map, slice_get_within, slice_get-get_or, get_or_from_slice_get, IsComposition, Node, Origin, Shape, shape_of, UsesBelow, Uses, NamesBelow, IsOrdered, IsNode, TurnOf, most_bases, origin, key_of, HasOrigin, IsOfOrigin, AreOrigins, NodeTable, IsCopyOf, AreOriginsNumbered, IsTable, Extends, Stays, turned_shape, IsTurnedNode, OperandsTurned, IsMarked, AreWithOperands, AreCopies}
 use Rattle.std.specs.List.{IsDistinct, list_any}
 use Rattle.std.proofs.lemmas.Bool.Decides.{eqb_tells}
 use Rattle.std.proofs.lemmas.Cmp.{ranked}
@@ -93,7 +93,7 @@ module _ (ns : List Node) (os : List Origin) (bases wider : ℕ) (n : Node) (o :
     ];
   }
 
-  pub places-push : (old now : BTreeMap ℕ ℕ) → HavePlaces os old → Updates nat_cmp old now (key_of o) (Some (length ns)) → HavePlaces origins now
+  pub places-push : (old now : BTreeMap ℕ ℕ) → AreOriginsNumbered os old → Updates nat_cmp old now (key_of o) (Some (length ns)) → AreOriginsNumbered origins now
   places-push old now H u = record { kept = kept; only = only }
     where
       other : (p : Origin) → p.turn < 48 → (p ≡ o → ⊥) → get nat_cmp now (key_of p) ≡ get nat_cmp old (key_of p)
@@ -171,13 +171,13 @@ module _ (ns : List Node) (os : List Origin) (bases : ℕ) (O : AreOrigins ns os
         }
 
 -- ---- all copies
-pub stays-same : (T : Table) → Stays T T
+pub stays-same : (T : NodeTable) → Stays T T
 stays-same T = record { nodes = ([], sym (append-nil T.nodes)); origins = ([], sym (append-nil T.origins)); bases = refl }
 
 pub extends-twice : {A : Type 0} (xs ys zs : List A) → Extends xs ys → Extends ys zs → Extends xs zs
 extends-twice xs ys zs (p, e) (q, f) = (p ++ q, f ∙ ap (λ l. l ++ q) e ∙ append_assoc xs p q)
 
-pub stays-twice : (T U V : Table) → Stays T U → Stays U V → Stays T V
+pub stays-twice : (T U V : NodeTable) → Stays T U → Stays U V → Stays T V
 stays-twice T U V a b = record { nodes = extends-twice T.nodes U.nodes V.nodes a.nodes b.nodes; origins = extends-twice T.origins U.origins V.origins a.origins b.origins; bases = b.bases ∙ a.bases }
 
 pub extends-turn : (ns ms : List Node) (t k l : ℕ) → Extends ns ms → TurnOf ns t k l → TurnOf ms t k l
@@ -187,26 +187,26 @@ pub extends-length : {A : Type 0} (xs ys : List A) → Extends xs ys → length 
 extends-length xs ys (more, e) = let f = ap length e ∙ length-append xs more in omega (arith, f)
 
 -- the copies of the first i nodes that are needed are made
-pub record IsCopying (old : Table) (t i : ℕ) (needed : List Bool) (now : Table) (copies : List ℕ) : Type 0 where
+pub record IsCopying (old : NodeTable) (t i : ℕ) (needed : List Bool) (now : NodeTable) (copies : List ℕ) : Type 0 where
   pub count : length copies ≡ i
   pub stays : Stays old now
   pub copied : AreCopies now.nodes t i needed copies
 
-pub copying-start : (T : Table) (t : ℕ) (needed : List Bool) (copies : List ℕ) → copies ≡ [] → IsCopying T t 0 needed T copies
+pub copying-start : (T : NodeTable) (t : ℕ) (needed : List Bool) (copies : List ℕ) → copies ≡ [] → IsCopying T t 0 needed T copies
 copying-start T t needed copies e = record { count = ap length e; stays = stays-same T; copied = λ m l marked. absurd (omega (arith, l)) }
 
-module _ (old : Table) (t i : ℕ) (needed : List Bool) (now : Table) (copies : List ℕ) (C : IsCopying old t i needed now copies) where
+module _ (old : NodeTable) (t i : ℕ) (needed : List Bool) (now : NodeTable) (copies : List ℕ) (C : IsCopying old t i needed now copies) where
   pub copying-length : length old.nodes ≤ length now.nodes
   copying-length = let s = C.stays in extends-length old.nodes now.nodes s.nodes
 
-  pub copying-operands : (k : ℕ) → IsOrdered old.nodes → AreNeeded old.nodes k needed → i ≤ k → k < length old.nodes → IsMarked needed i → (n : Node) → slice_get now.nodes i ≡ Some n → OperandsTurned now.nodes t copies n
+  pub copying-operands : (k : ℕ) → IsOrdered old.nodes → AreWithOperands old.nodes k needed → i ≤ k → k < length old.nodes → IsMarked needed i → (n : Node) → slice_get now.nodes i ≡ Some n → OperandsTurned now.nodes t copies n
   copying-operands k ordered N l h marked n at m operand =
       let s = C.stays in
       let more = s.nodes in
       let there : slice_get old.nodes i ≡ Some n = sym (slice_get-below old.nodes more.0 i (omega (arith, l, h))) ∙ ap (λ (xs : List Node). slice_get xs i) (sym more.1) ∙ at in
       C.copied m (operand-below i m n (ordered i n there) operand) (N.closed i n (omega arith) l marked there m operand)
 
-  pub copying-more : (new : Table) (x : ℕ) → Stays now new → (IsMarked needed i → TurnOf new.nodes t i x) → IsCopying old t (i + 1) needed new (copies ++ x ∷ [])
+  pub copying-more : (new : NodeTable) (x : ℕ) → Stays now new → (IsMarked needed i → TurnOf new.nodes t i x) → IsCopying old t (i + 1) needed new (copies ++ x ∷ [])
   copying-more new x stays turned = record {
     count = length-append copies (x ∷ []) ∙ ap (λ k. k + 1) C.count;
     stays = stays-twice old now new C.stays stays;

@@ -4,14 +4,14 @@ use Rattle.law_turns.specs.Turned.{turned_set}
 use Rattle.nef_expr.specs.declared.nodes.Node.{Node}
 use Rattle.nef_expr.specs.Nodes.{Shape, shape_of, IsOperand}
 use Rattle.nef_expr.specs.Turns.{TurnOf}
-use Rattle.nef_expr.specs.Table.{Table}
+use Rattle.nef_expr.specs.Table.{NodeTable}
 
 -- the new list is the old one with more elements at its end
 abbrev pub Extends : {A : Type 0} → List A → List A → Type 0
 Extends {A} old new = (more : List A) × (new ≡ old ++ more)
 
 -- the nodes keep their numbers and origins, and no base is added
-pub record Stays (old new : Table) : Type 0 where
+pub record Stays (old new : NodeTable) : Type 0 where
   pub nodes : Extends old.nodes new.nodes
   pub origins : Extends old.origins new.origins
   pub bases : new.bases ≡ old.bases
@@ -45,7 +45,7 @@ abbrev pub AreClosedFrom : List Node → ℕ → ℕ → List Bool → Type 0
 AreClosedFrom nodes i k marks = (m : ℕ) (n : Node) → i ≤ m → m ≤ k → IsMarked marks m → slice_get nodes m ≡ Some n → (o : ℕ) → IsOperand o n → IsMarked marks o
 
 -- node k is marked, and with each marked node its operands
-pub record AreNeeded (nodes : List Node) (k : ℕ) (marks : List Bool) : Type 0 where
+pub record AreWithOperands (nodes : List Node) (k : ℕ) (marks : List Bool) : Type 0 where
   pub count : length marks ≡ k + 1
   pub itself : IsMarked marks k
   pub closed : AreClosedFrom nodes 0 k marks

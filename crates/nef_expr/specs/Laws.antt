@@ -1,10 +1,10 @@
 -- The laws of all lists of nodes.
 use Rattle.std.specs.Prelude.{◌≡◌, ◌<◌, ◌∷◌, ◌++◌, ◌↔◌}
-use Rattle.nef_space.specs.Prelude.{ℕ, List, [], Some, length, slice_get, Place, Holds}
+use Rattle.nef_space.specs.Prelude.{ℕ, List, [], Some, length, slice_get, SpacePoint, Holds}
 use Rattle.nef_expr.specs.declared.nodes.Node.{Node}
 use Rattle.nef_expr.specs.Nodes.{node_set, set_of, sets_after, NamesBelow, IsOrdered}
 use Rattle.nef_expr.specs.Turns.{TurnOf}
-use Rattle.law_turns.specs.Turned.{turned_place, turned_set}
+use Rattle.law_turns.specs.Turned.{turned_point, turned_set}
 
 -- a node that is added leaves the sets of the earlier nodes
 abbrev pub EarlierSetsStay : Type 0
@@ -24,4 +24,4 @@ NodeTurned = (ns : List Node) (t k l : ℕ) → IsOrdered ns → TurnOf ns t k l
 
 -- a node's turned image holds at a turned point exactly where the node's set holds at the point
 abbrev pub NodeHoldsTurned : Type 0
-NodeHoldsTurned = (ns : List Node) (t k l : ℕ) (p : Place) → IsOrdered ns → TurnOf ns t k l → Holds (node_set ns l) (turned_place t p) ↔ Holds (node_set ns k) p
+NodeHoldsTurned = (ns : List Node) (t k l : ℕ) (p : SpacePoint) → IsOrdered ns → TurnOf ns t k l → Holds (node_set ns l) (turned_point t p) ↔ Holds (node_set ns k) p

@@ -34,12 +34,12 @@ pub record AreOrigins (nodes : List Node) (origins : List Origin) (bases : ℕ) 
   pub once : (m n : ℕ) (o : Origin) → HasOrigin origins m o → HasOrigin origins n o → m ≡ n
 
 -- what contracts see of the nodes and their origins
-pub record Table : Type 0 where
+pub record NodeTable : Type 0 where
   pub nodes : List Node
   pub origins : List Origin
   pub bases : ℕ
 
-abbrev pub table : List Node → List Origin → ℕ → Table
+abbrev pub table : List Node → List Origin → ℕ → NodeTable
 table nodes origins bases = record { nodes = nodes; origins = origins; bases = bases }
 
 -- node l has the base of node k, and the turn that is k's turn and then t
@@ -55,7 +55,7 @@ pub record IsCopyOf (origins : List Origin) (t k l : ℕ) : Type 0 where
 abbrev pub key_of : Origin → ℕ
 key_of o = 48 * o.base + o.turn
 
-pub record HavePlaces (origins : List Origin) (places : BTreeMap ℕ ℕ) : Type 0 where
+pub record AreOriginsNumbered (origins : List Origin) (places : BTreeMap ℕ ℕ) : Type 0 where
   pub kept : (n : ℕ) (o : Origin) → HasOrigin origins n o → get nat_cmp places (key_of o) ≡ Some n
   pub only : (n : ℕ) (o : Origin) → o.turn < 48 → get nat_cmp places (key_of o) ≡ Some n → HasOrigin origins n o
 
@@ -64,4 +64,4 @@ pub record IsTable (nodes : List Node) (origins : List Origin) (bases : ℕ) (pl
   pub few_bases : bases ≤ most_bases
   pub ordered : IsOrdered nodes
   pub are_origins : AreOrigins nodes origins bases
-  pub have_places : HavePlaces origins places
+  pub have_places : AreOriginsNumbered origins places

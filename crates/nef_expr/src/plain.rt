@@ -1,9 +1,9 @@
 //! The label of a point for a node without topology, and the laws of lists of nodes.
 
 ghost use Rattle.std.specs.Prelude.{◌<◌};
-ghost use Rattle.nef_geo.specs.Prelude.{length, IfOk, HasLabel, place_of};
+ghost use Rattle.nef_geo.specs.Prelude.{length, IfOk, HasLabel, point_of};
 ghost use Rattle.nef_expr.specs.Nodes.{NamesBelow, node_set};
-ghost use Rattle.nef_expr.specs.Plain.{IsPlain, TellsNext};
+ghost use Rattle.nef_expr.specs.Plain.{IsPlainSet, TellsNext};
 ghost use Rattle.nef_expr.specs.Laws.{EarlierSetsStay, NewSetIsOfItsNode, EachSetIsOfItsNode, NodeTurned, NodeHoldsTurned};
 
 use crate::OutOfMemory;
@@ -15,7 +15,7 @@ use std::alloc::Global;
 // nothing of a node with topology.
 fn node_holds(node: &Node, holding: &[bool], p: &Point) -> bool
     requires operands { NamesBelow (length holding.now) node.now }
-    ensures told { TellsNext holding.now node.now result (place_of p.now) }
+    ensures told { TellsNext holding.now node.now result (point_of p.now) }
 {
     match *node {
         Node::Half { oriented, closed } => match oriented.side(p) {
@@ -39,8 +39,8 @@ fn node_holds(node: &Node, holding: &[bool], p: &Point) -> bool
 /// each, from the first on. `OutOfMemory` says that memory was wanted and not found.
 pub fn plain_has(alloc: Global, nodes: &Nodes, k: usize, p: &Point) -> Result<Label, OutOfMemory>
     requires existing { k < length nodes.now }
-    requires plain { IsPlain (node_set nodes.now k) }
-    ensures label { IfOk result (HasLabel (node_set nodes.now k) (place_of p.now)) }
+    requires plain { IsPlainSet (node_set nodes.now k) }
+    ensures label { IfOk result (HasLabel (node_set nodes.now k) (point_of p.now)) }
 {
     if !p.in_frame() {
         return Ok(Label::Out);

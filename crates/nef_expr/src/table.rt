@@ -7,7 +7,7 @@ ghost use Rattle.law_turns.specs.Turned.{turned_plane};
 ghost use Rattle.nef_expr.specs.Nodes.{NamesBelow, IsOrdered};
 ghost use Rattle.nef_expr.specs.Turns.{TurnOf};
 ghost use Rattle.nef_expr.specs.Table.{most_bases, origin, key_of, HasOrigin, IsOfOrigin, AreOrigins, IsCopyOf};
-ghost use Rattle.nef_expr.specs.Copying.{Stays, OperandsTurned, IsTurnedNode, MarksOperands, AreNeeded};
+ghost use Rattle.nef_expr.specs.Copying.{Stays, OperandsTurned, IsTurnedNode, MarksOperands, AreWithOperands};
 
 use crate::OutOfMemory;
 use crate::nodes::{Node, Nodes};
@@ -37,9 +37,9 @@ pub struct TurnedNodes {
 }
 
 impl Model for TurnedNodes {
-    ghost use Rattle.nef_expr.specs.Table.{Table, IsTable, table};
+    ghost use Rattle.nef_expr.specs.Table.{NodeTable, IsTable, table};
 
-    ghost Value = { Table };
+    ghost Value = { NodeTable };
 
     ghost view = { λ t. table t.nodes.items t.origins.items t.bases };
 
@@ -243,7 +243,7 @@ fn mark_operands(marks: &mut [bool], node: &Node)
 fn needed_nodes(alloc: Global, nodes: &[Node], k: usize) -> Result<Vec<bool>, OutOfMemory>
     requires existing { k < length nodes.now }
     requires ordered { IsOrdered nodes.now }
-    ensures needed { IfOk result (λ v. AreNeeded nodes.now k v.items) }
+    ensures needed { IfOk result (λ v. AreWithOperands nodes.now k v.items) }
 {
     let mut marks = vec![in alloc; false; k]?;
     marks.push(true)?;

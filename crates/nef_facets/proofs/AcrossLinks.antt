@@ -1,5 +1,5 @@
 -- Links across facets, by what the ray inward in a carrier names.
-use Rattle.nef_facets.proofs.Prelude.{◌≡◌, ℕ, pos, List, [], ◌∷◌, ◌++◌, refl, ap, sym, ◌∙◌, subst, Form, form_at, normal_of, toward, Set, Vector, opposite, SameDirection, plane_dir, place-toward, At, Item, items, item_normal, OnItem, on-direction, on-level, at-one, Vertex, Complex, IsCorner, Shows, item_plane, RayNames, through-at, through-level, same-itself, Corner as ProgramCorner, corner_of, Cell, Tie, LinkAcross, one-vertex, one-named, HasNoSvertex, level-of_opposite, through-same, on_item-way, cell_of, corner_at, IsTieAcross, Adds, dot-zero, SameDirection-turned, SameDirection-trans, dir-self, opposite-same, direction-left, direction-right}
+use Rattle.nef_facets.proofs.Prelude.{◌≡◌, ℕ, pos, List, [], ◌∷◌, ◌++◌, refl, ap, sym, ◌∙◌, subst, Form, form_at, normal_of, toward, Set, Vector, opposite, SameDirection, plane_dir, point-toward, IsAt, Item, items, item_normal, OnItem, on-direction, on-level, at-one, Vertex, Complex, IsCorner, Shows, item_plane, RayNames, through-at, through-level, same-itself, Corner as ProgramCorner, corner_of, Cell, Tie, LinkAcross, one-vertex, one-named, HasNoSvertex, level-of_opposite, through-same, on_item-way, cell_of, corner_at, IsTieAcross, Adds, dot-zero, SameDirection-turned, SameDirection-trans, dir-self, opposite-same, direction-left, direction-right}
 use Rattle.law_complex.specs.Complexes.{Corner}
 use Rattle.nef_conn.proofs.WayInward.{names-same, dir-same}
 use Rattle.nef_facets.proofs.Adding.{adds-one}
@@ -17,7 +17,7 @@ module _ (C : Complex) (j : Corner) (v : Vertex) (x : Item) (b : IsCorner C j v 
   pub link-is : (k : Corner) → LinkAcross C j k → Names k v x
   link-is k L =
       let e = at-one C.vertices j.vertex L.vertex v L.corner.vertex b.vertex in
-      let f = at-one (items v.map) j.item L.item x (subst (λ (u : Vertex). At (items u.map) j.item L.item) e L.corner.item) b.item in
+      let f = at-one (items v.map) j.item L.item x (subst (λ (u : Vertex). IsAt (items u.map) j.item L.item) e L.corner.item) b.item in
       subst (λ (z : Item). Names k v z) f (subst (λ (u : Vertex). Names k u L.item) e (L.inward, L.named))
 
   -- ---- the way inward in a plane with the item's normal
@@ -32,7 +32,7 @@ module _ (C : Complex) (j : Corner) (v : Vertex) (x : Item) (b : IsCorner C j v 
         subst (λ (r : Vector). SameDirection r (inward_of x)) (sym back) o
 
     on-plane : form_at (item_plane v x) v.point ≡ pos 0
-    on-plane = through-at n v.point v.point ∙ dot-zero n (toward v.point v.point) (place-toward v.point v.point (same-itself v.point))
+    on-plane = through-at n v.point v.point ∙ dot-zero n (toward v.point v.point) (point-toward v.point v.point (same-itself v.point))
 
     to-plane : SameDirection (normal_of h) (normal_of (item_plane v x))
     to-plane = SameDirection-trans (normal_of h) n (normal_of (item_plane v x)) w (through-same n v.point (direction-right (normal_of h) n w))
@@ -70,8 +70,8 @@ module _ (s : Set) (C : Complex) (S : Shows s C) where
   pub no-svertex : (j : Corner) (v : Vertex) (x : Item) → IsCorner C j v x → (d : Vector) → OnItem v.map x d → HasNoSvertex C v.point d
   no-svertex j v x b d o k i w u a e t q =
       let n = one-vertex s C S k j.vertex w v a b.vertex e in
-      let f = at-one C.vertices j.vertex w v (subst (λ (r : ℕ). At C.vertices r w) n a) b.vertex in
-      let listed = subst (λ (r : Vertex). At r.map.svertices i u) f t in
+      let f = at-one C.vertices j.vertex w v (subst (λ (r : ℕ). IsAt C.vertices r w) n a) b.vertex in
+      let listed = subst (λ (r : Vertex). IsAt r.map.svertices i u) f t in
       (S.cones j.vertex v b.vertex).valid.shaped.no_svertex_on_item i j.item u x listed b.item (on_item-way v.map x d u.dir (SameDirection-turned u.dir d q) o)
 
 -- ---- the tie of a link

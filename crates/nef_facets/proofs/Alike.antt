@@ -1,16 +1,16 @@
 -- Linked items have one normal and one mark, and the vertices lie in one plane of that normal.
-use Rattle.nef_facets.proofs.Prelude.{◌≡◌, ℕ, pos, sym, ◌∙◌, inl, inr, ⊎_elim, [], ◌∷◌, List, subst, ring, at, num, neg, ◌⊕◌, ◌⊗◌, IsChain, Chained, Place, Form, form_at, normal_of, slope, plane_through, SamePlace, toward, Set, Vector, opposite, dot, SameDirection, plane_dir, Label, ahead, joined-germs, labels-by_germs, label-one, At, Item, arc_item, items, item_normal, item_mark, on-level, at-one, at-arc, Vertex, Edge, Complex, HasEnds, IsCorner, Shows, item_plane, PlaneMeet, meets_vertex, meets_edge, IsFirstInPlane, IsCornerAt, plane-onward, plane-back, plane-ahead, ahead-same, through-at, through-level, AreAlong, LinkAlong, LinkAcross, FacetLink, facet-near, AreTiedItems, EdgeWays, edge-ways, end-level, along-tied, across-tied, dot-comm, SameDirection-turned, SameDirection-trans, level-way}
+use Rattle.nef_facets.proofs.Prelude.{◌≡◌, ℕ, pos, sym, ◌∙◌, inl, inr, ⊎_elim, [], ◌∷◌, List, subst, ring, at, num, neg, ◌⊕◌, ◌⊗◌, IsChain, Chained, SpacePoint, Form, form_at, normal_of, slope, plane_through, SamePoint, toward, Set, Vector, opposite, dot, SameDirection, plane_dir, Label, ahead, joined-germs, labels-by_germs, label-one, IsAt, Item, arc_item, items, item_normal, item_mark, on-level, at-one, at-arc, Vertex, Edge, Complex, HasEnds, IsCorner, Shows, item_plane, PlaneMeet, meets_vertex, meets_edge, IsFirstInPlane, IsCornerAt, plane-onward, plane-back, plane-ahead, ahead-same, through-at, through-level, AreAlong, LinkAlong, LinkAcross, FacetLink, facet-near, AreTiedItems, EdgeWays, edge-ways, end-level, along-tied, across-tied, dot-comm, SameDirection-turned, SameDirection-trans, level-way}
 use Rattle.law_complex.specs.Complexes.{Corner}
-use Rattle.law_links.proofs.EdgeEnds.{corner_of}
+use Rattle.law_links.proofs.EdgeEnds.{corner_of_numbers}
 
 -- a corner has one item
 pub corner-one : (C : Complex) (k : Corner) (v w : Vertex) (x y : Item) → IsCorner C k v x → IsCorner C k w y → (P : Vertex → Item → Type 0) → P v x → P w y
 corner-one C k v w x y a b P p =
     let e = at-one C.vertices k.vertex v w a.vertex b.vertex in
-    let f = at-one (items w.map) k.item x y (subst (λ (r : Vertex). At (items r.map) k.item x) e a.item) b.item in
+    let f = at-one (items w.map) k.item x y (subst (λ (r : Vertex). IsAt (items r.map) k.item x) e a.item) b.item in
     subst (λ (r : Item). P w r) f (subst (λ (r : Vertex). P r x) e p)
 
-pub record AreAlike (C : Complex) (j k : Corner) : Type 0 where
+pub record AreLikeCorners (C : Complex) (j k : Corner) : Type 0 where
   pub vertex : Vertex
   pub item : Item
   pub corner : IsCorner C j vertex item
@@ -22,7 +22,7 @@ pub record AreAlike (C : Complex) (j k : Corner) : Type 0 where
   pub one_mark : item_mark item ≡ item_mark other_item
 
 -- a plane holds the point that it goes through
-through-itself : (n : Vector) (p : Place) → form_at (plane_through n p) p ≡ pos 0
+through-itself : (n : Vector) (p : SpacePoint) → form_at (plane_through n p) p ≡ pos 0
 through-itself n p = ring (n.x ∷ n.y ∷ n.z ∷ p.x ∷ p.y ∷ p.z ∷ pos p.w ∷ [])
     (at 0 ⊗ at 6 ⊗ at 3 ⊕ at 1 ⊗ at 6 ⊗ at 4 ⊕ at 2 ⊗ at 6 ⊗ at 5 ⊕ neg (at 0 ⊗ at 3 ⊕ at 1 ⊗ at 4 ⊕ at 2 ⊗ at 5) ⊗ at 6) (num (pos 0)) tt
 
@@ -36,7 +36,7 @@ module _ (s : Set) (C : Complex) (S : Shows s C) where
       label-one s q (item_mark T.item) (item_mark T.other_item) ((labels-by_germs s p q (joined-germs s p q T.tied.0) (item_mark T.item)).0 a) b
 
   -- tied items are alike where the other vertex lies in the plane
-  from-tied : (j k : Corner) (T : AreTiedItems s C j k) → dot (item_normal T.item) (toward T.vertex.point T.other_vertex.point) ≡ pos 0 → AreAlike C j k
+  from-tied : (j k : Corner) (T : AreTiedItems s C j k) → dot (item_normal T.item) (toward T.vertex.point T.other_vertex.point) ≡ pos 0 → AreLikeCorners C j k
   from-tied j k T level = record {
     vertex = T.vertex;
     item = T.item;
@@ -50,7 +50,7 @@ module _ (s : Set) (C : Complex) (S : Shows s C) where
   }
 
   -- ---- along an edge
-  module _ (n : ℕ) (e : Edge) (a : At C.edges n e) (i j : ℕ) (A : AreAlong C e i j) where
+  module _ (n : ℕ) (e : Edge) (a : IsAt C.edges n e) (i j : ℕ) (A : AreAlong C e i j) where
     abbrev v : Vertex
     v = A.low_vertex
 
@@ -60,34 +60,34 @@ module _ (s : Set) (C : Complex) (S : Shows s C) where
     W : EdgeWays e v w
     W = edge-ways s C S n e v w a A.ends
 
-    low-corner : IsCorner C (corner_of e.low i) v (arc_item A.low_arc)
+    low-corner : IsCorner C (corner_of_numbers e.low i) v (arc_item A.low_arc)
     low-corner = record { vertex = A.ends.low; item = at-arc v.map.arcs v.map.sloop i A.low_arc A.is_low }
 
     level-along : dot A.low_arc.normal (toward v.point w.point) ≡ pos 0
     level-along =
         let W = edge-ways s C S n e v w a A.ends in
         level-way A.low_arc.normal W.low.dir (toward v.point w.point) (SameDirection-turned (toward v.point w.point) W.low.dir W.onward)
-        (end-level s C S (corner_of e.low i) v A.low_arc low-corner e.low_svertex W.low W.is_low (⊎_elim (λ o. inl o.0) (λ o. inr o.0) A.one_way))
+        (end-level s C S (corner_of_numbers e.low i) v A.low_arc low-corner e.low_svertex W.low W.is_low (⊎_elim (λ o. inl o.0) (λ o. inr o.0) A.one_way))
 
-    pub alike-ends : AreAlike C (corner_of e.low i) (corner_of e.high j)
+    pub alike-ends : AreLikeCorners C (corner_of_numbers e.low i) (corner_of_numbers e.high j)
     alike-ends =
         let T = along-tied s C S n e a i j A in
         let f = at-one C.vertices e.high w T.other_vertex A.ends.high T.other_corner.vertex in
-        from-tied (corner_of e.low i) (corner_of e.high j) T
+        from-tied (corner_of_numbers e.low i) (corner_of_numbers e.high j) T
         (subst (λ (r : Vertex). dot (item_normal T.item) (toward T.vertex.point r.point) ≡ pos 0) f
-        (corner-one C (corner_of e.low i) v T.vertex (arc_item A.low_arc) T.item low-corner T.corner (λ u x. dot (item_normal x) (toward u.point w.point) ≡ pos 0) level-along))
+        (corner-one C (corner_of_numbers e.low i) v T.vertex (arc_item A.low_arc) T.item low-corner T.corner (λ u x. dot (item_normal x) (toward u.point w.point) ≡ pos 0) level-along))
 
-  alike-along : (j k : Corner) → LinkAlong C j k → AreAlike C j k
+  alike-along : (j k : Corner) → LinkAlong C j k → AreLikeCorners C j k
   alike-along j k L =
-      subst (λ (a : ℕ). AreAlike C (corner_of a j.item) k) (sym L.from_low)
-      (subst (λ (b : ℕ). AreAlike C (corner_of L.edge.low j.item) (corner_of b k.item)) (sym L.to_high) (alike-ends L.number L.edge L.is_edge j.item k.item L.along))
+      subst (λ (a : ℕ). AreLikeCorners C (corner_of_numbers a j.item) k) (sym L.from_low)
+      (subst (λ (b : ℕ). AreLikeCorners C (corner_of_numbers L.edge.low j.item) (corner_of_numbers b k.item)) (sym L.to_high) (alike-ends L.number L.edge L.is_edge j.item k.item L.along))
 
   -- ---- across a facet
   module _ (j k : Corner) (L : LinkAcross C j k) where
     abbrev x : Item
     x = L.item
 
-    abbrev p : Place
+    abbrev p : SpacePoint
     p = L.vertex.point
 
     abbrev d : Vector
@@ -100,29 +100,29 @@ module _ (s : Set) (C : Complex) (S : Shows s C) where
     level-d = (through-level (item_normal x) d p).0 (on-level L.vertex.map x d L.inward)
 
     -- the corner that is named lies in the plane
-    named-in : (m : PlaneMeet) → IsFirstInPlane C plane p d m → IsCornerAt C plane (opposite d) m k → (w : Vertex) → At C.vertices k.vertex w → form_at plane w.point ≡ pos 0
+    named-in : (m : PlaneMeet) → IsFirstInPlane C plane p d m → IsCornerAt C plane (opposite d) m k → (w : Vertex) → IsAt C.vertices k.vertex w → form_at plane w.point ≡ pos 0
     named-in (meets_vertex i) I (u, y, e, c, r, o) w a = by I.meets
       where
-        by : (t : Vertex) × At C.vertices i t × SamePlace t.point I.place → form_at plane w.point ≡ pos 0
+        by : (t : Vertex) × IsAt C.vertices i t × SamePoint t.point I.place → form_at plane w.point ≡ pos 0
         by (t, b, same) =
-            let f = at-one C.vertices i t w b (subst (λ (n : ℕ). At C.vertices n w) e a) in
-            plane-ahead plane p w.point d (ahead-same p I.place w.point d (subst (λ (r : Vertex). SamePlace r.point I.place) f same) I.ahead) level-d (through-itself (item_normal x) p)
+            let f = at-one C.vertices i t w b (subst (λ (n : ℕ). IsAt C.vertices n w) e a) in
+            plane-ahead plane p w.point d (ahead-same p I.place w.point d (subst (λ (r : Vertex). SamePoint r.point I.place) f same) I.ahead) level-d (through-itself (item_normal x) p)
     named-in (meets_edge i) I (e, v, c, b, f, l, o, r, side) w a = by I.meets.1
       where
-        by : (g : Edge) × (u : Vertex) × (t : Vertex) × At C.edges i g × HasEnds C g u t × (form_at plane u.point ≡ pos 0) × (form_at plane t.point ≡ pos 0) → form_at plane w.point ≡ pos 0
+        by : (g : Edge) × (u : Vertex) × (t : Vertex) × IsAt C.edges i g × HasEnds C g u t × (form_at plane u.point ≡ pos 0) × (form_at plane t.point ≡ pos 0) → form_at plane w.point ≡ pos 0
         by (g, u, t, h, G, on, also) =
             let same = at-one C.edges i g e h b in
-            let q = at-one C.vertices e.low u w (subst (λ (z : Edge). At C.vertices z.low u) same G.low) (subst (λ (n : ℕ). At C.vertices n w) f a) in
+            let q = at-one C.vertices e.low u w (subst (λ (z : Edge). IsAt C.vertices z.low u) same G.low) (subst (λ (n : ℕ). IsAt C.vertices n w) f a) in
             subst (λ (z : Vertex). form_at plane z.point ≡ pos 0) q on
 
-    alike-across : AreAlike C j k
+    alike-across : AreLikeCorners C j k
     alike-across =
         let T = across-tied s C S j k L in
         let N = L.named in
         let e = sym (through-at (item_normal x) p T.other_vertex.point) ∙ named-in N.0 N.1 N.2 T.other_vertex T.other_corner.vertex in
         from-tied j k T (corner-one C j L.vertex T.vertex x T.item L.corner T.corner (λ u y. dot (item_normal y) (toward u.point T.other_vertex.point) ≡ pos 0) e)
 
-  pub alike : (j k : Corner) → FacetLink C j k → AreAlike C j k
+  pub alike : (j k : Corner) → FacetLink C j k → AreLikeCorners C j k
   alike j k (inl L) = alike-along j k L
   alike j k (inr L) = alike-across j k L
 
@@ -136,7 +136,7 @@ IsLabelAt C l k = (v : Vertex) (x : Item) → IsCorner C k v x → l ≡ item_ma
 turned-level : (n m d : Vector) → SameDirection n m → dot n d ≡ pos 0 → dot m d ≡ pos 0
 turned-level n m d w z = dot-comm m d ∙ level-way d n m w (dot-comm d n ∙ z)
 
-module _ (C : Complex) (j k : Corner) (A : AreAlike C j k) where
+module _ (C : Complex) (j k : Corner) (A : AreLikeCorners C j k) where
   form-onward : (h : Form) → IsFormAt C h j → IsFormAt C h k
   form-onward h f v x c =
       let r = f A.vertex A.item A.corner in

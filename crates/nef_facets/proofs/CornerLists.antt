@@ -1,5 +1,5 @@
 -- Lists of corners.
-use Rattle.nef_facets.proofs.Prelude.{◌≡◌, ℕ, zero, suc, ◌+◌, ◌<◌, pos, List, [], ◌∷◌, ◌++◌, length, arith, refl, ap, sym, ◌∙◌, subst, inl, inr, ⊎_elim, ◌⊎◌, append_assoc, length-append, ints, IsAt, At, items, at-one, Either, earlier, last, is-at_either, is-at_last, is-at_left, is-at_within, is-at_some, less-or-last, some-at, at-within, Vertex as PlainVertex, Complex as PlainComplex, Corner, corner_of, IsCornerBelow, corner_from, corners_at, HasItem, AreCorners, StandFrom}
+use Rattle.nef_facets.proofs.Prelude.{◌≡◌, ℕ, zero, suc, ◌+◌, ◌<◌, pos, List, [], ◌∷◌, ◌++◌, length, arith, refl, ap, sym, ◌∙◌, subst, inl, inr, ⊎_elim, ◌⊎◌, append_assoc, length-append, ints, IsAt, items, at-one, Either, earlier, last, is-at_either, is-at_last, is-at_left, is-at_within, is-at_some, less-or-last, some-at, at-within, Vertex as PlainVertex, Complex as PlainComplex, Corner, corner_of, IsCornerBelow, corner_from, corners_at, HasItem, AreCorners, StandFrom}
 use Rattle.law_complex.specs.Complexes.{Corner as PlainCorner}
 use Rattle.nef_facets.proofs.Lists.{is-at_parts, is-at_second}
 
@@ -38,7 +38,7 @@ pub record AreCornersTo (C : PlainComplex) (n : ℕ) (ks : List Corner) : Type 0
 pub no-corners : (C : PlainComplex) → AreCornersTo C 0 []
 no-corners C = record { each = λ i k a. cc; all = λ k h l. absurd (omega arith); ordered = λ i j x y l a b. cc }
 
-module _ (C : PlainComplex) (n : ℕ) (ks : List Corner) (A : AreCornersTo C n ks) (u : PlainVertex) (m : ℕ) (at : At C.vertices n u) (count : m ≡ length (items u.map)) where
+module _ (C : PlainComplex) (n : ℕ) (ks : List Corner) (A : AreCornersTo C n ks) (u : PlainVertex) (m : ℕ) (at : IsAt C.vertices n u) (count : m ≡ length (items u.map)) where
   abbrev new : List Corner
   new = ks ++ corners_at n m
 
@@ -58,7 +58,7 @@ module _ (C : PlainComplex) (n : ℕ) (ks : List Corner) (A : AreCornersTo C n k
     where
       here : (k : PlainCorner) → HasItem C k → k.vertex ≡ n → (i : ℕ) × IsAt new i (corner_from k)
       here k (v, x, c) e =
-          let f = at-one C.vertices n v u (subst (λ (i : ℕ). At C.vertices i v) e c.vertex) at in
+          let f = at-one C.vertices n v u (subst (λ (i : ℕ). IsAt C.vertices i v) e c.vertex) at in
           let w = at-within (items v.map) k.item x c.item in
           let g : length (items v.map) ≡ length (items u.map) = ap (λ (r : PlainVertex). length (items r.map)) f in
           (length ks + k.item, is-at_second ks (corners_at n m) k.item (corner_from k) (subst (λ (i : ℕ). IsAt (corners_at n m) k.item (corner i k.item)) (sym e) (corners-have n m k.item (omega arith))))
@@ -95,7 +95,7 @@ starts-next ks starts n m e S i k a = by (is-at_parts ks (corners_at n m) i k a)
         let t : k.item ≡ j = ap (λ (t : Corner). t.item) r.1 in
         (length ks, subst (λ (x : ℕ). IsAt (starts ++ length ks ∷ []) x (length ks)) v (is-at_last starts (length ks)), omega (arith, g, t))
 
-pub all-corners : (C : PlainComplex) (n : ℕ) (ks : List Corner) → AreCornersTo C n ks → ((k : ℕ) (v : PlainVertex) → At C.vertices k v → k < n) → AreCorners C ks
+pub all-corners : (C : PlainComplex) (n : ℕ) (ks : List Corner) → AreCornersTo C n ks → ((k : ℕ) (v : PlainVertex) → IsAt C.vertices k v → k < n) → AreCorners C ks
 all-corners C n ks A within = record {
   each = λ i k a. (A.each i k a).0;
   all = λ k h. A.all k h (within k.vertex h.0 h.2.vertex);

@@ -1,5 +1,5 @@
 -- Orbits of the next corners are cycles, and those of one facet are its cycles.
-use Rattle.nef_facets.proofs.Prelude.{◌≡◌, ℕ, zero, suc, ◌<◌, List, [], ◌∷◌, length, map, arith, refl, ap, sym, subst, Option, Some, Result, Ok, Err, IfOk, All, IsAt, Chained, Set, At, chain-here, chain-trans, is-at_one, is-at_within, is-at_some, is-at_is, some-at, at-some, at-map, map-at, Complex as PlainComplex, Shows, Corner, corner_of, FacetLink, Cycle, NextCorner, IsCornerBelow, StepsTo, IsCycle, IsCycleBelow, Cycles, IsFacetOf, FacetNumbers, cycle_corners, AreInOrder, AreCorners, corner_from, AreNext, IsStep, StepsOver, IsOrbit, AreOrbits, AreCornersOf, AreNumbered, IsCycleOf, AreGrouped, is-at_none, is-at_first}
+use Rattle.nef_facets.proofs.Prelude.{◌≡◌, ℕ, zero, suc, ◌<◌, List, [], ◌∷◌, length, map, arith, refl, ap, sym, subst, Option, Some, Result, Ok, Err, IfOk, All, IsAt, Chained, Set, chain-here, chain-trans, is-at_one, is-at_within, is-at_some, is-at_is, some-at, at-some, at-map, map-at, Complex as PlainComplex, Shows, Corner, corner_of, FacetLink, Cycle, NextCorner, IsCornerBelow, StepsTo, IsCycle, IsCycleBelow, Cycles, IsFacetOf, FacetNumbers, cycle_corners, CornersAreInOrder, AreCorners, corner_from, AreNext, IsStep, StepsOver, IsOrbit, AreOrbits, AreCornersOf, AreNumberedOrbits, IsCycleOf, AreCycleRows, is-at_none, is-at_first}
 use Rattle.law_complex.specs.Complexes.{Corner as PlainCorner}
 use Rattle.nef_facets.proofs.FirstCorners.{facet-one, facet-item, item-facet}
 use Rattle.nef_facets.proofs.NextCorners.{next-injective, next-linked}
@@ -28,7 +28,7 @@ next-step s C ks ns S K N = record {
         let r = N.each i (let e = N.as_many in omega arith) in
         (r.0, r.1, r.2, r.3, r.4, subst (λ (m : ℕ). IsAt ks m r.2) (is-at_one ns i r.0 n r.4 a) r.5, r.6)
 
-module _ (C : PlainComplex) (ks : List Corner) (ns : List ℕ) (O : AreInOrder ks) (N : AreNext C ks ns) where
+module _ (C : PlainComplex) (ks : List Corner) (ns : List ℕ) (O : CornersAreInOrder ks) (N : AreNext C ks ns) where
   next-of : (i j : ℕ) (x y : Corner) → IsAt ks i x → IsAt ns i j → IsAt ks j y → NextCorner C (corner_of x) (corner_of y)
   next-of i j x y a b d =
       let r = N.each i (is-at_within ks i x a) in
@@ -60,13 +60,13 @@ module _ (C : PlainComplex) (ks : List Corner) (ns : List ℕ) (O : AreInOrder k
   orbit-cycle (i ∷ is) (x ∷ xs) B A = let a = A.each 0 i x refl refl in (steps-to i is i x xs x B.0 (rest i is x xs A) a a, above i is x xs B.1 (rest i is x xs A) a)
 
 -- ---- the corners of a cycle are of one facet
-steps-chained : (C : PlainComplex) (j : PlainCorner) (ks : List PlainCorner) (z : PlainCorner) → StepsTo C j ks z → (k : ℕ) (x : PlainCorner) → At (j ∷ ks) k x → Chained (FacetLink C) j x
+steps-chained : (C : PlainComplex) (j : PlainCorner) (ks : List PlainCorner) (z : PlainCorner) → StepsTo C j ks z → (k : ℕ) (x : PlainCorner) → IsAt (j ∷ ks) k x → Chained (FacetLink C) j x
 steps-chained C j [] z s zero x a = subst (λ (y : PlainCorner). Chained (FacetLink C) j y) (is-at_first a) (chain-here (FacetLink C) j)
 steps-chained C j [] z s (suc k) x a = absurd (is-at_none a)
 steps-chained C j (y ∷ ks) z (s, t) zero x a = subst (λ (w : PlainCorner). Chained (FacetLink C) j w) (is-at_first a) (chain-here (FacetLink C) j)
 steps-chained C j (y ∷ ks) z (s, t) (suc k) x a = chain-trans (FacetLink C) j y x (next-linked C j y s) (steps-chained C y ks z t k x a)
 
-cycle-chained : (C : PlainComplex) (ys : List PlainCorner) → IsCycle C ys → (j x : PlainCorner) (k : ℕ) → At ys 0 j → At ys k x → Chained (FacetLink C) j x
+cycle-chained : (C : PlainComplex) (ys : List PlainCorner) → IsCycle C ys → (j x : PlainCorner) (k : ℕ) → IsAt ys 0 j → IsAt ys k x → Chained (FacetLink C) j x
 cycle-chained C [] B j x k a b = absurd B
 cycle-chained C (y ∷ ys) B j x k a b = subst (λ (w : PlainCorner). Chained (FacetLink C) w x) (is-at_first a) (steps-chained C y ys y B.0 k x b)
 
@@ -90,7 +90,7 @@ module _ (C : PlainComplex) (rows : List (List ℕ)) (F : FacetNumbers C rows) (
     first-number : IsFacetOf rows (corner_of first-corner.0) n
     first-number = subst (λ (x : Corner). IsFacetOf rows (corner_of x) n) (is-at_one ks Y.first Y.corner first-corner.0 Y.is_corner first-corner.2) Y.number
 
-    one-number : (k : ℕ) (x : PlainCorner) → At (map corner_of y.corners) k x → IsFacetOf rows x n
+    one-number : (k : ℕ) (x : PlainCorner) → IsAt (map corner_of y.corners) k x → IsFacetOf rows x n
     one-number k x a =
         let p = map-at corner_of y.corners k x a in
         let w = is-at_some Y.orbit k (let h = is-at_within y.corners k p.0 (at-some y.corners k p.0 p.1) in let e = (Y.corners).as_many in omega arith) in
@@ -101,11 +101,11 @@ module _ (C : PlainComplex) (rows : List (List ℕ)) (F : FacetNumbers C rows) (
         let e = (F.numbered.by_class (corner_of f.0) x n l.0 first-number l.1).1 c in
         subst (λ (q : ℕ). IsFacetOf rows x q) (sym e) l.1
 
-  module _ (ys : List (List Cycle)) (G : AreGrouped rows ks orbits (length orbits) ys) (n : ℕ) (row : List Cycle) (at : IsAt ys n row) where
+  module _ (ys : List (List Cycle)) (G : AreCycleRows rows ks orbits (length orbits) ys) (n : ℕ) (row : List Cycle) (at : IsAt ys n row) where
     abbrev row_cycle : Cycle → List PlainCorner
     row_cycle y = map corner_of y.corners
 
-    listed : (j : PlainCorner) → IsFacetOf rows j n → (i : ℕ) × (k : ℕ) × (x : List PlainCorner) × At (cycle_corners row) i x × At x k j
+    listed : (j : PlainCorner) → IsFacetOf rows j n → (i : ℕ) × (k : ℕ) × (x : List PlainCorner) × IsAt (cycle_corners row) i x × IsAt x k j
     listed j h =
         let p = K.all j (facet-item C rows F j n h) in
         let o = B.all p.0 (let l = is-at_within ks p.0 (corner_from j) p.1 in let e = N.as_many in omega arith) in
@@ -117,12 +117,12 @@ module _ (C : PlainComplex) (rows : List (List ℕ)) (F : FacetNumbers C rows) (
         let b : IsAt Y.orbit k p.0 = subst (λ (w : List ℕ). IsAt w k p.0) same o.4 in
         let x = is-at_some y.corners k (let l = is-at_within Y.orbit k p.0 b in let e = (Y.corners).as_many in omega arith) in
         let e = is-at_one ks p.0 x.0 (corner_from j) ((Y.corners).each k p.0 x.0 b x.1) p.1 in
-        let a : At (row_cycle y) k j = subst (λ (w : PlainCorner). At (row_cycle y) k w) (ap corner_of e) (at-map corner_of y.corners k x.0 (some-at y.corners k x.0 x.1)) in
+        let a : IsAt (row_cycle y) k j = subst (λ (w : PlainCorner). IsAt (row_cycle y) k w) (ap corner_of e) (at-map corner_of y.corners k x.0 (some-at y.corners k x.0 x.1)) in
         let f = facet-one rows j g.0 n (one-number g.0 m y Y k j a) h in
         let r = is-at_one ys n g.2 row (subst (λ (q : ℕ). IsAt ys q g.2) f g.4) at in
         (g.1, k, row_cycle y, at-map row_cycle row g.1 y (some-at row g.1 y (subst (λ (w : List Cycle). IsAt w g.1 y) r g.5)), a)
 
-    below : (q r : ℕ) (x z : List PlainCorner) → q < r → At (cycle_corners row) q x → At (cycle_corners row) r z → IsCycleBelow x z
+    below : (q r : ℕ) (x z : List PlainCorner) → q < r → IsAt (cycle_corners row) q x → IsAt (cycle_corners row) r z → IsCycleBelow x z
     below q r x z h a b =
         let u = map-at row_cycle row q x a in
         let v = map-at row_cycle row r z b in
@@ -132,8 +132,8 @@ module _ (C : PlainComplex) (rows : List (List ℕ)) (F : FacetNumbers C rows) (
         let l = B.ordered g.0 g.1 g.3.first g.4.first g.3.orbit g.4.orbit g.2 g.3.listed g.4.listed g.3.is_first g.4.is_first in (
           corner_of f.0,
           corner_of e.0,
-          subst (λ (w : List PlainCorner). At w 0 (corner_of f.0)) u.2 (at-map corner_of (u.0).corners 0 f.0 (some-at (u.0).corners 0 f.0 f.1)),
-          subst (λ (w : List PlainCorner). At w 0 (corner_of e.0)) v.2 (at-map corner_of (v.0).corners 0 e.0 (some-at (v.0).corners 0 e.0 e.1)),
+          subst (λ (w : List PlainCorner). IsAt w 0 (corner_of f.0)) u.2 (at-map corner_of (u.0).corners 0 f.0 (some-at (u.0).corners 0 f.0 f.1)),
+          subst (λ (w : List PlainCorner). IsAt w 0 (corner_of e.0)) v.2 (at-map corner_of (v.0).corners 0 e.0 (some-at (v.0).corners 0 e.0 e.1)),
           K.ordered g.3.first g.4.first f.0 e.0 l f.2 e.2,
         )
 
@@ -146,19 +146,19 @@ module _ (C : PlainComplex) (rows : List (List ℕ)) (F : FacetNumbers C rows) (
       within = λ i k x j a b.
           let u = map-at row_cycle row i x a in
           let g = G.each n i row u.0 at (at-some row i u.0 u.1) in
-          one-number n g.0 u.0 g.2 k j (subst (λ (w : List PlainCorner). At w k j) (sym u.2) b);
+          one-number n g.0 u.0 g.2 k j (subst (λ (w : List PlainCorner). IsAt w k j) (sym u.2) b);
       complete = listed;
       ordered = below;
     }
 
 pub cycles-ok : {E : Type 0} (C : PlainComplex) (rows : List (List ℕ)) (F : FacetNumbers C rows) (ks : List Corner) (K : AreCorners C ks) (ns : List ℕ) (N : AreNext C ks ns) (orbits : List (List ℕ)) (B : AreOrbits ns orbits)
-    (r : Result (List (List Cycle)) E) → IfOk r (λ ys. AreGrouped rows ks orbits (length orbits) ys) → IfOk r (λ ys. (n : ℕ) (row : List Cycle) → IsAt ys n row → Cycles C (λ k. IsFacetOf rows k n) (cycle_corners row))
+    (r : Result (List (List Cycle)) E) → IfOk r (λ ys. AreCycleRows rows ks orbits (length orbits) ys) → IfOk r (λ ys. (n : ℕ) (row : List Cycle) → IsAt ys n row → Cycles C (λ k. IsFacetOf rows k n) (cycle_corners row))
 cycles-ok C rows F ks K ns N orbits B (Ok ys) G = λ n row a. facet-cycles C rows F ks K ns N orbits B ys G n row a
 cycles-ok C rows F ks K ns N orbits B (Err e) G = G
 
 -- what the grouping asks
 pub are-numbered : (C : PlainComplex) (rows : List (List ℕ)) (ks : List Corner) (ns : List ℕ) (orbits : List (List ℕ)) (count : ℕ) → FacetNumbers C rows → AreCorners C ks → AreNext C ks ns → AreOrbits ns orbits
-    → ((i : ℕ) (k : Corner) (n : ℕ) → IsAt ks i k → IsFacetOf rows (corner_of k) n → n < count) → AreNumbered rows ks orbits count
+    → ((i : ℕ) (k : Corner) (n : ℕ) → IsAt ks i k → IsFacetOf rows (corner_of k) n → n < count) → AreNumberedOrbits rows ks orbits count
 are-numbered C rows ks ns orbits count F K N B below = record {
   some = λ m x a. some x (B.each m x a);
   within = λ m k i x a b. let h = within x (B.each m x a) k i b in let e = N.as_many in omega arith;

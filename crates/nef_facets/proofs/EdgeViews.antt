@@ -1,5 +1,5 @@
 -- Edges seen from either of their ends.
-use Rattle.nef_facets.proofs.Prelude.{◌≡◌, ℕ, sym, inl, inr, ⊎_elim, subst, cases_order, SamePlace, toward, IsBetween, Set, opposite, SameDirection, IsOpposite, ahead, between-turned, place_below-apart, same-place_sym, At, MapVertex, at-one, Vertex, Edge, Complex, HasEnds, Shows, ahead-back, opposites-same, IsTied, tied-turned, EdgeWays, edge-ways, ends-tied, Leads, SameDirection-turned, SameDirection-trans, opposite-turned, opposite-way}
+use Rattle.nef_facets.proofs.Prelude.{◌≡◌, ℕ, sym, inl, inr, ⊎_elim, subst, cases_order, SamePoint, toward, IsBetween, Set, opposite, SameDirection, IsOpposite, ahead, between-turned, point_below-apart, same-point_sym, IsAt, MapVertex, at-one, Vertex, Edge, Complex, HasEnds, Shows, ahead-back, opposites-same, IsTied, tied-turned, EdgeWays, edge-ways, ends-tied, Leads, SameDirection-turned, SameDirection-trans, opposite-turned, opposite-way}
 use Rattle.nef_conn.proofs.SameRay.{on-ray}
 
 -- an edge from svertex a of vertex i to svertex b of vertex j
@@ -8,20 +8,20 @@ pub record EdgeFrom (s : Set) (C : Complex) (i a j b : ℕ) : Type 0 where
   pub to : Vertex
   pub start : MapVertex
   pub end : MapVertex
-  pub is_from : At C.vertices i from
-  pub is_to : At C.vertices j to
-  pub is_start : At from.map.svertices a start
-  pub is_end : At to.map.svertices b end
+  pub is_from : IsAt C.vertices i from
+  pub is_to : IsAt C.vertices j to
+  pub is_start : IsAt from.map.svertices a start
+  pub is_end : IsAt to.map.svertices b end
   pub onward : SameDirection (toward from.point to.point) start.dir
   pub back : IsOpposite start.dir end.dir
-  pub clear : (k : ℕ) (v : Vertex) → At C.vertices k v → IsBetween from.point v.point to.point → ⊥
+  pub clear : (k : ℕ) (v : Vertex) → IsAt C.vertices k v → IsBetween from.point v.point to.point → ⊥
   pub tied : IsTied s (ahead s from.point start.dir) (ahead s to.point end.dir)
 
 relabelled : (s : Set) (C : Complex) (i a j b i' a' j' b' : ℕ) → i ≡ i' → a ≡ a' → j ≡ j' → b ≡ b' → EdgeFrom s C i a j b → EdgeFrom s C i' a' j' b'
 relabelled s C i a j b i' a' j' b' e f g h V =
     subst (λ (r : ℕ). EdgeFrom s C i' a' j' r) h (subst (λ (r : ℕ). EdgeFrom s C i' a' r b) g (subst (λ (r : ℕ). EdgeFrom s C i' r j b) f (subst (λ (r : ℕ). EdgeFrom s C r a j b) e V)))
 
-module _ (s : Set) (C : Complex) (S : Shows s C) (n : ℕ) (e : Edge) (at_n : At C.edges n e) where
+module _ (s : Set) (C : Complex) (S : Shows s C) (n : ℕ) (e : Edge) (at_n : IsAt C.edges n e) where
   abbrev low : Vertex
   low = (S.edges.edges n e at_n).low_vertex
 
@@ -34,7 +34,7 @@ module _ (s : Set) (C : Complex) (S : Shows s C) (n : ℕ) (e : Edge) (at_n : At
   abbrev W : EdgeWays e low high
   W = edge-ways s C S n e low high at_n ends
 
-  clear-low : (k : ℕ) (v : Vertex) → At C.vertices k v → IsBetween low.point v.point high.point → ⊥
+  clear-low : (k : ℕ) (v : Vertex) → IsAt C.vertices k v → IsBetween low.point v.point high.point → ⊥
   clear-low k v a b = let E = S.edges.edges n e at_n in E.first k v a b
 
   from-low : EdgeFrom s C e.low e.low_svertex e.high e.high_svertex
@@ -83,12 +83,12 @@ module _ (s : Set) (C : Complex) (S : Shows s C) (i a i' a' j b : ℕ) (V : Edge
   one-to = at-one C.vertices j W.to V.to W.is_to V.is_to
 
   one-end : W.end ≡ V.end
-  one-end = at-one V.to.map.svertices b W.end V.end (subst (λ (r : Vertex). At r.map.svertices b W.end) one-to W.is_end) V.is_end
+  one-end = at-one V.to.map.svertices b W.end V.end (subst (λ (r : Vertex). IsAt r.map.svertices b W.end) one-to W.is_end) V.is_end
 
   other-way : SameDirection (toward V.to.point W.from.point) V.end.dir
   other-way = subst (λ (r : MapVertex). SameDirection (toward V.to.point W.from.point) r.dir) one-end (subst (λ (r : Vertex). SameDirection (toward r.point W.from.point) W.end.dir) one-to (back-way s C i' a' j b W))
 
-  same-point : SamePlace V.from.point W.from.point
+  same-point : SamePoint V.from.point W.from.point
   same-point = ⊎_elim
       (λ h. absurd (W.clear i V.from V.is_from (subst (λ (r : Vertex). IsBetween W.from.point V.from.point r.point) (sym one-to) (between-turned V.to.point W.from.point V.from.point h))))
       (λ o. ⊎_elim (λ e. e) (λ h. absurd (V.clear i' W.from W.is_from (between-turned V.to.point V.from.point W.from.point h))) o)
@@ -96,14 +96,14 @@ module _ (s : Set) (C : Complex) (S : Shows s C) (i a i' a' j b : ℕ) (V : Edge
 
   pub one-vertex : i ≡ i'
   one-vertex = ⊎_elim (λ e. e) (λ o. ⊎_elim
-      (λ l. absurd (place_below-apart V.from.point W.from.point (S.ordered i i' V.from W.from l V.is_from W.is_from) same-point))
-      (λ l. absurd (place_below-apart W.from.point V.from.point (S.ordered i' i W.from V.from l W.is_from V.is_from) (same-place_sym V.from.point W.from.point same-point))) o) (cases_order i i')
+      (λ l. absurd (point_below-apart V.from.point W.from.point (S.ordered i i' V.from W.from l V.is_from W.is_from) same-point))
+      (λ l. absurd (point_below-apart W.from.point V.from.point (S.ordered i' i W.from V.from l W.is_from V.is_from) (same-point_sym V.from.point W.from.point same-point))) o) (cases_order i i')
 
   pub one-from : W.from ≡ V.from
-  one-from = at-one C.vertices i W.from V.from (subst (λ (r : ℕ). At C.vertices r W.from) (sym one-vertex) W.is_from) V.is_from
+  one-from = at-one C.vertices i W.from V.from (subst (λ (r : ℕ). IsAt C.vertices r W.from) (sym one-vertex) W.is_from) V.is_from
 
   pub one-svertex : a ≡ a'
   one-svertex =
       let M = (S.cones i V.from V.is_from).valid.shaped in
-      M.svertices_apart a a' V.start W.start V.is_start (subst (λ (r : Vertex). At r.map.svertices a' W.start) one-from W.is_start)
+      M.svertices_apart a a' V.start W.start V.is_start (subst (λ (r : Vertex). IsAt r.map.svertices a' W.start) one-from W.is_start)
       (opposites-same V.end.dir V.start.dir W.start.dir (opposite-turned V.start.dir V.end.dir V.back) (subst (λ (r : MapVertex). IsOpposite r.dir W.start.dir) one-end (opposite-turned W.start.dir W.end.dir W.back)))

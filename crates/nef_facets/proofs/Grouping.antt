@@ -1,11 +1,11 @@
 -- The cycles of orbits in rows, one orbit after the other.
-use Rattle.nef_facets.proofs.Prelude.{◌≡◌, ℕ, ◌+◌, ◌<◌, ◌≤◌, List, [], ◌∷◌, ◌++◌, length, arith, sym, ◌⊎◌, inl, inr, ⊎_elim, subst, set, cases_order, IsAt, Either, earlier, last, is-at_either, is-at_last, is-at_left, is-at_one, is-at_within, less-or-last, Corner, Cycle, AreCornersOf, IsCycleOf, AreGrouped, set-same, set-other, set-at}
-use Rattle.nef_facets.proofs.Lists.{AreEach}
+use Rattle.nef_facets.proofs.Prelude.{◌≡◌, ℕ, ◌+◌, ◌<◌, ◌≤◌, List, [], ◌∷◌, ◌++◌, length, arith, sym, ◌⊎◌, inl, inr, ⊎_elim, subst, set, cases_order, IsAt, Either, earlier, last, is-at_either, is-at_last, is-at_left, is-at_one, is-at_within, less-or-last, Corner, Cycle, AreCornersOf, IsCycleOf, AreCycleRows, set-same, set-other, set-at}
+use Rattle.nef_facets.proofs.Lists.{HasOneForEach}
 
-pub corners-of : (ks : List Corner) (is : List ℕ) (n : ℕ) (xs : List Corner) → AreEach (λ (x : Corner) (i : ℕ). IsAt ks i x) n xs is → length is ≤ n → AreCornersOf ks is xs
+pub corners-of : (ks : List Corner) (is : List ℕ) (n : ℕ) (xs : List Corner) → HasOneForEach (λ (x : Corner) (i : ℕ). IsAt ks i x) n xs is → length is ≤ n → AreCornersOf ks is xs
 corners-of ks is n xs E h = record { as_many = let e = E.as_many in let l = E.within in omega arith; each = λ k i x a b. E.each k x i b a }
 
-pub grouped-none : (rows : List (List ℕ)) (ks : List Corner) (orbits : List (List ℕ)) (ys : List (List Cycle)) → ((n : ℕ) (row : List Cycle) → IsAt ys n row → row ≡ []) → AreGrouped rows ks orbits 0 ys
+pub grouped-none : (rows : List (List ℕ)) (ks : List Corner) (orbits : List (List ℕ)) (ys : List (List Cycle)) → ((n : ℕ) (row : List Cycle) → IsAt ys n row → row ≡ []) → AreCycleRows rows ks orbits 0 ys
 grouped-none rows ks orbits ys none = record {
   each = λ n q row y a b. absurd (no q y (subst (λ (r : List Cycle). IsAt r q y) (none n row a) b));
   all = λ m h. absurd (omega arith);
@@ -15,7 +15,7 @@ grouped-none rows ks orbits ys none = record {
     no : (q : ℕ) (y : Cycle) → IsAt {X = Cycle} [] q y → ⊥
     no q y a = cc
 
-module _ (rows : List (List ℕ)) (ks : List Corner) (orbits : List (List ℕ)) (i : ℕ) (ys : List (List Cycle)) (G : AreGrouped rows ks orbits i ys)
+module _ (rows : List (List ℕ)) (ks : List Corner) (orbits : List (List ℕ)) (i : ℕ) (ys : List (List Cycle)) (G : AreCycleRows rows ks orbits i ys)
     (n : ℕ) (row : List Cycle) (at : IsAt ys n row) (y : Cycle) (Y : IsCycleOf rows ks orbits n i y) where
   abbrev longer : List Cycle
   longer = row ++ y ∷ []
@@ -54,7 +54,7 @@ module _ (rows : List (List ℕ)) (ks : List Corner) (orbits : List (List ℕ)) 
       (λ e. (longer, subst (λ (p : ℕ). IsAt new p longer) (sym e) here, is-at_left row (y ∷ []) q z (subst (λ (v : List Cycle). IsAt v q z) (is-at_one ys n w row (subst (λ (p : ℕ). IsAt ys p w) e a) at) b)))
       (λ o. (w, set-other ys n j longer w (⊎_elim (λ l e. absurd (omega arith)) (λ l e. absurd (omega arith)) o) a, b)) (cases_order j n)
 
-  pub grouped-more : AreGrouped rows ks orbits (i + 1) new
+  pub grouped-more : AreCycleRows rows ks orbits (i + 1) new
   grouped-more = record {
     each = λ j q w z a b. each-row j q w z (set-at ys n j longer w a) b;
     all = λ m h. ⊎_elim

@@ -13,15 +13,15 @@ pub is-at_map : {X Y : Type 0} (f : X → Y) (xs : List X) (k : ℕ) (x : X) →
 is-at_map f xs k x a = at-some (map f xs) k (f x) (at-map f xs k x (some-at xs k x a))
 
 -- one element for each of the first n of a list
-pub record AreEach {A B : Type 0} (P : A → B → Type 0) (n : ℕ) (xs : List A) (ys : List B) : Type 0 where
+pub record HasOneForEach {A B : Type 0} (P : A → B → Type 0) (n : ℕ) (xs : List A) (ys : List B) : Type 0 where
   pub as_many : length xs ≡ n
   pub within : n ≤ length ys
   pub each : (i : ℕ) (x : A) (y : B) → IsAt xs i x → IsAt ys i y → P x y
 
-pub each-none : {A B : Type 0} (P : A → B → Type 0) (ys : List B) → AreEach P 0 [] ys
+pub each-none : {A B : Type 0} (P : A → B → Type 0) (ys : List B) → HasOneForEach P 0 [] ys
 each-none P ys = record { as_many = refl; within = omega arith; each = λ i x y a b. cc }
 
-pub each-more : {A B : Type 0} (P : A → B → Type 0) (n : ℕ) (xs : List A) (ys : List B) (x : A) (y : B) → AreEach P n xs ys → IsAt ys n y → P x y → AreEach P (n + 1) (xs ++ x ∷ []) ys
+pub each-more : {A B : Type 0} (P : A → B → Type 0) (n : ℕ) (xs : List A) (ys : List B) (x : A) (y : B) → HasOneForEach P n xs ys → IsAt ys n y → P x y → HasOneForEach P (n + 1) (xs ++ x ∷ []) ys
 each-more {A} {B} P n xs ys x y E b p = record {
   as_many = let e = E.as_many in let f = length-append xs (x ∷ []) in omega arith;
   within = let h = is-at_within ys n y b in omega arith;

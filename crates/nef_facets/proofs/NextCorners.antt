@@ -1,9 +1,9 @@
 -- Each arc has a next corner, and no two corners have one next corner.
-use Rattle.nef_facets.proofs.Prelude.{◌≡◌, ℕ, ◌+◌, pos, ◌<ℤ◌, ◌+ℤ◌, ◌*ℤ◌, neg_ℤ, arith, refl, ap, sym, ◌∙◌, inl, inr, ⊎_elim, [], ◌∷◌, subst, ints, sign, ring, at, num, ◌⊕◌, ◌⊗◌, Chained, Germ, Place, toward, Set, Vector, opposite, blend, dot, cross, triple, IsDirection, SameDirection, Label, carriers, SameGerms, FlatDim-by_germs, ahead, near-ahead, joined-germs, steep, forms, At, Arc, MapSloop, Item, arc_item, sloop_item, items, item_normal, Map, OnItem, NearLabel, Valid, normal-is, dot-comb, same-plus, same-minus, amount, far-keeps, at-one, arc-at, direction-around, turn-same, at-arc, Vertex, Complex, IsCorner, Shows, near-label, flats-carried, IsInFacetOf, target-met, FacetLink, facet-near, IsTied, tied-turned, tied-both, tied-ahead, end-level, close_way, on-close, tied-close_way, tied-turn, chain-link, chain-turned, IsNextArc, NextCorner, dot-comm, square-cross, nought-if, SameDirection-turned, SameDirection-trans, dir-self, dot-opposite, level-way, opposite-way, direction-right}
+use Rattle.nef_facets.proofs.Prelude.{◌≡◌, ℕ, ◌+◌, pos, ◌<ℤ◌, ◌+ℤ◌, ◌*ℤ◌, neg_ℤ, arith, refl, ap, sym, ◌∙◌, inl, inr, ⊎_elim, [], ◌∷◌, subst, ints, sign, ring, at, num, ◌⊕◌, ◌⊗◌, Chained, Germ, SpacePoint, toward, Set, Vector, opposite, blend, dot, cross, triple, IsDirection, SameDirection, Label, carriers, SameGerms, FlatDim-by_germs, ahead, near-ahead, joined-germs, steep, forms, IsAt, Arc, MapSloop, Item, arc_item, sloop_item, items, item_normal, Map, OnItem, NearLabel, Valid, normal-is, dot-comb, same-plus, same-minus, amount, far-keeps, at-one, arc-at, direction-around, turn-same, at-arc, Vertex, Complex, IsCorner, Shows, near-label, flats-carried, IsInFacetOf, target-met, FacetLink, facet-near, IsTied, tied-turned, tied-both, tied-ahead, end-level, close_way, on-close, tied-close_way, tied-turn, chain-link, chain-turned, IsNextArc, NextCorner, dot-comm, square-cross, nought-if, SameDirection-turned, SameDirection-trans, dir-self, dot-opposite, level-way, opposite-way, direction-right}
 use Rattle.nef_space.proofs.Vectors.{back-triple}
 use Rattle.law_complex.specs.Complexes.{Corner}
 use Rattle.law_complex.proofs.FacetCorners.{ItemAt, item-at}
-use Rattle.law_links.proofs.EdgeEnds.{corner_of, left-turn}
+use Rattle.law_links.proofs.EdgeEnds.{corner_of_numbers, left-turn}
 use Rattle.nef_facets.proofs.EdgeViews.{EdgeFrom, edge-from, one-vertex, one-svertex}
 
 pub turned-level : (n m d : Vector) → SameDirection n m → dot n d ≡ pos 0 → dot m d ≡ pos 0
@@ -13,14 +13,14 @@ turned-level n m d w z = dot-comm m d ∙ level-way d n m w (dot-comm d n ∙ z)
 pub record ArcInto (M : Map) (b : ℕ) (n : Vector) : Type 0 where
   pub number : ℕ
   pub arc : Arc
-  pub listed : At M.arcs number arc
+  pub listed : IsAt M.arcs number arc
   pub target : arc.target ≡ b
   pub one_normal : SameDirection n arc.normal
 
 -- ---- the arc that leaves along the edge
-module _ (s : Set) (C : Complex) (S : Shows s C) (i a j b : ℕ) (V : EdgeFrom s C i a j b) (k : ℕ) (c : Arc) (listed : At V.from.map.arcs k c) (leaves : c.source ≡ a) where
+module _ (s : Set) (C : Complex) (S : Shows s C) (i a j b : ℕ) (V : EdgeFrom s C i a j b) (k : ℕ) (c : Arc) (listed : IsAt V.from.map.arcs k c) (leaves : c.source ≡ a) where
   abbrev here : Corner
-  here = corner_of i k
+  here = corner_of_numbers i k
 
   pub corner : IsCorner C here V.from (arc_item c)
   corner = record { vertex = V.is_from; item = at-arc V.from.map.arcs V.from.map.sloop k c listed }
@@ -71,10 +71,10 @@ module _ (s : Set) (C : Complex) (S : Shows s C) (i a j b : ℕ) (V : EdgeFrom s
   abbrev d : Vector
   d = blend K t 1 f
 
-  abbrev p : Place
+  abbrev p : SpacePoint
   p = ahead s V.from.point way
 
-  abbrev q : Place
+  abbrev q : SpacePoint
   q = ahead s V.to.point d
 
   tied-q : IsTied s p q
@@ -117,7 +117,7 @@ module _ (s : Set) (C : Complex) (S : Shows s C) (i a j b : ℕ) (V : EdgeFrom s
   right : triple n t f <ℤ pos 0
   right = same-minus (neg_ℤ (triple n u f)) (triple n t f) (turn-same n n (opposite u) t f f (dir-self n n-some) t-way (dir-self f f-some) ∙ ap sign (back-triple n u f)) (let h = left in omega (arith, ints))
 
-  by-item : (x : Item) (l : ℕ) → At (items M) l x → OnItem M x d → SameDirection (item_normal x) n → ArcInto M b n
+  by-item : (x : Item) (l : ℕ) → IsAt (items M) l x → OnItem M x d → SameDirection (item_normal x) n → ArcInto M b n
   by-item (arc_item e) l r o w = record {
     number = l;
     arc = e;
@@ -133,14 +133,14 @@ module _ (s : Set) (C : Complex) (S : Shows s C) (i a j b : ℕ) (V : EdgeFrom s
   next-arc = by-item found.item found.number found.listed found.on found.same
 
 -- ---- two arcs that leave one svertex with one normal are one
-module _ (s : Set) (C : Complex) (S : Shows s C) (i a j b : ℕ) (V : EdgeFrom s C i a j b) (k l : ℕ) (c e : Arc) (at-k : At V.from.map.arcs k c) (at-l : At V.from.map.arcs l e) (leaves : c.source ≡ a) (also : e.source ≡ a) (w : SameDirection c.normal e.normal) where
+module _ (s : Set) (C : Complex) (S : Shows s C) (i a j b : ℕ) (V : EdgeFrom s C i a j b) (k l : ℕ) (c e : Arc) (at-k : IsAt V.from.map.arcs k c) (at-l : IsAt V.from.map.arcs l e) (leaves : c.source ≡ a) (also : e.source ≡ a) (w : SameDirection c.normal e.normal) where
   abbrev v : Vertex
   v = V.from
 
-  first : IsCorner C (corner_of i k) v (arc_item c)
+  first : IsCorner C (corner_of_numbers i k) v (arc_item c)
   first = record { vertex = V.is_from; item = at-arc v.map.arcs v.map.sloop k c at-k }
 
-  second : IsCorner C (corner_of i l) v (arc_item e)
+  second : IsCorner C (corner_of_numbers i l) v (arc_item e)
   second = record { vertex = V.is_from; item = at-arc v.map.arcs v.map.sloop l e at-l }
 
   abbrev g : Vector
@@ -153,7 +153,7 @@ module _ (s : Set) (C : Complex) (S : Shows s C) (i a j b : ℕ) (V : EdgeFrom s
   n-is = normal-is (S.cones i v V.is_from).valid.shaped k (arc_item c) first.item
 
   level-is : dot c.normal V.start.dir ≡ pos 0
-  level-is = end-level s C S (corner_of i k) v c first a V.start V.is_start (inl leaves)
+  level-is = end-level s C S (corner_of_numbers i k) v c first a V.start V.is_start (inl leaves)
 
   g-is : IsDirection g
   g-is z = u-is (nought-if c.normal V.start.dir n-is z level-is)
@@ -163,24 +163,24 @@ module _ (s : Set) (C : Complex) (S : Shows s C) (i a j b : ℕ) (V : EdgeFrom s
 
   pub one-arc : k ≡ l
   one-arc = (S.cones i v V.is_from).valid.shaped.no_items_meet k l (arc_item c) (arc_item e)
-      (close_way s C S (corner_of i k) v c first a V.start V.is_start g) first.item second.item
-      (on-close s C S (corner_of i k) v c first a V.start V.is_start g (square-cross c.normal V.start.dir) (inl (leaves, left-is)))
-      (on-close s C S (corner_of i l) v e second a V.start V.is_start g (turned-level c.normal e.normal g w (square-cross c.normal V.start.dir))
+      (close_way s C S (corner_of_numbers i k) v c first a V.start V.is_start g) first.item second.item
+      (on-close s C S (corner_of_numbers i k) v c first a V.start V.is_start g (square-cross c.normal V.start.dir) (inl (leaves, left-is)))
+      (on-close s C S (corner_of_numbers i l) v e second a V.start V.is_start g (turned-level c.normal e.normal g w (square-cross c.normal V.start.dir))
       (inl (also, same-plus (triple c.normal V.start.dir g) (triple e.normal V.start.dir g) (turn-same c.normal e.normal V.start.dir V.start.dir g g w (dir-self V.start.dir u-is) (dir-self g g-is)) left-is)))
 
 -- ---- next corners
 module _ (s : Set) (C : Complex) (S : Shows s C) where
   -- what stands where an arc is no sloop
-  pub arc-no_sloop : (k : Corner) (v w : Vertex) (c : Arc) (l : MapSloop) → At C.vertices k.vertex v → At v.map.arcs k.item c → IsCorner C k w (sloop_item l) → ⊥
+  pub arc-no_sloop : (k : Corner) (v w : Vertex) (c : Arc) (l : MapSloop) → IsAt C.vertices k.vertex v → IsAt v.map.arcs k.item c → IsCorner C k w (sloop_item l) → ⊥
   arc-no_sloop k v w c l a b h =
       let e = at-one C.vertices k.vertex v w a h.vertex in
-      differ (at-one (items w.map) k.item (arc_item c) (sloop_item l) (subst (λ (r : Vertex). At (items r.map) k.item (arc_item c)) e (at-arc v.map.arcs v.map.sloop k.item c b)) h.item)
+      differ (at-one (items w.map) k.item (arc_item c) (sloop_item l) (subst (λ (r : Vertex). IsAt (items r.map) k.item (arc_item c)) e (at-arc v.map.arcs v.map.sloop k.item c b)) h.item)
     where
       differ : ◌≡◌ {A = Item} (arc_item c) (sloop_item l) → ⊥
       differ e = cc
 
   pub corner-same : (i j : Corner) → i.vertex ≡ j.vertex → i.item ≡ j.item → i ≡ j
-  corner-same i j e f = ap (λ (n : ℕ). corner_of n i.item) e ∙ ap (λ (n : ℕ). corner_of j.vertex n) f
+  corner-same i j e f = ap (λ (n : ℕ). corner_of_numbers n i.item) e ∙ ap (λ (n : ℕ). corner_of_numbers j.vertex n) f
 
   arcs-apart : (i j k : Corner) (x : IsNextArc C i k) (y : IsNextArc C j k) → x.that_arc ≡ y.that_arc → i ≡ j
   arcs-apart i j k x y e =
@@ -188,10 +188,10 @@ module _ (s : Set) (C : Complex) (S : Shows s C) where
       let W = subst (λ (c : Arc). EdgeFrom s C j.vertex y.this_arc.source k.vertex c.target) (sym e) (edge-from s C S y.number y.edge y.is_edge j.vertex y.this_arc.source k.vertex y.that_arc.target y.leads) in
       let p = i.vertex in let q = j.vertex in let a = x.this_arc.source in let b = y.this_arc.source in let m = k.vertex in let t = x.that_arc.target in
       let same = one-vertex s C S p a q b m t V W in
-      let there = at-one C.vertices i.vertex y.here V.from (subst (λ (n : ℕ). At C.vertices n y.here) (sym same) y.is_here) V.is_from in
+      let there = at-one C.vertices i.vertex y.here V.from (subst (λ (n : ℕ). IsAt C.vertices n y.here) (sym same) y.is_here) V.is_from in
       let here = at-one C.vertices i.vertex x.here V.from x.is_here V.is_from in
       corner-same i j same
-      (one-arc s C S p a m t V i.item j.item x.this_arc y.this_arc (subst (λ (v : Vertex). At v.map.arcs i.item x.this_arc) here x.is_this) (subst (λ (v : Vertex). At v.map.arcs j.item y.this_arc) there y.is_this)
+      (one-arc s C S p a m t V i.item j.item x.this_arc y.this_arc (subst (λ (v : Vertex). IsAt v.map.arcs i.item x.this_arc) here x.is_this) (subst (λ (v : Vertex). IsAt v.map.arcs j.item y.this_arc) there y.is_this)
       refl (sym (one-svertex s C S p a q b m t V W))
       (SameDirection-trans x.this_arc.normal x.that_arc.normal y.this_arc.normal x.one_normal
       (SameDirection-turned y.this_arc.normal x.that_arc.normal (subst (λ (c : Arc). SameDirection y.this_arc.normal c.normal) (sym e) y.one_normal))))
@@ -199,7 +199,7 @@ module _ (s : Set) (C : Complex) (S : Shows s C) where
   pub next-injective : (i j k : Corner) → NextCorner C i k → NextCorner C j k → i ≡ j
   next-injective i j k (inl x) (inl y) =
       let e = at-one C.vertices k.vertex x.there y.there x.is_there y.is_there in
-      arcs-apart i j k x y (at-one y.there.map.arcs k.item x.that_arc y.that_arc (subst (λ (v : Vertex). At v.map.arcs k.item x.that_arc) e x.is_that) y.is_that)
+      arcs-apart i j k x y (at-one y.there.map.arcs k.item x.that_arc y.that_arc (subst (λ (v : Vertex). IsAt v.map.arcs k.item x.that_arc) e x.is_that) y.is_that)
   next-injective i j k (inl x) (inr (e, v', l, h)) = absurd (arc-no_sloop k x.there v' x.that_arc l x.is_there x.is_that (subst (λ (r : Corner). IsCorner C r v' (sloop_item l)) e h))
   next-injective i j k (inr (e, v', l, h)) (inl y) = absurd (arc-no_sloop k y.there v' y.that_arc l y.is_there y.is_that (subst (λ (r : Corner). IsCorner C r v' (sloop_item l)) e h))
   next-injective i j k (inr x) (inr y) = x.0 ∙ sym y.0
@@ -217,7 +217,7 @@ next-linked C j k (inl x) = ⊎_elim
       along = record {
         low_vertex = x.here;
         high_vertex = x.there;
-        ends = record { low = subst (λ (n : ℕ). At C.vertices n x.here) (sym l.0) x.is_here; high = subst (λ (n : ℕ). At C.vertices n x.there) (sym l.2) x.is_there };
+        ends = record { low = subst (λ (n : ℕ). IsAt C.vertices n x.here) (sym l.0) x.is_here; high = subst (λ (n : ℕ). IsAt C.vertices n x.there) (sym l.2) x.is_there };
         low_arc = x.this_arc;
         high_arc = x.that_arc;
         is_low = x.is_this;
@@ -235,7 +235,7 @@ next-linked C j k (inl x) = ⊎_elim
       along = record {
         low_vertex = x.there;
         high_vertex = x.here;
-        ends = record { low = subst (λ (n : ℕ). At C.vertices n x.there) (sym l.2) x.is_there; high = subst (λ (n : ℕ). At C.vertices n x.here) (sym l.0) x.is_here };
+        ends = record { low = subst (λ (n : ℕ). IsAt C.vertices n x.there) (sym l.2) x.is_there; high = subst (λ (n : ℕ). IsAt C.vertices n x.here) (sym l.0) x.is_here };
         low_arc = x.that_arc;
         high_arc = x.this_arc;
         is_low = x.is_that;

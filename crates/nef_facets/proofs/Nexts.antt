@@ -1,5 +1,5 @@
 -- The next corners of all corners, edge by edge.
-use Rattle.nef_facets.proofs.Prelude.{◌≡◌, ◌≢◌, ℕ, ◌+◌, ◌<◌, ◌≤◌, List, length, arith, refl, ap, sym, ◌∙◌, ◌⊎◌, inl, inr, ⊎_elim, subst, set, cases_order, IsAt, Set, vector_of, At, Arc, Item, arc_item, sloop_item, MapSloop, at-one, arc-at, at-arc, ends-of, SArc, map_of, arc_of, is-at_within, is-at_some, less-or-last, at-map, map-at, at-within, Vertex as PlainVertex, Edge as PlainEdge, Complex as PlainComplex, IsCorner, Shows, svertex-edge, Corner, vertex_of, complex_of, corner_of, Leads, NextCorner, AreInOrder, AreCorners, HasItem, IsArcInto, LeavesFrom, HasNext, AreNext, set-same, set-other}
+use Rattle.nef_facets.proofs.Prelude.{◌≡◌, ◌≢◌, ℕ, ◌+◌, ◌<◌, ◌≤◌, List, length, arith, refl, ap, sym, ◌∙◌, ◌⊎◌, inl, inr, ⊎_elim, subst, set, cases_order, IsAt, Set, vector_of, Arc, Item, arc_item, sloop_item, MapSloop, at-one, arc-at, at-arc, ends-of, SArc, map_of, arc_of, is-at_within, is-at_some, less-or-last, at-map, map-at, at-within, Vertex as PlainVertex, Edge as PlainEdge, Complex as PlainComplex, IsCorner, Shows, svertex-edge, Corner, vertex_of, complex_of, corner_of, Leads, NextCorner, CornersAreInOrder, AreCorners, HasItem, IsArcInto, LeavesFrom, HasNext, AreNext, set-same, set-other}
 use Rattle.nef_complex.specs.declared.complex.Vertex.{Vertex}
 use Rattle.nef_complex.specs.declared.complex.Complex.{Complex}
 use Rattle.nef_facets.proofs.CornerLists.{corner}
@@ -21,7 +21,7 @@ module _ (C : PlainComplex) (ks : List Corner) (old new : List ℕ) (i n : ℕ) 
       (λ o. (q, x, y, f, subst (λ (ns : List ℕ). IsAt ns m q) (sym e) (set-other old i m n q (⊎_elim (λ l d. absurd (omega arith)) (λ l d. absurd (omega arith)) o) g), h, P)) (cases_order m i)
 
 -- ---- the arcs that leave along an edge
-module _ (s : Set) (c : Complex) (S : Shows s (complex_of c)) (n : ℕ) (e : PlainEdge) (listed : At (complex_of c).edges n e) (i a j b : ℕ) (leads : Leads e i a j b) where
+module _ (s : Set) (c : Complex) (S : Shows s (complex_of c)) (n : ℕ) (e : PlainEdge) (listed : IsAt (complex_of c).edges n e) (i a j b : ℕ) (leads : Leads e i a j b) where
   abbrev C : PlainComplex
   C = complex_of c
 
@@ -34,22 +34,22 @@ module _ (s : Set) (c : Complex) (S : Shows s (complex_of c)) (n : ℕ) (e : Pla
   pub to-within : j < length c.vertices
   to-within = let r = map-at vertex_of c.vertices j V.to V.is_to in at-within c.vertices j r.0 r.1
 
-  module _ (u w : Vertex) (p : At c.vertices i u) (q : At c.vertices j w) (k : ℕ) (r : SArc) (l : At u.map.arcs k r) (leaves : r.source ≡ a) where
-    is-here : At C.vertices i (vertex_of u)
+  module _ (u w : Vertex) (p : IsAt c.vertices i u) (q : IsAt c.vertices j w) (k : ℕ) (r : SArc) (l : IsAt u.map.arcs k r) (leaves : r.source ≡ a) where
+    is-here : IsAt C.vertices i (vertex_of u)
     is-here = at-map vertex_of c.vertices i u p
 
-    is-there : At C.vertices j (vertex_of w)
+    is-there : IsAt C.vertices j (vertex_of w)
     is-there = at-map vertex_of c.vertices j w q
 
-    is-this : At (map_of u.map).arcs k (arc_of r)
+    is-this : IsAt (map_of u.map).arcs k (arc_of r)
     is-this = at-map arc_of u.map.arcs k r l
 
     pub into : (m : ℕ) × IsArcInto (map_of w.map) b (vector_of r.normal) m
     into =
         let f = at-one C.vertices i (vertex_of u) V.from is-here V.is_from in
         let g = at-one C.vertices j V.to (vertex_of w) V.is_to is-there in
-        let A = next-arc s C S i a j b V k (arc_of r) (subst (λ (v : PlainVertex). At v.map.arcs k (arc_of r)) f is-this) leaves in
-        (A.number, (A.arc, subst (λ (v : PlainVertex). At v.map.arcs A.number A.arc) g A.listed, A.target, A.one_normal))
+        let A = next-arc s C S i a j b V k (arc_of r) (subst (λ (v : PlainVertex). IsAt v.map.arcs k (arc_of r)) f is-this) leaves in
+        (A.number, (A.arc, subst (λ (v : PlainVertex). IsAt v.map.arcs A.number A.arc) g A.listed, A.target, A.one_normal))
 
     pub here-item : HasItem C (corner_of (corner i k))
     here-item = (vertex_of u, arc_item (arc_of r), record { vertex = is-here; item = at-arc (map_of u.map).arcs (map_of u.map).sloop k (arc_of r) is-this })
@@ -77,30 +77,30 @@ module _ (s : Set) (c : Complex) (S : Shows s (complex_of c)) (n : ℕ) (e : Pla
 
 -- ---- arc by arc
 -- the arcs before number n that begin at svertex a of vertex i have their next corners
-pub record AreAdded (C : PlainComplex) (ks : List Corner) (i a n : ℕ) (old new : List ℕ) : Type 0 where
+pub record HaveNextCorners (C : PlainComplex) (ks : List Corner) (i a n : ℕ) (old new : List ℕ) : Type 0 where
   pub as_many : length new ≡ length ks
   pub kept : (m : ℕ) → HasNext C ks old m → HasNext C ks new m
   pub added : (m : ℕ) (k : Corner) → k.item < n → IsAt ks m k → LeavesFrom C (corner_of k) i a → HasNext C ks new m
 
-pub added-none : (C : PlainComplex) (ks : List Corner) (i a : ℕ) (old : List ℕ) → length old ≡ length ks → AreAdded C ks i a 0 old old
+pub added-none : (C : PlainComplex) (ks : List Corner) (i a : ℕ) (old : List ℕ) → length old ≡ length ks → HaveNextCorners C ks i a 0 old old
 added-none C ks i a old e = record { as_many = e; kept = λ m h. h; added = λ m k l. absurd (omega arith) }
 
-module _ (C : PlainComplex) (ks : List Corner) (i a n : ℕ) (start old : List ℕ) (A : AreAdded C ks i a n start old) (u : PlainVertex) (r : Arc) (p : At C.vertices i u) (q : At u.map.arcs n r) where
+module _ (C : PlainComplex) (ks : List Corner) (i a n : ℕ) (start old : List ℕ) (A : HaveNextCorners C ks i a n start old) (u : PlainVertex) (r : Arc) (p : IsAt C.vertices i u) (q : IsAt u.map.arcs n r) where
   -- the arc of a corner that leaves from there
   same-arc : (k : Corner) → k.item ≡ n → LeavesFrom C (corner_of k) i a → (r.source ≡ a) × (k ≡ corner i n)
   same-arc k e (v, t, b, d, f, g) =
-      let x = at-one C.vertices i v u (subst (λ (m : ℕ). At C.vertices m v) f b) p in
-      let y = at-one u.map.arcs n t r (subst (λ (m : ℕ). At u.map.arcs m t) e (subst (λ (w : PlainVertex). At w.map.arcs k.item t) x d)) q in
+      let x = at-one C.vertices i v u (subst (λ (m : ℕ). IsAt C.vertices m v) f b) p in
+      let y = at-one u.map.arcs n t r (subst (λ (m : ℕ). IsAt u.map.arcs m t) e (subst (λ (w : PlainVertex). IsAt w.map.arcs k.item t) x d)) q in
       (sym (ap (λ (z : Arc). z.source) y) ∙ g, ap (λ (m : ℕ). corner m k.item) f ∙ ap (λ (m : ℕ). corner i m) e)
 
-  pub added-pass : r.source ≢ a → AreAdded C ks i a (n + 1) start old
+  pub added-pass : r.source ≢ a → HaveNextCorners C ks i a (n + 1) start old
   added-pass other = record {
     as_many = A.as_many;
     kept = A.kept;
     added = λ m k l b h. ⊎_elim (λ g. A.added m k g b h) (λ e. absurd (other ((same-arc k e h).0))) (less-or-last k.item n l);
   }
 
-  pub added-next : (O : AreInOrder ks) (new : List ℕ) (d f : ℕ) (k : Corner) → IsAt ks d (corner i n) → IsAt ks f k → new ≡ set old d f → length new ≡ length ks → NextCorner C (corner_of (corner i n)) (corner_of k) → AreAdded C ks i a (n + 1) start new
+  pub added-next : (O : CornersAreInOrder ks) (new : List ℕ) (d f : ℕ) (k : Corner) → IsAt ks d (corner i n) → IsAt ks f k → new ≡ set old d f → length new ≡ length ks → NextCorner C (corner_of (corner i n)) (corner_of k) → HaveNextCorners C ks i a (n + 1) start new
   added-next O new d f k at-d at-f e len N = record {
     as_many = len;
     kept = λ m h. set-kept C ks old new d f (corner i n) k at-d at-f e A.as_many N m (A.kept m h);
@@ -111,18 +111,18 @@ module _ (C : PlainComplex) (ks : List Corner) (i a n : ℕ) (start old : List �
         (less-or-last x.item n l);
   }
 
-pub added-all : (C : PlainComplex) (ks : List Corner) (i a n : ℕ) (old new : List ℕ) → AreAdded C ks i a n old new → (u : PlainVertex) → At C.vertices i u → length u.map.arcs ≤ n
+pub added-all : (C : PlainComplex) (ks : List Corner) (i a n : ℕ) (old new : List ℕ) → HaveNextCorners C ks i a n old new → (u : PlainVertex) → IsAt C.vertices i u → length u.map.arcs ≤ n
     → (m : ℕ) (k : Corner) → IsAt ks m k → LeavesFrom C (corner_of k) i a → HasNext C ks new m
 added-all C ks i a n old new A u p h m k b (v, t, d, f, g, e) =
-    let x = at-one C.vertices i v u (subst (λ (r : ℕ). At C.vertices r v) g d) p in
-    let l = at-within u.map.arcs k.item t (subst (λ (w : PlainVertex). At w.map.arcs k.item t) x f) in
+    let x = at-one C.vertices i v u (subst (λ (r : ℕ). IsAt C.vertices r v) g d) p in
+    let l = at-within u.map.arcs k.item t (subst (λ (w : PlainVertex). IsAt w.map.arcs k.item t) x f) in
     A.added m k (omega arith) b (v, t, d, f, g, e)
 
 -- ---- edge by edge
 pub record AreNextTo (C : PlainComplex) (ks : List Corner) (n : ℕ) (ns : List ℕ) : Type 0 where
   pub as_many : length ns ≡ length ks
   pub sloops : (i : ℕ) (k : Corner) (v : PlainVertex) (l : MapSloop) → IsAt ks i k → IsCorner C (corner_of k) v (sloop_item l) → HasNext C ks ns i
-  pub arcs : (m i : ℕ) (e : PlainEdge) (k : Corner) → m < n → At C.edges m e → IsAt ks i k → LeavesFrom C (corner_of k) e.low e.low_svertex ⊎ LeavesFrom C (corner_of k) e.high e.high_svertex → HasNext C ks ns i
+  pub arcs : (m i : ℕ) (e : PlainEdge) (k : Corner) → m < n → IsAt C.edges m e → IsAt ks i k → LeavesFrom C (corner_of k) e.low e.low_svertex ⊎ LeavesFrom C (corner_of k) e.high e.high_svertex → HasNext C ks ns i
 
 pub next-none : (C : PlainComplex) (ks : List Corner) (ns : List ℕ) → length ns ≡ length ks → ((i n : ℕ) → IsAt ns i n → n ≡ i) → AreNextTo C ks 0 ns
 next-none C ks ns e own = record {
@@ -131,7 +131,7 @@ next-none C ks ns e own = record {
   arcs = λ m i f k h. absurd (omega arith);
 }
 
-pub next-more : (C : PlainComplex) (ks : List Corner) (n : ℕ) (ns ms new : List ℕ) (e : PlainEdge) → AreNextTo C ks n ns → At C.edges n e → length new ≡ length ks
+pub next-more : (C : PlainComplex) (ks : List Corner) (n : ℕ) (ns ms new : List ℕ) (e : PlainEdge) → AreNextTo C ks n ns → IsAt C.edges n e → length new ≡ length ks
     → ((i : ℕ) → HasNext C ks ns i → HasNext C ks ms i) → ((i : ℕ) (k : Corner) → IsAt ks i k → LeavesFrom C (corner_of k) e.low e.low_svertex → HasNext C ks ms i)
     → ((i : ℕ) → HasNext C ks ms i → HasNext C ks new i) → ((i : ℕ) (k : Corner) → IsAt ks i k → LeavesFrom C (corner_of k) e.high e.high_svertex → HasNext C ks new i)
     → AreNextTo C ks (n + 1) new
@@ -140,13 +140,13 @@ next-more C ks n ns ms new e A at-n len kept low also high = record {
   sloops = λ i k v l a c. also i (kept i (A.sloops i k v l a c));
   arcs = λ m i f k h b a o. ⊎_elim
       (λ g. also i (kept i (A.arcs m i f k g b a o)))
-      (λ g. let same = at-one C.edges n f e (subst (λ (r : ℕ). At C.edges r f) g b) at-n in
+      (λ g. let same = at-one C.edges n f e (subst (λ (r : ℕ). IsAt C.edges r f) g b) at-n in
       ⊎_elim (λ x. also i (low i k a (subst (λ (d : PlainEdge). LeavesFrom C (corner_of k) d.low d.low_svertex) same x)))
       (λ x. high i k a (subst (λ (d : PlainEdge). LeavesFrom C (corner_of k) d.high d.high_svertex) same x)) o)
       (less-or-last m n h);
 }
 
-module _ (s : Set) (C : PlainComplex) (S : Shows s C) (ks : List Corner) (K : AreCorners C ks) (n : ℕ) (ns : List ℕ) (A : AreNextTo C ks n ns) (all : (m : ℕ) (e : PlainEdge) → At C.edges m e → m < n) where
+module _ (s : Set) (C : PlainComplex) (S : Shows s C) (ks : List Corner) (K : AreCorners C ks) (n : ℕ) (ns : List ℕ) (A : AreNextTo C ks n ns) (all : (m : ℕ) (e : PlainEdge) → IsAt C.edges m e → m < n) where
   at-corner : (i : ℕ) (k : Corner) → IsAt ks i k → (v : PlainVertex) (x : Item) → IsCorner C (corner_of k) v x → HasNext C ks ns i
   at-corner i k a v (sloop_item l) c = A.sloops i k v l a c
   at-corner i k a v (arc_item r) c =

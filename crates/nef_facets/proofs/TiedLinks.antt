@@ -1,5 +1,5 @@
 -- A list that has exactly the ties of links.
-use Rattle.nef_facets.proofs.Prelude.{◌≡◌, ℕ, List, [], map, refl, ap, sym, ◌∙◌, subst, ◌⊎◌, inl, inr, ◌↔◌, arith, Contains, Form, Vector, opposite, plane_dir, At, Item, arc_item, items, item_normal, at-arc, get-from_at, Vertex, Complex, IsCorner, item_plane, PlaneMeet, meets_vertex, meets_edge, IsCornerAt, at-contains, contains-at, got-at, Cell, Tie, IsCellIn, AreTied, AreTiedWithin, LinkAlong, LinkAcross, count_items, cell_of, corner_at, edge_tie, IsTieAlong, IsTieAcross, Any, Adds}
+use Rattle.nef_facets.proofs.Prelude.{◌≡◌, ℕ, List, [], map, refl, ap, sym, ◌∙◌, subst, ◌⊎◌, inl, inr, ◌↔◌, arith, Contains, Form, Vector, opposite, plane_dir, IsAt, Item, arc_item, items, item_normal, at-arc, get-from_at, Vertex, Complex, IsCorner, item_plane, PlaneMeet, meets_vertex, meets_edge, IsCornerAt, at-contains, contains-at, got-at, Cell, Tie, IsCellIn, AreTied, AreTiedWithin, LinkAlong, LinkAcross, count_items, cell_of, corner_at, edge_tie, IsTieAlong, IsTieAcross, Any, Adds}
 use Rattle.nef_smap.proofs.Lists.{map-at, at-within}
 use Rattle.law_complex.specs.Complexes.{Corner}
 
@@ -42,7 +42,7 @@ module _ (C : Complex) where
   met-in : (h : Form) (f : Vector) (m : PlaneMeet) (k : Corner) → IsCornerAt C h f m k → IsCellIn (map count_items C.vertices) (cell_of k)
   met-in h f (meets_vertex i) k (v, x, e, c, r, o) = cell-in k v x c
   met-in h f (meets_edge i) k (e, v, a, l, p, b, t, r, o) =
-      cell-in k v (arc_item a) (record { vertex = subst (λ (j : ℕ). At C.vertices j v) (sym p) b; item = at-arc v.map.arcs v.map.sloop k.item a t })
+      cell-in k v (arc_item a) (record { vertex = subst (λ (j : ℕ). IsAt C.vertices j v) (sym p) b; item = at-arc v.map.arcs v.map.sloop k.item a t })
 
   pub across-in : (j k : Corner) → LinkAcross C j k → IsCellIn (map count_items C.vertices) (cell_of j) × IsCellIn (map count_items C.vertices) (cell_of k)
   across-in j k L =
@@ -54,8 +54,8 @@ module _ (C : Complex) where
       let A = L.along in
       let v = A.low_vertex in
       let w = A.high_vertex in (
-        cell-in j v (arc_item A.low_arc) (record { vertex = subst (λ (i : ℕ). At C.vertices i v) (sym L.from_low) A.ends.low; item = at-arc v.map.arcs v.map.sloop j.item A.low_arc A.is_low }),
-        cell-in k w (arc_item A.high_arc) (record { vertex = subst (λ (i : ℕ). At C.vertices i w) (sym L.to_high) A.ends.high; item = at-arc w.map.arcs w.map.sloop k.item A.high_arc A.is_high }),
+        cell-in j v (arc_item A.low_arc) (record { vertex = subst (λ (i : ℕ). IsAt C.vertices i v) (sym L.from_low) A.ends.low; item = at-arc v.map.arcs v.map.sloop j.item A.low_arc A.is_low }),
+        cell-in k w (arc_item A.high_arc) (record { vertex = subst (λ (i : ℕ). IsAt C.vertices i w) (sym L.to_high) A.ends.high; item = at-arc w.map.arcs w.map.sloop k.item A.high_arc A.is_high }),
       )
 
   -- ---- the ties of links along edges

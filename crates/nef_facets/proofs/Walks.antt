@@ -1,5 +1,5 @@
 -- Walks along the steps, and the orbits that they make.
-use Rattle.nef_facets.proofs.Prelude.{◌≡◌, ℕ, zero, suc, ◌+◌, ◌<◌, ◌≤◌, List, [], ◌∷◌, ◌++◌, length, Bool, true, false, arith, refl, ap, sym, ◌∙◌, ◌⊎◌, inl, inr, ⊎_elim, subst, set, get_or, replicate, Option, Some, length-set, cases_order, length-replicate, get_or-replicate, get_or_from_slice_get, All, IsAt, Either, earlier, last, is-at_either, is-at_last, is-at_left, is-at_one, is-at_within, is-at_some, is-at_get, less-or-last, set-same, set-other, set-at, IsStep, IsClosed, StepsOver, ComesBack, AreMarked, IsOrbit, AreOrbits}
+use Rattle.nef_facets.proofs.Prelude.{◌≡◌, ℕ, zero, suc, ◌+◌, ◌<◌, ◌≤◌, List, [], ◌∷◌, ◌++◌, length, Bool, true, false, arith, refl, ap, sym, ◌∙◌, ◌⊎◌, inl, inr, ⊎_elim, subst, set, get_or, replicate, Option, Some, length-set, cases_order, length-replicate, get_or-replicate, get_or_from_slice_get, All, IsAt, Either, earlier, last, is-at_either, is-at_last, is-at_left, is-at_one, is-at_within, is-at_some, is-at_get, less-or-last, set-same, set-other, set-at, IsStep, IsClosedUnderSteps, StepsOver, ComesBack, AreMarked, IsOrbit, AreOrbits}
 
 -- ---- marks that are left
 abbrev pub unmarked_count : List Bool → ℕ
@@ -119,7 +119,7 @@ module _ (ns : List ℕ) (S : IsStep ns) (start : ℕ) (old : List Bool) (as-man
     }
 
 -- ---- the walk ends where it began
-module _ (ns : List ℕ) (S : IsStep ns) (start : ℕ) (old : List Bool) (free : IsAt old start false) (closed : IsClosed ns old) (now : ℕ) (bs : List Bool) (stop : IsAt bs now true) where
+module _ (ns : List ℕ) (S : IsStep ns) (start : ℕ) (old : List Bool) (free : IsAt old start false) (closed : IsClosedUnderSteps ns old) (now : ℕ) (bs : List Bool) (stop : IsAt bs now true) where
   pub walk-back : (xs : List ℕ) → IsWalk ns start old xs now bs → ComesBack ns start xs
   walk-back [] W = ⊎_elim (λ a. true-not_false old start (subst (λ (i : ℕ). IsAt old i true) W.path a) free) (λ a. none a.0 a.1) (W.marked.only now stop)
     where
@@ -143,13 +143,13 @@ module _ (ns : List ℕ) (S : IsStep ns) (start : ℕ) (old : List Bool) (free :
           absurd (omega arith)
 
 -- ---- what the marks are after a walk
-module _ (ns : List ℕ) (S : IsStep ns) (start : ℕ) (old new : List Bool) (closed : IsClosed ns old) where
+module _ (ns : List ℕ) (S : IsStep ns) (start : ℕ) (old new : List Bool) (closed : IsClosedUnderSteps ns old) where
   led-by : (xs : List ℕ) → ComesBack ns start xs → (k i : ℕ) → IsAt xs k i → (l : ℕ) × (p : ℕ) × IsAt xs l p × IsAt ns p i
   led-by [] B k i a = absurd B
   led-by (j ∷ ks) B zero i a = let r = steps-last ns j ks j B.1 in (length ks, r.0, r.1, subst (λ (n : ℕ). IsAt ns r.0 n) (let e : ◌≡◌ {A = Option ℕ} (Some j) (Some i) = a in cc) r.2)
   led-by (j ∷ ks) B (suc k) i a = let r = steps-before ns j ks j k i B.1 a in (k, r.0, r.1, r.2)
 
-  pub closed-more : (xs : List ℕ) → ComesBack ns start xs → AreMarked xs old new → IsClosed ns new
+  pub closed-more : (xs : List ℕ) → ComesBack ns start xs → AreMarked xs old new → IsClosedUnderSteps ns new
   closed-more xs B M j i a m = ⊎_elim
       (λ b. M.kept j (closed j i a b))
       (λ b. let r = led-by xs B b.0 i b.1 in subst (λ (n : ℕ). IsAt new n true) (S.injective r.1 j i r.3 a) (M.listed r.0 r.1 r.2)) (M.only i m)
@@ -161,7 +161,7 @@ all-of P xs f k d h = f k (get_or xs k d) (is-at_get xs k d h)
 -- the orbits from the numbers below start on
 pub record AreOrbitsTo (ns : List ℕ) (start : ℕ) (xs : List (List ℕ)) (bs : List Bool) : Type 0 where
   pub as_many : length bs ≡ length ns
-  pub closed : IsClosed ns bs
+  pub closed : IsClosedUnderSteps ns bs
   pub below : (i : ℕ) → i < start → i < length ns → IsAt bs i true
   pub each : (m : ℕ) (x : List ℕ) → IsAt xs m x → IsOrbit ns x
   pub all : (i : ℕ) → IsAt bs i true → (m : ℕ) × (k : ℕ) × (x : List ℕ) × IsAt xs m x × IsAt x k i

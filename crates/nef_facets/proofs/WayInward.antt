@@ -1,5 +1,5 @@
 -- The corner that the way inward from an item names.
-use Rattle.nef_facets.proofs.Prelude.{◌≡◌, ℕ, zero, suc, ◌<◌, ◌≤◌, ◌+◌, ◌^◌, ℤ, pos, neg_ℤ, nat_abs, List, [], ◌∷◌, length, map, Option, Some, None, MatchOption, slice_get, arith, refl, sym, subst, ints, Place, Form, normal_of, slope, Set, Vector, opposite, IsAtMost, SameDirection, plane_dir, form_of, ray_limit, plane_dir_limit, Plane, At, Item, items, item_normal, OnItem, at-one, map-from_get, map_of, Vertex, Complex, IsCorner, Shows, PlaneMeet, IsFirstInPlane, IsCornerAt, Corner as ProgramCorner, complex_of, corner_of, vertex_of, ShowsSet, Cell, Tie, LinkAcross, HasNoSvertex, FromVertex, level-of_opposite, IsNamedFrom, IsLinkedFrom, corner_at, IsTieAcross, Any, one-met}
+use Rattle.nef_facets.proofs.Prelude.{◌≡◌, ℕ, zero, suc, ◌<◌, ◌≤◌, ◌+◌, ◌^◌, ℤ, pos, neg_ℤ, nat_abs, List, [], ◌∷◌, length, map, Option, Some, None, MatchOption, slice_get, arith, refl, sym, subst, ints, SpacePoint, Form, normal_of, slope, Set, Vector, opposite, IsAtMost, SameDirection, plane_dir, form_of, ray_limit, plane_dir_limit, Plane, IsAt, Item, items, item_normal, OnItem, at-one, map-from_get, map_of, Vertex, Complex, IsCorner, Shows, PlaneMeet, IsFirstInPlane, IsCornerAt, Corner as ProgramCorner, complex_of, corner_of, vertex_of, ShowsSet, Cell, Tie, LinkAcross, HasNoSvertex, FromVertex, level-of_opposite, IsNamedFrom, IsLinkedFrom, corner_at, IsTieAcross, Any, one-met}
 use Rattle.nef_smap.proofs.Lists.{at-within}
 use Rattle.law_complex.specs.Complexes.{Corner}
 use Rattle.nef_complex.specs.declared.complex.Complex.{Complex as ProgramComplex}
@@ -9,12 +9,12 @@ use Rattle.nef_facets.specs.Carriers.{IsPlaneAt, IsPlaneThrough}
 use Rattle.nef_facets.proofs.AcrossLinks.{linked, unlinked, no-svertex}
 
 -- ---- the corner at what is first met
-module _ (s : Set) (C : Complex) (S : Shows s C) (h : Form) (y : Place) (d b : Vector) (back : b ≡ opposite d) (m : PlaneMeet) (I : IsFirstInPlane C h y d m) where
+module _ (s : Set) (C : Complex) (S : Shows s C) (h : Form) (y : SpacePoint) (d b : Vector) (back : b ≡ opposite d) (m : PlaneMeet) (I : IsFirstInPlane C h y d m) where
   pub named-met : (o : Option ProgramCorner) → MatchOption o ((k : Corner) → IsCornerAt C h b m k → ⊥) (λ k. IsCornerAt C h b m (corner_of k)) → IsNamedFrom C h y d o
   named-met None f = λ k (n, J, c). f k (subst (λ (v : Vector). IsCornerAt C h v m k) (sym back) (one-met s C S h (opposite d) k y d m n I J c))
   named-met (Some k) c = (m, I, subst (λ (v : Vector). IsCornerAt C h v m (corner_of k)) back c)
 
-pub vertex-some : (vs : List ProgramVertex) (k : ℕ) → k < length vs → (v : Vertex) × At (map vertex_of vs) k v
+pub vertex-some : (vs : List ProgramVertex) (k : ℕ) → k < length vs → (v : Vertex) × IsAt (map vertex_of vs) k v
 vertex-some [] k l = absurd (omega (arith, l))
 vertex-some (v ∷ vs) zero l = (vertex_of v, refl)
 vertex-some (v ∷ vs) (suc k) l = vertex-some vs k (omega (arith, l))
@@ -38,7 +38,7 @@ module _ (s : Set) (c : ProgramComplex) (S : ShowsSet s c) (k : Corner) (v : Ver
     pub none-along : FromVertex C k.vertex (λ p. HasNoSvertex C p d)
     none-along u a =
         let e = at-one C.vertices k.vertex v u corner.vertex a in
-        no-svertex s C S.shows k u x (record { vertex = a; item = subst (λ (w : Vertex). At (items w.map) k.item x) e corner.item }) d (subst (λ (w : Vertex). OnItem w.map x d) e on)
+        no-svertex s C S.shows k u x (record { vertex = a; item = subst (λ (w : Vertex). IsAt (items w.map) k.item x) e corner.item }) d (subst (λ (w : Vertex). OnItem w.map x d) e on)
 
     pub linked-from : (r : Option ProgramCorner) → FromVertex C k.vertex (λ p. IsNamedFrom C (form_of h) p d r) → IsLinkedFrom C k r
     linked-from r f' = by r (f' v corner.vertex)
@@ -59,7 +59,7 @@ pub item-below : (c : ProgramComplex) (i : ℕ) (v : ProgramVertex) → slice_ge
 item-below c i v e j t (f, L) =
     let M = subst (λ (x : Cell). LinkAcross (complex_of c) (corner_at x) (corner_at t.second)) f L in
     let listed = map-from_get vertex_of c.vertices i v e in
-    at-within (items (map_of v.map)) j M.item (subst (λ (u : Vertex). At (items u.map) j M.item) (at-one (complex_of c).vertices i M.vertex (vertex_of v) M.corner.vertex listed) M.corner.item)
+    at-within (items (map_of v.map)) j M.item (subst (λ (u : Vertex). IsAt (items u.map) j M.item) (at-one (complex_of c).vertices i M.vertex (vertex_of v) M.corner.vertex listed) M.corner.item)
 
 pub vertex-below : (c : ProgramComplex) (i : ℕ) (t : Tie) → Any (IsTieAcross (complex_of c) i) t → i < length c.vertices
 vertex-below c i t (j, (f, L)) =

@@ -19,14 +19,14 @@ abbrev pub AreListed : Complex → List Corner → Type 0
 AreListed C ks = (i : ℕ) (k : Corner) → IsAt ks i k → HasItem C (corner_of k)
 
 -- the list is in order of the corners
-abbrev pub AreInOrder : List Corner → Type 0
-AreInOrder ks = (i j : ℕ) (x y : Corner) → i < j → IsAt ks i x → IsAt ks j y → IsCornerBelow (corner_of x) (corner_of y)
+abbrev pub CornersAreInOrder : List Corner → Type 0
+CornersAreInOrder ks = (i j : ℕ) (x y : Corner) → i < j → IsAt ks i x → IsAt ks j y → IsCornerBelow (corner_of x) (corner_of y)
 
 -- the list has all corners of the complex, in order
 pub record AreCorners (C : Complex) (ks : List Corner) : Type 0 where
   pub each : AreListed C ks
   pub all : (k : PlainCorner) → HasItem C k → (i : ℕ) × IsAt ks i (corner_from k)
-  pub ordered : AreInOrder ks
+  pub ordered : CornersAreInOrder ks
 
 -- `starts` has for each vertex the number of its first corner, from which the other corners' numbers follow
 abbrev pub StandFrom : List Corner → List ℕ → Type 0

@@ -1,18 +1,18 @@
 -- The next corner of each corner, by numbers.
 use Rattle.std.specs.Prelude.{◌≡◌, ◌<◌}
 use Rattle.nef_complex.specs.Prelude.{ℕ, List, length, IsAt, Vector, SameDirection, corner_of}
-use Rattle.law_sphere.specs.Maps.{At, Arc, Map}
+use Rattle.law_sphere.specs.Maps.{Arc, Map}
 use Rattle.law_complex.specs.Complexes.{Vertex, Complex, Corner as PlainCorner}
 use Rattle.nef_complex.specs.declared.complex.Corner.{Corner}
 use Rattle.nef_complex.specs.Cycles.{NextCorner}
 
 -- arc k of the map has the normal n and ends at svertex b
 abbrev pub IsArcInto : Map → ℕ → Vector → ℕ → Type 0
-IsArcInto M b n k = (a : Arc) × At M.arcs k a × (a.target ≡ b) × SameDirection n a.normal
+IsArcInto M b n k = (a : Arc) × IsAt M.arcs k a × (a.target ≡ b) × SameDirection n a.normal
 
 -- the corner is an arc that begins at svertex a of vertex i
 abbrev pub LeavesFrom : Complex → PlainCorner → ℕ → ℕ → Type 0
-LeavesFrom C k i a = (v : Vertex) × (r : Arc) × At C.vertices k.vertex v × At v.map.arcs k.item r × (k.vertex ≡ i) × (r.source ≡ a)
+LeavesFrom C k i a = (v : Vertex) × (r : Arc) × IsAt C.vertices k.vertex v × IsAt v.map.arcs k.item r × (k.vertex ≡ i) × (r.source ≡ a)
 
 -- ns has for corner i the number of its next corner
 abbrev pub HasNext : Complex → List Corner → List ℕ → ℕ → Type 0

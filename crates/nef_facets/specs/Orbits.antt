@@ -11,8 +11,8 @@ pub record IsStep (ns : List ℕ) : Type 0 where
   pub injective : (i j n : ℕ) → IsAt ns i n → IsAt ns j n → i ≡ j
 
 -- a number from which a step leads to a marked number is marked
-abbrev pub IsClosed : List ℕ → List Bool → Type 0
-IsClosed ns bs = (j i : ℕ) → IsAt ns j i → IsAt bs i true → IsAt bs j true
+abbrev pub IsClosedUnderSteps : List ℕ → List Bool → Type 0
+IsClosedUnderSteps ns bs = (j i : ℕ) → IsAt ns j i → IsAt bs i true → IsAt bs j true
 
 -- from number j steps lead over the numbers of the list and then to z
 abbrev pub StepsOver : List ℕ → ℕ → List ℕ → ℕ → Type 0
@@ -48,7 +48,7 @@ pub record AreCornersOf (ks : List Corner) (is : List ℕ) (xs : List Corner) : 
   pub each : (k i : ℕ) (x : Corner) → IsAt is k i → IsAt xs k x → IsAt ks i x
 
 -- orbits aren't empty and have numbers of corners of ks, and each such corner has a facet number below the count
-pub record AreNumbered (rows : List (List ℕ)) (ks : List Corner) (orbits : List (List ℕ)) (count : ℕ) : Type 0 where
+pub record AreNumberedOrbits (rows : List (List ℕ)) (ks : List Corner) (orbits : List (List ℕ)) (count : ℕ) : Type 0 where
   pub some : (m : ℕ) (x : List ℕ) → IsAt orbits m x → 0 < length x
   pub within : (m k i : ℕ) (x : List ℕ) → IsAt orbits m x → IsAt x k i → i < length ks
   pub number : (i : ℕ) (k : Corner) → IsAt ks i k → (n : ℕ) × IsFacetOf rows (corner_of k) n
@@ -66,7 +66,7 @@ pub record IsCycleOf (rows : List (List ℕ)) (ks : List Corner) (orbits : List 
   pub number : IsFacetOf rows (corner_of corner) n
 
 -- row n has in order the cycles of the orbits, among the first `count`, with first corners in the facet n
-pub record AreGrouped (rows : List (List ℕ)) (ks : List Corner) (orbits : List (List ℕ)) (count : ℕ) (ys : List (List Cycle)) : Type 0 where
+pub record AreCycleRows (rows : List (List ℕ)) (ks : List Corner) (orbits : List (List ℕ)) (count : ℕ) (ys : List (List Cycle)) : Type 0 where
   pub each : (n q : ℕ) (row : List Cycle) (y : Cycle) → IsAt ys n row → IsAt row q y → (m : ℕ) × (m < count) × IsCycleOf rows ks orbits n m y
   pub all : (m : ℕ) → m < count → (n : ℕ) × (q : ℕ) × (row : List Cycle) × (y : Cycle) × IsAt ys n row × IsAt row q y × IsCycleOf rows ks orbits n m y
   pub ordered : (n q r : ℕ) (row : List Cycle) (y z : Cycle) → q < r → IsAt ys n row → IsAt row q y → IsAt row r z

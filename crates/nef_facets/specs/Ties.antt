@@ -1,8 +1,8 @@
 -- Corners as elements of the table of items, and the ties between corners.
 use Rattle.std.specs.Prelude.{◌≡◌, ◌⊎◌, ℕ, List, Option}
 use Rattle.std.specs.List.{Contains}
-use Rattle.nef_complex.specs.Prelude.{MatchOption, Place, Form, Vector, SameDirection, corner_of}
-use Rattle.law_sphere.specs.Maps.{At, Arc, Map}
+use Rattle.nef_complex.specs.Prelude.{MatchOption, SpacePoint, Form, Vector, SameDirection, corner_of, IsAt}
+use Rattle.law_sphere.specs.Maps.{Arc, Map}
 use Rattle.law_complex.specs.Prelude.{Vertex, Edge, Complex, Corner, HasEnds, RayNames}
 use Rattle.nef_complex.specs.declared.complex.Corner.{Corner as ProgramCorner}
 use Rattle.nef_classes.specs.declared.table.Cell.{Cell}
@@ -42,19 +42,19 @@ edge_tie e i j = record { first = record { row = e.low; column = i }; second = r
 
 -- t is the tie between arc i of the edge's lower end, which is a, and arc j of the map at its higher end
 abbrev pub IsTieFromArc : Edge → ℕ → Arc → Map → ℕ → Tie → Type 0
-IsTieFromArc e i a M j t = (b : Arc) × At M.arcs j b × AreArcsAlong e a b × (t ≡ edge_tie e i j)
+IsTieFromArc e i a M j t = (b : Arc) × IsAt M.arcs j b × AreArcsAlong e a b × (t ≡ edge_tie e i j)
 
 -- t is a tie between arc i of the map at the edge's lower end and an arc of the map at its higher end
 abbrev pub IsTieOfEdge : Edge → Map → Map → ℕ → Tie → Type 0
-IsTieOfEdge e L M i t = (a : Arc) × At L.arcs i a × Any (IsTieFromArc e i a M) t
+IsTieOfEdge e L M i t = (a : Arc) × IsAt L.arcs i a × Any (IsTieFromArc e i a M) t
 
 -- t is a tie between arcs at the two ends of edge n
 abbrev pub IsTieAlong : Complex → ℕ → Tie → Type 0
-IsTieAlong C n t = (e : Edge) × (v : Vertex) × (w : Vertex) × At C.edges n e × HasEnds C e v w × Any (IsTieOfEdge e v.map w.map) t
+IsTieAlong C n t = (e : Edge) × (v : Vertex) × (w : Vertex) × IsAt C.edges n e × HasEnds C e v w × Any (IsTieOfEdge e v.map w.map) t
 
 -- ---- across facets
 -- o is the corner that the ray from p along d names in the plane, or none
-abbrev pub IsNamedFrom : Complex → Form → Place → Vector → Option ProgramCorner → Type 0
+abbrev pub IsNamedFrom : Complex → Form → SpacePoint → Vector → Option ProgramCorner → Type 0
 IsNamedFrom C h p d o = MatchOption o ((k : Corner) → RayNames C h p d k → ⊥) (λ k. RayNames C h p d (corner_of k))
 
 -- o is the corner with which corner j is linked across its facet, or none

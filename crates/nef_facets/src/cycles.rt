@@ -1,7 +1,7 @@
 //! The next corner of each corner, and the cycles of each facet.
 
 ghost use Rattle.std.specs.Prelude.{◌≡◌, ◌<◌};
-ghost use Rattle.nef_facets.specs.Prelude.{ℕ, length, IfOk, false, IsAt, Set, vector_of, At, complex_of, corner_of, ShowsSet, IsFacetOf, FacetNumbers, Leads, Edge as PlainEdge, map_of, AreCorners, StandFrom, AreCyclesOf, AreCornersOf, AreNumbered, AreGrouped, IsStep, IsClosed, ComesBack, AreMarked, AreOrbits, IsArcInto, HaveNextFrom, KeepsNext, AreNext};
+ghost use Rattle.nef_facets.specs.Prelude.{ℕ, length, IfOk, false, IsAt, Set, vector_of, complex_of, corner_of, ShowsSet, IsFacetOf, FacetNumbers, Leads, Edge as PlainEdge, map_of, AreCorners, StandFrom, AreCyclesOf, AreCornersOf, AreNumberedOrbits, AreCycleRows, IsStep, IsClosedUnderSteps, ComesBack, AreMarked, AreOrbits, IsArcInto, HaveNextFrom, KeepsNext, AreNext};
 
 use crate::OutOfMemory;
 use nef_classes::{empty_rows, number_at, own_numbers};
@@ -54,7 +54,7 @@ fn add_next(
     requires shows { (s : Set) × ShowsSet s c.now }
     requires corners { AreCorners (complex_of c.now) corners.now }
     requires starts { StandFrom corners.now starts.now }
-    requires edge { (n : ℕ) × (e : PlainEdge) × At (complex_of c.now).edges n e × Leads e from.now.vertex from.now.svertex to.now.vertex to.now.svertex }
+    requires edge { (n : ℕ) × (e : PlainEdge) × IsAt (complex_of c.now).edges n e × Leads e from.now.vertex from.now.svertex to.now.vertex to.now.svertex }
     requires as_many { length next.old.items ≡ length corners.now }
     ensures as_many { length next.new.items ≡ length corners.now }
     ensures kept { KeepsNext (complex_of c.now) corners.now next.old.items next.new.items }
@@ -109,7 +109,7 @@ fn walk(
     requires step { IsStep next.now }
     requires as_many { length marks.old.items ≡ length next.now }
     requires start { IsAt marks.old.items start false }
-    requires closed { IsClosed next.now marks.old.items }
+    requires closed { IsClosedUnderSteps next.now marks.old.items }
     ensures as_many { length marks.new.items ≡ length next.now }
     ensures back { IfOk result (λ xs. ComesBack next.now start xs) }
     ensures apart { IfOk result (λ xs. (k l i : ℕ) → IsAt xs k i → IsAt xs l i → k ≡ l) }
@@ -160,9 +160,9 @@ fn grouped(
     orbits: &[List<usize>],
     count: usize,
 ) -> Result<List<List<Cycle>>, OutOfMemory>
-    requires numbered { AreNumbered rows.now corners.now orbits.now count }
+    requires numbered { AreNumberedOrbits rows.now corners.now orbits.now count }
     ensures as_many { IfOk result (λ ys. length ys ≡ count) }
-    ensures grouped { IfOk result (λ ys. AreGrouped rows.now corners.now orbits.now (length orbits.now) ys) }
+    ensures grouped { IfOk result (λ ys. AreCycleRows rows.now corners.now orbits.now (length orbits.now) ys) }
 {
     let mut cycles = empty_rows(alloc, count, 0)?;
     for orbit in orbits {

@@ -1,5 +1,5 @@
 -- The board when it is made and when it is closed.
-use Rattle.nef_free.proofs.Prelude.{◌≡◌, ℕ, zero, suc, ◌+◌, ◌^◌, ◌<◌, List, [], ◌∷◌, map, length, refl, ap, sym, ◌∙◌, Option, Some, None, slice_get, slice_index, arith, ◌⊎◌, inl, inr, true, subst, replicate, if◌then◌else◌, ◌==◌, get_or-replicate, length-replicate, slice_get_within, State, opening, Final, Seen, start, replay, has_job, Slot, Open, InHand, Done, get_replicate, only_one, among, same_slot, View, first_view, Fits, fits_first, SlotIs, Shows, Kept}
+use Rattle.nef_free.proofs.Prelude.{◌≡◌, ℕ, zero, suc, ◌+◌, ◌^◌, ◌<◌, List, [], ◌∷◌, map, length, refl, ap, sym, ◌∙◌, Option, Some, None, slice_get, slice_index, arith, ◌⊎◌, inl, inr, true, subst, replicate, if◌then◌else◌, ◌==◌, get_or-replicate, length-replicate, slice_get_within, State, opening, Final, Seen, start, replay, has_job, Slot, Open, InHand, Done, get_replicate, only_one, among, same_slot, View, first_view, Fits, fits_first, SlotIs, ShowsMachine, Kept}
 use mathlib.Core.Option.{some}
 use lib.ListN.{get_elem?}
 use Rattle.nef_core.specs.Machine.{State as Machine}
@@ -87,7 +87,7 @@ module _ {Out : Type 0} (right : ℕ → Out → Type 0) (jobs seats : ℕ) wher
   abbrev Gathered : List ℕ → List (Option Out) → List (Option Out) → Type 0
   Gathered ws xs rs = (i n : ℕ) (y : Option Out) → get_elem? ws (i + 1) ≡ some n → get_elem? xs i ≡ some y → slice_get rs i ≡ Some (if n == 1 then y else None)
 
-  at_word : (m : Machine) (s : State (Option Out) View) (ws : List ℕ) (xs rs : List (Option Out)) → Shows right jobs seats m s → s.words ≡ ws → Gathered ws xs rs
+  at_word : (m : Machine) (s : State (Option Out) View) (ws : List ℕ) (xs rs : List (Option Out)) → ShowsMachine right jobs seats m s → s.words ≡ ws → Gathered ws xs rs
       → (job : ℕ) → job < jobs → (y : Option Out) → get_elem? xs job ≡ some y → slice_get rs job ≡ Some (if slice_index s.words (job + 1) == 1 then y else None)
   at_word m s ws xs rs sh same each job h y q = each job (slice_index s.words (job + 1)) y (ap (λ (l : List ℕ). get_elem? l (job + 1)) (sym same) ∙ word_there s.words (job + 1) (let l = sh.words in omega arith)) q
 

@@ -13,4 +13,4 @@ pub use Rattle.nef_core.specs.Views.{has_job}
 pub use Rattle.nef_core.specs.declared.board.View.{View}
 pub use Rattle.nef_core.specs.declared.machine.Slot.{Slot}
 pub use Rattle.nef_core.specs.declared.machine.Slot.TheVariants.{Done, InHand, Open}
-pub use Rattle.nef_free.specs.Rule.{Claimed, Deposited, GaveBack, Kept, Shows, SlotIs, carried, is_below, over, overs}
+pub use Rattle.nef_free.specs.Rule.{Claimed, Deposited, GaveBack, Kept, ShowsMachine, SlotIs, carried, drew_past, is_below, overs}

@@ -1,5 +1,5 @@
 -- Each kind of step keeps the rule.
-use Rattle.nef_free.proofs.Prelude.{◌≡◌, ℕ, ◌+◌, ◌^◌, ◌%◌, ◌<◌, ◌≤◌, ◌≢◌, List, [], ◌∷◌, ◌++◌, length, refl, ap, sym, ◌∙◌, Option, Some, None, slice_get, slice_set, slice_index, arith, inl, inr, Bool, true, false, subst, set, nat_lt, MatchBool, get_or-set_same, get_or-set_other, slice_get_within, length-append, State, step, Act, keeps, takes, gives, stepped, Allows, Splits, Joins, Valid, carried_after, at_set, set_here, set_else, at_longer, start, after, replay, IsLegal, has_job, Slot, Open, InHand, Done, get_set_here, get_set_other, same_or_not, within, at_length, below_last, open_not_held, open_not_done, held_not_done, held_by, same_slot, not_among, claimed, replay_append, legal_more, View, holding, at_end, deposited, gave_back, cut, new_view, taken_in, spent, Fits, fits_cut, fits_new, fits_beside, fits_taken_in, fits_at_end, fits_holding, fits_deposited, fits_gave_back, fits_moved, held_in, is_below, over, SlotIs, Shows, Kept, Claimed, Deposited, GaveBack}
+use Rattle.nef_free.proofs.Prelude.{◌≡◌, ℕ, ◌+◌, ◌^◌, ◌%◌, ◌<◌, ◌≤◌, ◌≢◌, List, [], ◌∷◌, ◌++◌, length, refl, ap, sym, ◌∙◌, Option, Some, None, slice_get, slice_set, slice_index, arith, inl, inr, Bool, true, false, subst, set, nat_lt, MatchBool, get_or-set_same, get_or-set_other, slice_get_within, length-append, State, step, Act, keeps, takes, gives, stepped, Allows, Splits, Joins, Valid, carried_after, at_set, set_here, set_else, at_longer, start, after, replay, IsLegal, has_job, Slot, Open, InHand, Done, get_set_here, get_set_other, same_or_not, within, at_length, below_last, open_not_held, open_not_done, held_not_done, held_by, same_slot, not_among, claimed, replay_append, legal_more, View, holding, at_end, deposited, gave_back, cut, new_view, taken_in, spent, Fits, fits_cut, fits_new, fits_beside, fits_taken_in, fits_at_end, fits_holding, fits_deposited, fits_gave_back, fits_moved, held_in, is_below, drew_past, SlotIs, ShowsMachine, Kept, Claimed, Deposited, GaveBack}
 use Rattle.std.proofs.Math.ListN.{length-set}
 use Rattle.std.proofs.lemmas.Bool.Decides.{nat_tests}
 use Rattle.std.proofs.Math.Nat.{mod-eq_of_lt}
@@ -29,9 +29,9 @@ below_of jobs (Some i) job b e = let same : i ≡ job = some_number i job e in s
 
 module _ {Out : Type 0} (right : ℕ → Out → Type 0) (jobs seats : ℕ) where
   -- a draw of a number that is a job is its claim
-  pub drawn_is_claim : (m : Machine) (s : State (Option Out) View) (k : ℕ) (v : View) → Shows right jobs seats m s → get_elem? s.views k ≡ some v → v.live ≡ true → v.hand ≡ None → v.ended ≡ false → (f : ℕ) → f ≡ slice_index s.words 0 → f < jobs
+  pub drawn_is_claim : (m : Machine) (s : State (Option Out) View) (k : ℕ) (v : View) → ShowsMachine right jobs seats m s → get_elem? s.views k ≡ some v → v.live ≡ true → v.hand ≡ None → v.ended ≡ false → (f : ℕ) → f ≡ slice_index s.words 0 → f < jobs
       → (m.next < length m.slots) × (get_elem? s.homes f ≡ some (some None)) × (has_job f v.deposits ≡ false)
-      × Shows right jobs seats (after m (Claim k)) (stepped s 0 (f + 1) k [] (holding v f) (takes f None))
+      × ShowsMachine right jobs seats (after m (Claim k)) (stepped s 0 (f + 1) k [] (holding v f) (takes f None))
   drawn_is_claim m s k v sh at live hand going f is small =
       let next : m.next ≡ f = let n = sh.next in omega arith in
       let free : m.next < length m.slots = let n = sh.slots in omega arith in
@@ -84,8 +84,8 @@ module _ {Out : Type 0} (right : ℕ → Out → Type 0) (jobs seats : ℕ) wher
       )
 
   -- a draw past the last number changes nothing
-  pub drawn_past : (m : Machine) (s : State (Option Out) View) (k : ℕ) (v : View) → Shows right jobs seats m s → get_elem? s.views k ≡ some v → v.live ≡ true → v.hand ≡ None → v.ended ≡ false → (f : ℕ) → f ≡ slice_index s.words 0 → jobs ≤ f
-      → (f + 1 < 2 ^ 64) × Shows right jobs seats m (stepped s 0 (f + 1) k [] (at_end v) keeps)
+  pub drawn_past : (m : Machine) (s : State (Option Out) View) (k : ℕ) (v : View) → ShowsMachine right jobs seats m s → get_elem? s.views k ≡ some v → v.live ≡ true → v.hand ≡ None → v.ended ≡ false → (f : ℕ) → f ≡ slice_index s.words 0 → jobs ≤ f
+      → (f + 1 < 2 ^ 64) × ShowsMachine right jobs seats m (stepped s 0 (f + 1) k [] (at_end v) keeps)
   drawn_past m s k v sh at live hand going f is past =
       let next : m.next ≡ jobs = let n = sh.next in omega arith in
       let fv = sh.views k v at live in
@@ -93,8 +93,8 @@ module _ {Out : Type 0} (right : ℕ → Out → Type 0) (jobs seats : ℕ) wher
       let word0 : slice_index t.words 0 ≡ f + 1 = get_or-set_same s.words 0 (f + 1) 0 (let l = sh.words in omega arith) in
       let other_word : (job : ℕ) → slice_index t.words (job + 1) ≡ slice_index s.words (job + 1) = λ job. get_or-set_other s.words 0 (job + 1) (f + 1) 0 (λ q. omega arith) in
       let len : length (set s.views k (at_end v)) ≡ length s.views = length-set s.views k (at_end v) in
-      let before : over v ≡ 0 = rw (live, going) refl in
-      let behind : over (at_end v) ≡ 1 = rw live refl in
+      let before : drew_past v ≡ 0 = rw (live, going) refl in
+      let behind : drew_past (at_end v) ≡ 1 = rw live refl in
       let total = overs_set s.views k v (at_end v) at in
       let most = overs_length (set s.views k (at_end v)) in
       let mine : Fits jobs seats m (length s.views) k (at_end v) = fits_at_end jobs seats m (length s.views) k v next fv in
@@ -123,11 +123,11 @@ module _ {Out : Type 0} (right : ℕ → Out → Type 0) (jobs seats : ℕ) wher
       )
 
   -- a job in the hand of a pass is settled: x is what it is then, c its word and y its home
-  settled : (m : Machine) (s : State (Option Out) View) (k : ℕ) (v w : View) (job c : ℕ) (x : Slot) (y : Option Out) → Shows right jobs seats m s → get_elem? s.views k ≡ some v → v.live ≡ true → v.hand ≡ Some job
-      → (w.live ≡ true) → (w.ended ≡ v.ended) → (w.hand ≡ None) → (over w ≡ over v)
+  settled : (m : Machine) (s : State (Option Out) View) (k : ℕ) (v w : View) (job c : ℕ) (x : Slot) (y : Option Out) → ShowsMachine right jobs seats m s → get_elem? s.views k ≡ some v → v.live ≡ true → v.hand ≡ Some job
+      → (w.live ≡ true) → (w.ended ≡ v.ended) → (w.hand ≡ None) → (drew_past w ≡ drew_past v)
       → Fits jobs seats (record { next = m.next; slots = slice_set m.slots job x }) (length s.views) k w
       → ((t : State (Option Out) View) → slice_index t.words (job + 1) ≡ c → job < slice_index t.words 0 → get_elem? t.homes job ≡ some (some y) → SlotIs right t job x)
-      → Shows right jobs seats (record { next = m.next; slots = slice_set m.slots job x }) (stepped s (job + 1) c k ((job, y) ∷ []) w gives)
+      → ShowsMachine right jobs seats (record { next = m.next; slots = slice_set m.slots job x }) (stepped s (job + 1) c k ((job, y) ∷ []) w gives)
   settled m s k v w job c x y sh at live hand alive ended free weight mine shows =
       let fv = sh.views k v at live in
       let held : slice_get m.slots job ≡ Some (InHand k) = held_in jobs seats m (length s.views) k v job hand fv in
@@ -170,8 +170,8 @@ module _ {Out : Type 0} (right : ℕ → Out → Type 0) (jobs seats : ℕ) wher
       }
 
   -- a store of 1 is the deposit
-  pub stored_is_deposit : (m : Machine) (s : State (Option Out) View) (k : ℕ) (v : View) (job : ℕ) (out : Out) → Shows right jobs seats m s → get_elem? s.views k ≡ some v → v.live ≡ true → v.hand ≡ Some job → right job out
-      → (slice_get m.slots job ≡ Some (InHand k)) × Shows right jobs seats (after m (Deposit k job)) (stepped s (job + 1) 1 k ((job, Some out) ∷ []) (deposited v job) gives)
+  pub stored_is_deposit : (m : Machine) (s : State (Option Out) View) (k : ℕ) (v : View) (job : ℕ) (out : Out) → ShowsMachine right jobs seats m s → get_elem? s.views k ≡ some v → v.live ≡ true → v.hand ≡ Some job → right job out
+      → (slice_get m.slots job ≡ Some (InHand k)) × ShowsMachine right jobs seats (after m (Deposit k job)) (stepped s (job + 1) 1 k ((job, Some out) ∷ []) (deposited v job) gives)
   stored_is_deposit m s k v job out sh at live hand fits =
       let fv = sh.views k v at live in
       let held : slice_get m.slots job ≡ Some (InHand k) = held_in jobs seats m (length s.views) k v job hand fv in (
@@ -182,8 +182,8 @@ module _ {Out : Type 0} (right : ℕ → Out → Type 0) (jobs seats : ℕ) wher
       )
 
   -- a store of 2 is the giving back
-  pub stored_is_giving_back : (m : Machine) (s : State (Option Out) View) (k : ℕ) (v : View) (job : ℕ) → Shows right jobs seats m s → get_elem? s.views k ≡ some v → v.live ≡ true → v.hand ≡ Some job
-      → (slice_get m.slots job ≡ Some (InHand k)) × Shows right jobs seats (after m (GiveBack k job)) (stepped s (job + 1) 2 k ((job, None) ∷ []) (gave_back v) gives)
+  pub stored_is_giving_back : (m : Machine) (s : State (Option Out) View) (k : ℕ) (v : View) (job : ℕ) → ShowsMachine right jobs seats m s → get_elem? s.views k ≡ some v → v.live ≡ true → v.hand ≡ Some job
+      → (slice_get m.slots job ≡ Some (InHand k)) × ShowsMachine right jobs seats (after m (GiveBack k job)) (stepped s (job + 1) 2 k ((job, None) ∷ []) (gave_back v) gives)
   stored_is_giving_back m s k v job sh at live hand =
       let fv = sh.views k v at live in
       let held : slice_get m.slots job ≡ Some (InHand k) = held_in jobs seats m (length s.views) k v job hand fv in (
@@ -194,8 +194,8 @@ module _ {Out : Type 0} (right : ℕ → Out → Type 0) (jobs seats : ℕ) wher
       )
 
   -- a pass that is made
-  pub made_is_nothing : (m : Machine) (s : State (Option Out) View) (k : ℕ) (v : View) → Shows right jobs seats m s → get_elem? s.views k ≡ some v → v.live ≡ true → 0 < v.spare
-      → Shows right jobs seats m (record { words = s.words; homes = s.homes; views = slice_set s.views k (cut v) ++ new_view v ∷ [] })
+  pub made_is_nothing : (m : Machine) (s : State (Option Out) View) (k : ℕ) (v : View) → ShowsMachine right jobs seats m s → get_elem? s.views k ≡ some v → v.live ≡ true → 0 < v.spare
+      → ShowsMachine right jobs seats m (record { words = s.words; homes = s.homes; views = slice_set s.views k (cut v) ++ new_view v ∷ [] })
   made_is_nothing m s k v sh at live some_left =
       let fv = sh.views k v at live in
       let room = fv.room some_left in
@@ -239,8 +239,8 @@ module _ {Out : Type 0} (right : ℕ → Out → Type 0) (jobs seats : ℕ) wher
       }
 
   -- a pass that is taken in
-  pub taken_is_nothing : (m : Machine) (s : State (Option Out) View) (k : ℕ) (v : View) (other : ℕ) (w : View) → Shows right jobs seats m s → get_elem? s.views k ≡ some v → v.live ≡ true → other ≢ k → get_elem? (slice_set s.views k (taken_in v w)) other ≡ some w → w.live ≡ true → w.hand ≡ None
-      → Shows right jobs seats m (record { words = s.words; homes = s.homes; views = slice_set (slice_set s.views k (taken_in v w)) other spent })
+  pub taken_is_nothing : (m : Machine) (s : State (Option Out) View) (k : ℕ) (v : View) (other : ℕ) (w : View) → ShowsMachine right jobs seats m s → get_elem? s.views k ≡ some v → v.live ≡ true → other ≢ k → get_elem? (slice_set s.views k (taken_in v w)) other ≡ some w → w.live ≡ true → w.hand ≡ None
+      → ShowsMachine right jobs seats m (record { words = s.words; homes = s.homes; views = slice_set (slice_set s.views k (taken_in v w)) other spent })
   taken_is_nothing m s k v other w sh at live apart there awake empty =
       let fv = sh.views k v at live in
       let first : List View = slice_set s.views k (taken_in v w) in
@@ -294,7 +294,7 @@ module _ {Out : Type 0} (right : ℕ → Out → Type 0) (jobs seats : ℕ) wher
         holding v f,
         takes f None,
         d.1,
-        rw wraps (kept.0 ++ Claim k ∷ [], legal_more (start jobs) kept.0 (Claim k) kept.1 (d.0, tt), subst (λ (z : Machine). Shows right jobs seats z (stepped s 0 (f + 1) k [] (holding v f) (takes f None))) (sym (replay_append (start jobs) kept.0 (Claim k ∷ []))) d.3),
+        rw wraps (kept.0 ++ Claim k ∷ [], legal_more (start jobs) kept.0 (Claim k) kept.1 (d.0, tt), subst (λ (z : Machine). ShowsMachine right jobs seats z (stepped s 0 (f + 1) k [] (holding v f) (takes f None))) (sym (replay_append (start jobs) kept.0 (Claim k ∷ []))) d.3),
         (refl, refl, d.2),
       )
   draws s k v kept at live hand going count false is =
@@ -353,7 +353,7 @@ module _ {Out : Type 0} (right : ℕ → Out → Type 0) (jobs seats : ℕ) wher
       subst (λ n. P n l) (sym a) (subst (λ c. P jobs c) (sym b) (gives_back k v job live hand))
 
   -- a job in hand has its slot away
-  pub held_is_away : (m : Machine) (s : State (Option Out) View) (k : ℕ) (v : View) (job : ℕ) → Shows right jobs seats m s → get_elem? s.views k ≡ some v → v.live ≡ true → v.hand ≡ Some job
+  pub held_is_away : (m : Machine) (s : State (Option Out) View) (k : ℕ) (v : View) (job : ℕ) → ShowsMachine right jobs seats m s → get_elem? s.views k ≡ some v → v.live ≡ true → v.hand ≡ Some job
       → (get_elem? s.homes job ≡ some none) × (slice_get m.slots job ≡ Some (InHand k))
   held_is_away m s k v job sh at live hand =
       let fv = sh.views k v at live in
@@ -364,7 +364,7 @@ module _ {Out : Type 0} (right : ℕ → Out → Type 0) (jobs seats : ℕ) wher
       (mine.2, held)
 
   -- who is in the slot of a job has it in hand
-  held_is_mine : (m : Machine) (s : State (Option Out) View) (k : ℕ) (v : View) (job : ℕ) → Shows right jobs seats m s → get_elem? s.views k ≡ some v → slice_get m.slots job ≡ Some (InHand k) → v.hand ≡ Some job
+  held_is_mine : (m : Machine) (s : State (Option Out) View) (k : ℕ) (v : View) (job : ℕ) → ShowsMachine right jobs seats m s → get_elem? s.views k ≡ some v → slice_get m.slots job ≡ Some (InHand k) → v.hand ≡ Some job
   held_is_mine m s k v job sh at held =
       let e = sh.each job (let n = sh.slots in let i = slice_get_within m.slots job (InHand k) held in omega arith) in
       let is : e.0 ≡ InHand k = same_slot e.0 (InHand k) (sym e.1 ∙ held) in
@@ -374,7 +374,7 @@ module _ {Out : Type 0} (right : ℕ → Out → Type 0) (jobs seats : ℕ) wher
       ap (λ (z : View). z.hand) same ∙ o.3
 
   pub runs : (s : State (Option Out) View) → Kept jobs seats right s
-      → (events : List Event) × IsLegal (start jobs) events × Shows right jobs seats (replay (start jobs) events) s
+      → (events : List Event) × IsLegal (start jobs) events × ShowsMachine right jobs seats (replay (start jobs) events) s
       × ((w : ℕ) (v : View) → IsSeat s w v → IsAccounted jobs events w v.hand v.ended v.deposits)
   runs s kept =
       let m : Machine = replay (start jobs) kept.0 in (

@@ -1,21 +1,21 @@
 -- Lists of views, and what a step leaves as it was.
-use Rattle.nef_free.proofs.Prelude.{◌≡◌, ℕ, zero, suc, ◌+◌, ◌<◌, ◌≤◌, List, [], ◌∷◌, ◌++◌, length, refl, ap, sym, ◌∙◌, Option, Some, None, slice_index, arith, inl, inr, true, false, set, cond, not, ◌&&◌, State, set_here, set_else, Slot, Open, InHand, Done, same_or_not, within, View, over, overs, SlotIs}
+use Rattle.nef_free.proofs.Prelude.{◌≡◌, ℕ, zero, suc, ◌+◌, ◌<◌, ◌≤◌, List, [], ◌∷◌, ◌++◌, length, refl, ap, sym, ◌∙◌, Option, Some, None, slice_index, arith, inl, inr, true, false, set, cond, not, ◌&&◌, State, set_here, set_else, Slot, Open, InHand, Done, same_or_not, within, View, drew_past, overs, SlotIs}
 use mathlib.Core.Option.{some, some-injective, some-ne-none}
 use lib.ListN.{get_elem?}
 
-pub overs_set : (views : List View) (k : ℕ) (v w : View) → get_elem? views k ≡ some v → overs (set views k w) + over v ≡ overs views + over w
+pub overs_set : (views : List View) (k : ℕ) (v w : View) → get_elem? views k ≡ some v → overs (set views k w) + drew_past v ≡ overs views + drew_past w
 overs_set [] k v w e = absurd (some-ne-none v (sym e))
-overs_set (x ∷ xs) zero v w e = let q : over x ≡ over v = ap over (some-injective x v e) in omega arith
+overs_set (x ∷ xs) zero v w e = let q : drew_past x ≡ drew_past v = ap drew_past (some-injective x v e) in omega arith
 overs_set (x ∷ xs) (suc k) v w e = let h = overs_set xs k v w e in omega arith
 
-pub over_small : (v : View) → over v ≤ 1
+pub over_small : (v : View) → drew_past v ≤ 1
 over_small v = elim (v.live && not v.ended) as (λ b. cond b 0 1 ≤ 1) [ true ↦ omega arith | false ↦ omega arith ]
 
 pub overs_length : (views : List View) → overs views ≤ length views
 overs_length [] = omega arith
 overs_length (x ∷ xs) = let a = over_small x in let b = overs_length xs in omega arith
 
-pub overs_snoc : (views : List View) (w : View) → overs (views ++ w ∷ []) ≡ overs views + over w
+pub overs_snoc : (views : List View) (w : View) → overs (views ++ w ∷ []) ≡ overs views + drew_past w
 overs_snoc [] w = omega arith
 overs_snoc (x ∷ xs) w = let h = overs_snoc xs w in omega arith
 

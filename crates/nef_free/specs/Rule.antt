@@ -21,12 +21,12 @@ is_below jobs None = true
 is_below jobs (Some job) = nat_lt job jobs
 
 -- 1 for a view that may have drawn a number past the last one, else 0
-abbrev pub over : View → ℕ
-over v = cond (v.live && not v.ended) 0 1
+abbrev pub drew_past : View → ℕ
+drew_past v = cond (v.live && not v.ended) 0 1
 
 abbrev pub overs : List View → ℕ
 overs [] = 0
-overs (v ∷ vs) = over v + overs vs
+overs (v ∷ vs) = drew_past v + overs vs
 
 module _ {Out : Type 0} (right : ℕ → Out → Type 0) where
   -- the words, the homes and the views show this slot for the job
@@ -42,7 +42,7 @@ module _ {Out : Type 0} (right : ℕ → Out → Type 0) where
       × ((out : Out) × (get_elem? s.homes job ≡ some (some (Some out))) × right job out)
 
   -- the words, the homes and the views show the machine
-  pub record Shows (jobs seats : ℕ) (m : Machine) (s : State (Option Out) View) : Type 0 where
+  pub record ShowsMachine (jobs seats : ℕ) (m : Machine) (s : State (Option Out) View) : Type 0 where
     pub words : length s.words ≡ jobs + 1
     pub homes : length s.homes ≡ jobs
     pub small : jobs + seats < 2 ^ 64
@@ -55,7 +55,7 @@ module _ {Out : Type 0} (right : ℕ → Out → Type 0) where
 
 -- the board shows the replay of a legal history
 abbrev pub Kept : {Out : Type 0} → ℕ → ℕ → (ℕ → Out → Type 0) → State (Option Out) View → Type 0
-Kept jobs seats right s = (log : List Event) × IsLegal (start jobs) log × Shows right jobs seats (replay (start jobs) log) s
+Kept jobs seats right s = (log : List Event) × IsLegal (start jobs) log × ShowsMachine right jobs seats (replay (start jobs) log) s
 
 abbrev pub Claimed : {S : Type 0} → Step (Option S) → Me (Option S) View → ℕ → Me (Option S) View → Type 0
 Claimed st v found w = MatchBool (nat_lt found v.0.jobs) ((w.0 ≡ holding v.0 found) × (w.1 ≡ (found, None) ∷ []) × (has_job found v.0.deposits ≡ false)) ((w.0 ≡ at_end v.0) × (w.1 ≡ []))

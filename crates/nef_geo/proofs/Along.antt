@@ -1,5 +1,5 @@
 -- The order of points on one ray.
-use Rattle.nef_geo.proofs.Prelude.{◌≡◌, ◌≢◌, ℕ, ◌*◌, ℤ, pos, ◌+ℤ◌, ◌-ℤ◌, ◌*ℤ◌, ◌<ℤ◌, nat_abs, [], ◌∷◌, Ordering, Less, Equal, Greater, arith, ap, sym, ◌∙◌, subst, ints, MatchOrdering, Place, toward, SamePlace, IsAhead, Vector, dot, IsDirection, SameDirection, none, given, follows, mul_pos, cancel_lt, sub_pos, pos-abs, at, num, neg, ◌⊕◌, ◌⊖◌, ◌⊗◌, IsReached, self-pos}
+use Rattle.nef_geo.proofs.Prelude.{◌≡◌, ◌≢◌, ℕ, ◌*◌, ℤ, pos, ◌+ℤ◌, ◌-ℤ◌, ◌*ℤ◌, ◌<ℤ◌, nat_abs, [], ◌∷◌, Ordering, Less, Equal, Greater, arith, ap, sym, ◌∙◌, subst, ints, MatchOrdering, SpacePoint, toward, SamePoint, IsAhead, Vector, dot, IsDirection, SameDirection, none, given, follows, mul_pos, cancel_lt, sub_pos, pos-abs, at, num, neg, ◌⊕◌, ◌⊖◌, ◌⊗◌, IsReached, self-pos}
 use Rattle.nef_geo.proofs.Cramer.{cancel, difference}
 
 -- k a = l b, with k and l positive
@@ -30,7 +30,7 @@ SameDirection-scaled k l a b pk pl some s =
     }
 
 -- a reached point by its numbers: x/w is (s.x + (n/m) d.x) / s.w
-record IsOnRay (s : Place) (d : Vector) (n m : ℤ) (q : Place) : Type 0 where
+record IsOnRay (s : SpacePoint) (d : Vector) (n m : ℤ) (q : SpacePoint) : Type 0 where
   along_x : q.x *ℤ (m *ℤ pos s.w) ≡ (s.x *ℤ m +ℤ n *ℤ d.x) *ℤ pos q.w
   along_y : q.y *ℤ (m *ℤ pos s.w) ≡ (s.y *ℤ m +ℤ n *ℤ d.y) *ℤ pos q.w
   along_z : q.z *ℤ (m *ℤ pos s.w) ≡ (s.z *ℤ m +ℤ n *ℤ d.z) *ℤ pos q.w
@@ -44,10 +44,10 @@ plain c d n m u x k b l p eb el e =
     (given (neg (at 5)) (at 8) (at 4 ⊗ at 7) el
     (given (at 0 ⊗ at 6 ⊖ at 5 ⊗ at 4) (at 7) (at 3 ⊗ at 4) eb none))) tt))
 
-positive_weight : (s : Place) → pos 0 <ℤ pos s.w
+positive_weight : (s : SpacePoint) → pos 0 <ℤ pos s.w
 positive_weight s = let p = s.proper in omega (arith, ints)
 
-on_ray : (s : Place) (d : Vector) (n m : ℤ) (p : pos 0 <ℤ m) (q : Place) → IsReached s d n m p q → IsOnRay s d n m q
+on_ray : (s : SpacePoint) (d : Vector) (n m : ℤ) (p : pos 0 <ℤ m) (q : SpacePoint) → IsReached s d n m p q → IsOnRay s d n m q
 on_ray s d n m p q r =
     let eb : pos (nat_abs m * s.w) ≡ m *ℤ pos s.w = times (nat_abs m) s.w ∙ ap (λ (k : ℤ). k *ℤ pos s.w) (pos-abs m p) in
     let el : pos (s.w * (nat_abs m * s.w)) ≡ pos s.w *ℤ pos (nat_abs m * s.w) = times s.w (nat_abs m * s.w) in
@@ -69,7 +69,7 @@ between c d u pn pm qn qm px pw qx qw ep eq =
     (given (at 4 ⊗ at 8) (at 9 ⊗ (at 6 ⊗ at 2)) ((at 0 ⊗ at 6 ⊕ at 5 ⊗ at 1) ⊗ at 10) eq
     (given (neg (at 6 ⊗ at 10)) (at 7 ⊗ (at 4 ⊗ at 2)) ((at 0 ⊗ at 4 ⊕ at 3 ⊗ at 1) ⊗ at 8) ep none)) tt
 
-scaled_way : (s : Place) (d : Vector) (pn pm : ℤ) (p : Place) (qn qm : ℤ) (q : Place) → IsOnRay s d pn pm p → IsOnRay s d qn qm q
+scaled_way : (s : SpacePoint) (d : Vector) (pn pm : ℤ) (p : SpacePoint) (qn qm : ℤ) (q : SpacePoint) → IsOnRay s d pn pm p → IsOnRay s d qn qm q
     → IsScaled (pm *ℤ qm *ℤ pos s.w) (pos p.w *ℤ pos q.w *ℤ (qn *ℤ pm -ℤ pn *ℤ qm)) (toward p q) d
 scaled_way s d pn pm p qn qm q i j = record {
   x_is = between s.x d.x (pos s.w) pn pm qn qm p.x (pos p.w) q.x (pos q.w) i.along_x j.along_x;
@@ -77,7 +77,7 @@ scaled_way s d pn pm p qn qm q i j = record {
   z_is = between s.z d.z (pos s.w) pn pm qn qm p.z (pos p.w) q.z (pos q.w) i.along_z j.along_z;
 }
 
-ahead : (s : Place) (d : Vector) (pn pm : ℤ) (p : Place) (qn qm : ℤ) (q : Place) → IsDirection d → pos 0 <ℤ pm → pos 0 <ℤ qm → IsOnRay s d pn pm p → IsOnRay s d qn qm q → (pn *ℤ qm) <ℤ (qn *ℤ pm) → IsAhead p d q
+ahead : (s : SpacePoint) (d : Vector) (pn pm : ℤ) (p : SpacePoint) (qn qm : ℤ) (q : SpacePoint) → IsDirection d → pos 0 <ℤ pm → pos 0 <ℤ qm → IsOnRay s d pn pm p → IsOnRay s d qn qm q → (pn *ℤ qm) <ℤ (qn *ℤ pm) → IsAhead p d q
 ahead s d pn pm p qn qm q some pp qp i j less =
     SameDirection-scaled _ _ (toward p q) d
     (mul_pos (pm *ℤ qm) (pos s.w) (mul_pos pm qm pp qp) (positive_weight s))
@@ -87,7 +87,7 @@ ahead s d pn pm p qn qm q some pp qp i j less =
 level : (k l a d m n : ℤ) → pos 0 <ℤ k → k *ℤ a ≡ l *ℤ (m -ℤ n) *ℤ d → n ≡ m → a ≡ pos 0
 level k l a d m n p e i = cancel k a (not_zero k p) (follows (k ∷ l ∷ a ∷ d ∷ m ∷ n ∷ []) (at 0 ⊗ at 2) (num (pos 0)) (given (num (pos 1)) (at 0 ⊗ at 2) (at 1 ⊗ (at 4 ⊖ at 5) ⊗ at 3) e (given (neg (at 1 ⊗ at 3)) (at 5) (at 4) i none)) tt)
 
-same : (s : Place) (d : Vector) (pn pm : ℤ) (p : Place) (qn qm : ℤ) (q : Place) → pos 0 <ℤ pm → pos 0 <ℤ qm → IsOnRay s d pn pm p → IsOnRay s d qn qm q → pn *ℤ qm ≡ qn *ℤ pm → SamePlace p q
+same : (s : SpacePoint) (d : Vector) (pn pm : ℤ) (p : SpacePoint) (qn qm : ℤ) (q : SpacePoint) → pos 0 <ℤ pm → pos 0 <ℤ qm → IsOnRay s d pn pm p → IsOnRay s d qn qm q → pn *ℤ qm ≡ qn *ℤ pm → SamePoint p q
 same s d pn pm p qn qm q pp qp i j e =
     let k = mul_pos (pm *ℤ qm) (pos s.w) (mul_pos pm qm pp qp) (positive_weight s) in
     let t = scaled_way s d pn pm p qn qm q i j in
@@ -98,8 +98,8 @@ same s d pn pm p qn qm q pp qp i j e =
     }
 
 -- the order of the steps is that of the points
-pub along-ray : (s : Place) (d : Vector) (pn pm : ℤ) (p : Place) (qn qm : ℤ) (q : Place) (o : Ordering) → IsDirection d → (pp : pos 0 <ℤ pm) (qp : pos 0 <ℤ qm) → IsReached s d pn pm pp p → IsReached s d qn qm qp q
-    → MatchOrdering o ((pn *ℤ qm) <ℤ (qn *ℤ pm)) (pn *ℤ qm ≡ qn *ℤ pm) ((qn *ℤ pm) <ℤ (pn *ℤ qm)) → MatchOrdering o (IsAhead p d q) (SamePlace p q) (IsAhead q d p)
+pub along-ray : (s : SpacePoint) (d : Vector) (pn pm : ℤ) (p : SpacePoint) (qn qm : ℤ) (q : SpacePoint) (o : Ordering) → IsDirection d → (pp : pos 0 <ℤ pm) (qp : pos 0 <ℤ qm) → IsReached s d pn pm pp p → IsReached s d qn qm qp q
+    → MatchOrdering o ((pn *ℤ qm) <ℤ (qn *ℤ pm)) (pn *ℤ qm ≡ qn *ℤ pm) ((qn *ℤ pm) <ℤ (pn *ℤ qm)) → MatchOrdering o (IsAhead p d q) (SamePoint p q) (IsAhead q d p)
 along-ray s d pn pm p qn qm q Less some pp qp i j h = ahead s d pn pm p qn qm q some pp qp (on_ray s d pn pm pp p i) (on_ray s d qn qm qp q j) h
 along-ray s d pn pm p qn qm q Equal some pp qp i j h = same s d pn pm p qn qm q pp qp (on_ray s d pn pm pp p i) (on_ray s d qn qm qp q j) h
 along-ray s d pn pm p qn qm q Greater some pp qp i j h = ahead s d qn qm q pn pm p some qp pp (on_ray s d qn qm qp q j) (on_ray s d pn pm pp p i) h

@@ -1,5 +1,5 @@
 -- Cramer's rule for three planes.
-use Rattle.nef_geo.proofs.Prelude.{◌≡◌, ◌≢◌, ℕ, zero, suc, ◌+◌, ℤ, pos, negsuc, neg_ℤ, ◌+ℤ◌, ◌-ℤ◌, ◌*ℤ◌, ◌<ℤ◌, nat_abs, List, [], ◌∷◌, arith, refl, sym, ap, ◌∙◌, ints, Vector, vector, dot, cross, triple, Form, form_at, normal_of, SamePlace, none, given, follows, Poly, at, num, neg, ◌⊕◌, ◌⊖◌, ◌⊗◌, ring, IsSameRatios, IsOnlyCommon, place_at, pos-abs}
+use Rattle.nef_geo.proofs.Prelude.{◌≡◌, ◌≢◌, ℕ, zero, suc, ◌+◌, ℤ, pos, negsuc, neg_ℤ, ◌+ℤ◌, ◌-ℤ◌, ◌*ℤ◌, ◌<ℤ◌, nat_abs, List, [], ◌∷◌, arith, refl, sym, ap, ◌∙◌, ints, Vector, vector, dot, cross, triple, Form, form_at, normal_of, SamePoint, none, given, follows, Poly, at, num, neg, ◌⊕◌, ◌⊖◌, ◌⊗◌, ring, IsSameRatios, IsOnlyCommon, point_at, pos-abs}
 
 abbrev pub constants : Form → Form → Form → Vector
 constants p q r = vector p.d q.d r.d
@@ -110,10 +110,10 @@ same_from v d k l x w n s e =
     (given (at 3) (neg (at 0) ⊗ at 5) (at 4 ⊗ at 1) s none)) tt))
 
 -- at a place
-at_place : (h : Form) (x y z w : ℤ) (positive : pos 0 <ℤ w) → form_value h x y z w ≡ pos 0 → form_at h (place_at x y z w positive) ≡ pos 0
+at_place : (h : Form) (x y z w : ℤ) (positive : pos 0 <ℤ w) → form_value h x y z w ≡ pos 0 → form_at h (point_at x y z w positive) ≡ pos 0
 at_place h x y z w positive e = ap (λ (n : ℤ). form_value h x y z n) (pos-abs w positive) ∙ e
 
-pub IsOnlyCommon-from_ratios : (p q r : Form) (x y z w : ℤ) (positive : pos 0 <ℤ w) → meet_w p q r ≢ pos 0 → IsSameRatios (neg_ℤ (meet_x p q r)) (neg_ℤ (meet_y p q r)) (neg_ℤ (meet_z p q r)) (meet_w p q r) x y z w → IsOnlyCommon p q r (place_at x y z w positive)
+pub IsOnlyCommon-from_ratios : (p q r : Form) (x y z w : ℤ) (positive : pos 0 <ℤ w) → meet_w p q r ≢ pos 0 → IsSameRatios (neg_ℤ (meet_x p q r)) (neg_ℤ (meet_y p q r)) (neg_ℤ (meet_z p q r)) (meet_w p q r) x y z w → IsOnlyCommon p q r (point_at x y z w positive)
 IsOnlyCommon-from_ratios p q r x y z w positive some s = record {
   on_p = at_place p x y z w positive (on_ratios p _ _ _ _ x y z w some s (solves_p p q r));
   on_q = at_place q x y z w positive (on_ratios q _ _ _ _ x y z w some s (solves_q p q r));
@@ -139,8 +139,8 @@ pub turned_z : (p q r : Form) → dot (constants p q r) (vector (cross (normal_o
 turned_z p q r = ring (planes p q r []) (at 3 ⊗ cross_poly 8 4 0 1 ⊕ at 7 ⊗ cross_poly 0 8 0 1 ⊕ at 11 ⊗ cross_poly 4 0 0 1) (neg (meet_poly 0 1)) tt
 
 -- the numbers of a point that stands for given numbers
-pub IsSameRatios-from_place : (x y z w x' y' z' w' : ℤ) (p : pos 0 <ℤ w) (q : pos 0 <ℤ w') → SamePlace (place_at x y z w p) (place_at x' y' z' w' q) → IsSameRatios x y z w x' y' z' w'
-IsSameRatios-from_place x y z w x' y' z' w' p q s = record {
+pub IsSameRatios-from_point : (x y z w x' y' z' w' : ℤ) (p : pos 0 <ℤ w) (q : pos 0 <ℤ w') → SamePoint (point_at x y z w p) (point_at x' y' z' w' q) → IsSameRatios x y z w x' y' z' w'
+IsSameRatios-from_point x y z w x' y' z' w' p q s = record {
   along_x = plain x x' s.along_x;
   along_y = plain y y' s.along_y;
   along_z = plain z z' s.along_z;

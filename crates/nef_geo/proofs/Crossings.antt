@@ -1,9 +1,9 @@
 -- Where a ray crosses a plane.
-use Rattle.nef_geo.proofs.Prelude.{◌≡◌, ◌≢◌, ℕ, ◌+◌, ◌*◌, ℤ, pos, ◌+ℤ◌, ◌-ℤ◌, ◌*ℤ◌, ◌<ℤ◌, nat_abs, List, [], ◌∷◌, inl, inr, arith, ap, ◌∙◌, ints, Place, Form, form_at, slope, toward, IsAhead, Vector, dot, IsDirection, none, given, follows, mul_pos, mul_neg, by_order, pos-abs, Poly, at, num, neg, ◌⊕◌, ◌⊖◌, ◌⊗◌, ring, IsCrossing, IsReached, IsReachedBy, IsStretched, place_at, HasOppositeSigns, self-pos}
+use Rattle.nef_geo.proofs.Prelude.{◌≡◌, ◌≢◌, ℕ, ◌+◌, ◌*◌, ℤ, pos, ◌+ℤ◌, ◌-ℤ◌, ◌*ℤ◌, ◌<ℤ◌, nat_abs, List, [], ◌∷◌, inl, inr, arith, ap, ◌∙◌, ints, SpacePoint, Form, form_at, slope, toward, IsAhead, Vector, dot, IsDirection, none, given, follows, mul_pos, mul_neg, by_order, pos-abs, Poly, at, num, neg, ◌⊕◌, ◌⊖◌, ◌⊗◌, ring, IsCrossing, IsReached, IsReachedBy, IsStretched, point_at, HasOppositeSigns, self-pos}
 use Rattle.nef_geo.proofs.Directions.{SameDirection-stretched}
 
 -- variables: 0 to 3 the form, 4 to 7 the start, 8 to 10 the direction, 11 and 12 the step, 13 to 16 the point
-abbrev all : Form → Place → Vector → (n m x y z w : ℤ) → List ℤ
+abbrev all : Form → SpacePoint → Vector → (n m x y z w : ℤ) → List ℤ
 all h s d n m x y z w = h.a ∷ h.b ∷ h.c ∷ h.d ∷ s.x ∷ s.y ∷ s.z ∷ pos s.w ∷ d.x ∷ d.y ∷ d.z ∷ n ∷ m ∷ x ∷ y ∷ z ∷ w ∷ []
 
 abbrev slope_poly : Poly
@@ -16,8 +16,8 @@ abbrev reach_poly : ℕ → ℕ → Poly
 reach_poly i j = at i ⊗ at 12 ⊕ at 11 ⊗ at j
 
 -- the form at the point
-pub form_at-reached : (h : Form) (s : Place) (d : Vector) (n m x y z w : ℤ) (positive : pos 0 <ℤ w) → IsReachedBy s d n m x y z w
-    → form_at h (place_at x y z w positive) ≡ n *ℤ slope h d +ℤ m *ℤ form_at h s
+pub form_at-reached : (h : Form) (s : SpacePoint) (d : Vector) (n m x y z w : ℤ) (positive : pos 0 <ℤ w) → IsReachedBy s d n m x y z w
+    → form_at h (point_at x y z w positive) ≡ n *ℤ slope h d +ℤ m *ℤ form_at h s
 form_at-reached h s d n m x y z w positive r =
     ap (λ (k : ℤ). h.a *ℤ x +ℤ h.b *ℤ y +ℤ h.c *ℤ z +ℤ h.d *ℤ k) (pos-abs w positive)
     ∙ follows (all h s d n m x y z w) (form_poly 13) (at 11 ⊗ slope_poly ⊕ at 12 ⊗ form_poly 4)
@@ -26,7 +26,7 @@ form_at-reached h s d n m x y z w positive r =
     (given (at 2) (at 15) (reach_poly 6 10) r.z_is
     (given (at 3) (at 16) (at 7 ⊗ at 12) r.w_is none)))) tt
 
-positive_weight : (s : Place) → pos 0 <ℤ pos s.w
+positive_weight : (s : SpacePoint) → pos 0 <ℤ pos s.w
 positive_weight s = let p = s.proper in omega (arith, ints)
 
 -- one coordinate of the way from the start to the point
@@ -37,20 +37,20 @@ way c d n m w sw x k e ex ew =
     (given (neg (at 0)) (at 4) (at 5 ⊗ at 3) ew
     (given (neg (at 0)) (at 7) (at 4) e none))) tt
 
-pub IsAhead-reached : (s : Place) (d : Vector) (n m x y z w : ℤ) (positive : pos 0 <ℤ w) → IsDirection d → pos 0 <ℤ n → IsReachedBy s d n m x y z w → IsAhead s d (place_at x y z w positive)
+pub IsAhead-reached : (s : SpacePoint) (d : Vector) (n m x y z w : ℤ) (positive : pos 0 <ℤ w) → IsDirection d → pos 0 <ℤ n → IsReachedBy s d n m x y z w → IsAhead s d (point_at x y z w positive)
 IsAhead-reached s d n m x y z w positive some p r =
     let k = pos-abs w positive in
-    let stretched : IsStretched (toward s (place_at x y z w positive)) d = record {
+    let stretched : IsStretched (toward s (point_at x y z w positive)) d = record {
       factor = n *ℤ pos s.w;
       positive = mul_pos n (pos s.w) p (positive_weight s);
       x_is = way s.x d.x n m w (pos s.w) x (pos (nat_abs w)) k r.x_is r.w_is;
       y_is = way s.y d.y n m w (pos s.w) y (pos (nat_abs w)) k r.y_is r.w_is;
       z_is = way s.z d.z n m w (pos s.w) z (pos (nat_abs w)) k r.z_is r.w_is;
     } in
-    SameDirection-stretched (toward s (place_at x y z w positive)) d stretched some
+    SameDirection-stretched (toward s (point_at x y z w positive)) d stretched some
 
-pub IsCrossing-reached : (h : Form) (s : Place) (d : Vector) (n m x y z w : ℤ) (positive : pos 0 <ℤ w) → IsDirection d → pos 0 <ℤ n → IsReachedBy s d n m x y z w
-    → n *ℤ slope h d +ℤ m *ℤ form_at h s ≡ pos 0 → slope h d ≢ pos 0 → IsCrossing s d h (place_at x y z w positive)
+pub IsCrossing-reached : (h : Form) (s : SpacePoint) (d : Vector) (n m x y z w : ℤ) (positive : pos 0 <ℤ w) → IsDirection d → pos 0 <ℤ n → IsReachedBy s d n m x y z w
+    → n *ℤ slope h d +ℤ m *ℤ form_at h s ≡ pos 0 → slope h d ≢ pos 0 → IsCrossing s d h (point_at x y z w positive)
 IsCrossing-reached h s d n m x y z w positive some p r balance passes = record {
   on = form_at-reached h s d n m x y z w positive r ∙ balance;
   ahead = IsAhead-reached s d n m x y z w positive some p r;
@@ -70,7 +70,7 @@ at_step c d n m w sw x k b l ek eb el ex ew =
     rw (ek, el, eb, ew, ex)
     (ring (c ∷ d ∷ n ∷ m ∷ sw ∷ []) ((at 0 ⊗ at 3 ⊕ at 2 ⊗ at 1) ⊗ (at 4 ⊗ (at 3 ⊗ at 4))) ((at 0 ⊗ (at 3 ⊗ at 4) ⊕ at 2 ⊗ at 4 ⊗ at 1) ⊗ (at 4 ⊗ at 3)) tt)
 
-pub IsReached-by : (s : Place) (d : Vector) (n m x y z w : ℤ) (positive : pos 0 <ℤ w) (below : pos 0 <ℤ m) → IsReachedBy s d n m x y z w → IsReached s d n m below (place_at x y z w positive)
+pub IsReached-by : (s : SpacePoint) (d : Vector) (n m x y z w : ℤ) (positive : pos 0 <ℤ w) (below : pos 0 <ℤ m) → IsReachedBy s d n m x y z w → IsReached s d n m below (point_at x y z w positive)
 IsReached-by s d n m x y z w positive below r =
     let ek = pos-abs w positive in
     let eb = pos_times m s.w below in
@@ -110,7 +110,7 @@ square_poly = at 8 ⊗ at 8 ⊕ at 9 ⊗ at 9 ⊕ at 10 ⊗ at 10
 abbrev forward_poly : Poly
 forward_poly = way_poly 0 ⊗ at 8 ⊕ way_poly 1 ⊗ at 9 ⊕ way_poly 2 ⊗ at 10
 
-pub opposite-crossing : (h : Form) (s : Place) (d : Vector) (q : Place) → IsDirection d → IsCrossing s d h q → HasOppositeSigns (form_at h s) (slope h d)
+pub opposite-crossing : (h : Form) (s : SpacePoint) (d : Vector) (q : SpacePoint) → IsDirection d → IsCrossing s d h q → HasOppositeSigns (form_at h s) (slope h d)
 opposite-crossing h s d q some c =
     let t = toward s q in
     let cx : t.y *ℤ d.z -ℤ t.z *ℤ d.y ≡ pos 0 = c.ahead.parallel.0 in

@@ -34,23 +34,23 @@ pub record IsPair (n e f : Vector) : Type 0 where
   pub axis : plane_axis n ≡ e
   pub beside : second_beside n ≡ f
 
-pub data IsKind (n : Vector) : Type 0 where
-  by_z : n.z ≢ pos 0 → IsPair n (beside_x n) (beside_y n) → IsKind n
-  by_y : n.z ≡ pos 0 → n.y ≢ pos 0 → IsPair n (beside_x n) (beside_z n) → IsKind n
-  by_x : n.z ≡ pos 0 → n.y ≡ pos 0 → n.x ≢ pos 0 → IsPair n (beside_y n) (beside_z n) → IsKind n
+pub data IsNormalKind (n : Vector) : Type 0 where
+  by_z : n.z ≢ pos 0 → IsPair n (beside_x n) (beside_y n) → IsNormalKind n
+  by_y : n.z ≡ pos 0 → n.y ≢ pos 0 → IsPair n (beside_x n) (beside_z n) → IsNormalKind n
+  by_x : n.z ≡ pos 0 → n.y ≡ pos 0 → n.x ≢ pos 0 → IsPair n (beside_y n) (beside_z n) → IsNormalKind n
 
 zero_or : (z : ℤ) → (z ≡ pos 0) ⊎ (z ≢ pos 0)
 zero_or (pos zero) = inl refl
 zero_or (pos (suc n)) = inr (λ e. omega (arith, ints))
 zero_or (negsuc n) = inr (λ e. omega (arith, ints))
 
-pub kind_of : (n : Vector) → IsNormal n → IsKind n
+pub kind_of : (n : Vector) → IsNormal n → IsNormalKind n
 kind_of n h =
     elim (zero_or n.z) [
-      | inr some ↦ IsKind.by_z some (record { axis = rw (int_eq-other n.z some) refl; beside = rw (int_eq-other n.z some) refl })
+      | inr some ↦ IsNormalKind.by_z some (record { axis = rw (int_eq-other n.z some) refl; beside = rw (int_eq-other n.z some) refl })
       | inl z ↦ elim (zero_or n.y) [
-        | inr some ↦ IsKind.by_y z some (record { axis = rw (int_eq-zero n.z z, int_eq-other n.y some) refl; beside = rw (int_eq-zero n.z z) refl })
-        | inl y ↦ IsKind.by_x z y
+        | inr some ↦ IsNormalKind.by_y z some (record { axis = rw (int_eq-zero n.z z, int_eq-other n.y some) refl; beside = rw (int_eq-zero n.z z) refl })
+        | inl y ↦ IsNormalKind.by_x z y
             (λ x. let f : pos 0 <ℤ n.z = h.third x y in omega (arith, ints))
             (record { axis = rw (int_eq-zero n.z z, int_eq-zero n.y y) refl; beside = rw (int_eq-zero n.z z) refl })
       ]
@@ -76,10 +76,10 @@ record IsFlat (n e f : Vector) : Type 0 where
 flat_pair : (n a b : Vector) → IsPair n a b → dot n a ≡ pos 0 → dot n b ≡ pos 0 → IsFlat n (plane_axis n) (second_beside n)
 flat_pair n a b p i j = record { axis = ap (dot n) p.axis ∙ i; beside = ap (dot n) p.beside ∙ j }
 
-flat_of : (n : Vector) → IsKind n → IsFlat n (plane_axis n) (second_beside n)
-flat_of n (IsKind.by_z some p) = flat_pair n _ _ p (flat_x n) (flat_y n)
-flat_of n (IsKind.by_y z some p) = flat_pair n _ _ p (flat_x n) (flat_z n)
-flat_of n (IsKind.by_x z y some p) = flat_pair n _ _ p (flat_y n) (flat_z n)
+flat_of : (n : Vector) → IsNormalKind n → IsFlat n (plane_axis n) (second_beside n)
+flat_of n (IsNormalKind.by_z some p) = flat_pair n _ _ p (flat_x n) (flat_y n)
+flat_of n (IsNormalKind.by_y z some p) = flat_pair n _ _ p (flat_x n) (flat_z n)
+flat_of n (IsNormalKind.by_x z y some p) = flat_pair n _ _ p (flat_y n) (flat_z n)
 
 -- the second direction is k times the axis and once what is beside it
 abbrev factor : ℤ
@@ -138,10 +138,10 @@ parallel_by_x g n some e f =
 on_pair : (g n a b : Vector) → IsPair n a b → dot g (plane_axis n) ≡ pos 0 → dot g (second_beside n) ≡ pos 0 → IsFlat g a b
 on_pair g n a b p i j = record { axis = sym (ap (dot g) p.axis) ∙ i; beside = sym (ap (dot g) p.beside) ∙ j }
 
-parallel_of : (g n : Vector) → IsKind n → dot g (plane_axis n) ≡ pos 0 → dot g (second_beside n) ≡ pos 0 → IsParallel g n
-parallel_of g n (IsKind.by_z some p) i j = let f = on_pair g n _ _ p i j in parallel_by_z g n some f.axis f.beside
-parallel_of g n (IsKind.by_y z some p) i j = let f = on_pair g n _ _ p i j in parallel_by_y g n some f.axis f.beside
-parallel_of g n (IsKind.by_x z y some p) i j = let f = on_pair g n _ _ p i j in parallel_by_x g n some f.axis f.beside
+parallel_of : (g n : Vector) → IsNormalKind n → dot g (plane_axis n) ≡ pos 0 → dot g (second_beside n) ≡ pos 0 → IsParallel g n
+parallel_of g n (IsNormalKind.by_z some p) i j = let f = on_pair g n _ _ p i j in parallel_by_z g n some f.axis f.beside
+parallel_of g n (IsNormalKind.by_y z some p) i j = let f = on_pair g n _ _ p i j in parallel_by_y g n some f.axis f.beside
+parallel_of g n (IsNormalKind.by_x z y some p) i j = let f = on_pair g n _ _ p i j in parallel_by_x g n some f.axis f.beside
 
 -- ---- sizes
 neg_small : (k : ℕ) (n : ℤ) → nat_abs n ≤ k → nat_abs (neg_ℤ n) ≤ k
@@ -163,10 +163,10 @@ pub record IsSmallPair (n : Vector) : Type 0 where
 small_pair : (n a b : Vector) → IsPair n a b → IsAtMost normal_limit a → IsAtMost normal_limit b → IsSmallPair n
 small_pair n a b p i j = record { axis = subst (IsAtMost normal_limit) (sym p.axis) i; beside = subst (IsAtMost normal_limit) (sym p.beside) j }
 
-small_of : (n : Vector) → IsAtMost normal_limit n → IsKind n → IsSmallPair n
-small_of n h (IsKind.by_z some p) = small_pair n _ _ p (beside_x_small normal_limit n h) (beside_y_small normal_limit n h)
-small_of n h (IsKind.by_y z some p) = small_pair n _ _ p (beside_x_small normal_limit n h) (beside_z_small normal_limit n h)
-small_of n h (IsKind.by_x z y some p) = small_pair n _ _ p (beside_y_small normal_limit n h) (beside_z_small normal_limit n h)
+small_of : (n : Vector) → IsAtMost normal_limit n → IsNormalKind n → IsSmallPair n
+small_of n h (IsNormalKind.by_z some p) = small_pair n _ _ p (beside_x_small normal_limit n h) (beside_y_small normal_limit n h)
+small_of n h (IsNormalKind.by_y z some p) = small_pair n _ _ p (beside_x_small normal_limit n h) (beside_z_small normal_limit n h)
+small_of n h (IsNormalKind.by_x z y some p) = small_pair n _ _ p (beside_y_small normal_limit n h) (beside_z_small normal_limit n h)
 
 pub pair_small : (h : Plane) → IsSmallPair (normal_of (form_of h))
 pair_small h = small_of (normal_of (form_of h)) (normal_within h) (kind_of (normal_of (form_of h)) h.normal)
@@ -188,10 +188,10 @@ dir-alone g h e =
     parallel_of m n (kind_of n h.normal) z (rest_zero p q both z)
 
 -- ---- neither is zero
-axis_some : (n : Vector) → IsKind n → IsDirection (plane_axis n)
-axis_some n (IsKind.by_z some p) z = some (let e = subst IsZero p.axis z in e.1)
-axis_some n (IsKind.by_y y some p) z = some (let e = subst IsZero p.axis z in let f : neg_ℤ n.y ≡ pos 0 = e.2 in omega (arith, ints))
-axis_some n (IsKind.by_x z' y some p) z = some (let e = subst IsZero p.axis z in e.2)
+axis_some : (n : Vector) → IsNormalKind n → IsDirection (plane_axis n)
+axis_some n (IsNormalKind.by_z some p) z = some (let e = subst IsZero p.axis z in e.1)
+axis_some n (IsNormalKind.by_y y some p) z = some (let e = subst IsZero p.axis z in let f : neg_ℤ n.y ≡ pos 0 = e.2 in omega (arith, ints))
+axis_some n (IsNormalKind.by_x z' y some p) z = some (let e = subst IsZero p.axis z in e.2)
 
 pub axis-direction : (h : Plane) → IsDirection (plane_axis (normal_of (form_of h)))
 axis-direction h = axis_some (normal_of (form_of h)) (kind_of (normal_of (form_of h)) h.normal)
@@ -208,10 +208,10 @@ no_multiple n e = omega (arith, ints)
 no_opposite : (n : ℤ) → factor *ℤ neg_ℤ n +ℤ pos 1 *ℤ pos 0 ≡ pos 0 → n ≡ pos 0
 no_opposite n e = omega (arith, ints)
 
-dir_some : (n : Vector) → IsKind n → IsDirection (plane_dir n)
-dir_some n (IsKind.by_z some p) z = some (no_multiple n.z (subst IsZero (made_of n _ _ p) z).1)
-dir_some n (IsKind.by_y y some p) z = some (no_opposite n.y (subst IsZero (made_of n _ _ p) z).2)
-dir_some n (IsKind.by_x z' y some p) z = some (no_multiple n.x (subst IsZero (made_of n _ _ p) z).2)
+dir_some : (n : Vector) → IsNormalKind n → IsDirection (plane_dir n)
+dir_some n (IsNormalKind.by_z some p) z = some (no_multiple n.z (subst IsZero (made_of n _ _ p) z).1)
+dir_some n (IsNormalKind.by_y y some p) z = some (no_opposite n.y (subst IsZero (made_of n _ _ p) z).2)
+dir_some n (IsNormalKind.by_x z' y some p) z = some (no_multiple n.x (subst IsZero (made_of n _ _ p) z).2)
 
 pub dir-direction : (h : Plane) → IsDirection (plane_dir (normal_of (form_of h)))
 dir-direction h = dir_some (normal_of (form_of h)) (kind_of (normal_of (form_of h)) h.normal)
@@ -241,10 +241,10 @@ made_size a b i j =
       sum = omega (arith, x, y, z, i.sum, j.sum);
     }
 
-dir_sized : (n : Vector) → IsAtMost normal_limit n → IsKind n → IsPlaneDirSized (plane_dir n)
-dir_sized n h (IsKind.by_z some p) = subst IsPlaneDirSized (sym (made_of n _ _ p)) (made_size _ _ (lean_x normal_limit n h) (lean_y normal_limit n h))
-dir_sized n h (IsKind.by_y y some p) = subst IsPlaneDirSized (sym (made_of n _ _ p)) (made_size _ _ (lean_x normal_limit n h) (lean_z normal_limit n h))
-dir_sized n h (IsKind.by_x z y some p) = subst IsPlaneDirSized (sym (made_of n _ _ p)) (made_size _ _ (lean_y normal_limit n h) (lean_z normal_limit n h))
+dir_sized : (n : Vector) → IsAtMost normal_limit n → IsNormalKind n → IsPlaneDirSized (plane_dir n)
+dir_sized n h (IsNormalKind.by_z some p) = subst IsPlaneDirSized (sym (made_of n _ _ p)) (made_size _ _ (lean_x normal_limit n h) (lean_y normal_limit n h))
+dir_sized n h (IsNormalKind.by_y y some p) = subst IsPlaneDirSized (sym (made_of n _ _ p)) (made_size _ _ (lean_x normal_limit n h) (lean_z normal_limit n h))
+dir_sized n h (IsNormalKind.by_x z y some p) = subst IsPlaneDirSized (sym (made_of n _ _ p)) (made_size _ _ (lean_y normal_limit n h) (lean_z normal_limit n h))
 
 pub dir-size : (h : Plane) → IsPlaneDirSized (plane_dir (normal_of (form_of h)))
 dir-size h = dir_sized (normal_of (form_of h)) (normal_within h) (kind_of (normal_of (form_of h)) h.normal)

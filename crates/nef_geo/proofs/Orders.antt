@@ -1,14 +1,14 @@
 -- The orders of points, directions and planes, number by number; the last two are total.
-use Rattle.nef_geo.proofs.Prelude.{◌≡◌, ◌≤◌, ℤ, pos, ◌*ℤ◌, ◌<ℤ◌, nat_abs, List, [], ◌∷◌, inl, inr, arith, ap, sym, subst, ◌∙◌, w64, to_z, of_z, Ordering, Less, Equal, Greater, IsTotalOrder, int_ranks, MatchOrdering, int_cmp, ordering_then, ints, int_ranked, int_cmp_total, on_total, then_total, point_limit, weight_limit, IsBelow, Place, form_numbers, SamePlace, IsPlaceBelow, triple_of, Dir, Plane, Point, form_of, place_of, vector_of, pos-abs}
+use Rattle.nef_geo.proofs.Prelude.{◌≡◌, ◌≤◌, ℤ, pos, ◌*ℤ◌, ◌<ℤ◌, nat_abs, List, [], ◌∷◌, inl, inr, arith, ap, sym, subst, ◌∙◌, w64, to_z, of_z, Ordering, Less, Equal, Greater, IsTotalOrder, int_ranks, MatchOrdering, int_cmp, ordering_then, ints, int_ranked, int_cmp_total, on_total, then_total, point_limit, weight_limit, IsBelow, SpacePoint, form_numbers, SamePoint, IsPointBelow, direction_numbers, Dir, Plane, Point, form_of, point_of, vector_of, pos-abs}
 use Rattle.nef_geo.proofs.Products.{kept}
 use Rattle.nef_geo.proofs.Unique.{direction_equal, plane_equal}
 
 -- x over p's w against y over q's
-abbrev pub IsRanked : ℤ → Place → ℤ → Place → Ordering → Type 0
+abbrev pub IsRanked : ℤ → SpacePoint → ℤ → SpacePoint → Ordering → Type 0
 IsRanked x p y q o = MatchOrdering o ((x *ℤ pos q.w) <ℤ (y *ℤ pos p.w)) (x *ℤ pos q.w ≡ y *ℤ pos p.w) ((y *ℤ pos p.w) <ℤ (x *ℤ pos q.w))
 
 pub IsRanked-from_cmp : (x : ℤ) (p : Point) (y : ℤ) (q : Point) (o : Ordering) → nat_abs x ≤ point_limit → nat_abs y ≤ point_limit
-    → o ≡ int_cmp (to_z w64 (of_z w64 x) *ℤ to_z w64 (of_z w64 q.w)) (to_z w64 (of_z w64 y) *ℤ to_z w64 (of_z w64 p.w)) → IsRanked x (place_of p) y (place_of q) o
+    → o ≡ int_cmp (to_z w64 (of_z w64 x) *ℤ to_z w64 (of_z w64 q.w)) (to_z w64 (of_z w64 y) *ℤ to_z w64 (of_z w64 p.w)) → IsRanked x (point_of p) y (point_of q) o
 IsRanked-from_cmp x p y q o sx sy e =
     let wide = λ (n : ℤ) (h : nat_abs n ≤ weight_limit). let k : nat_abs n ≤ point_limit = omega (arith, h) in k in
     int_ranked _ _ o (e
@@ -19,24 +19,24 @@ IsRanked-from_cmp x p y q o sx sy e =
     numbers n w sn sw positive = ap (λ (m : ℤ). m *ℤ to_z w64 (of_z w64 w)) (kept n sn) ∙ ap (λ (m : ℤ). n *ℤ m) (kept w sw ∙ sym (pos-abs w positive))
 
 -- points that agree in x and y are in the order of their z
-order-from_last : (p q : Place) (o : Ordering) → p.x *ℤ pos q.w ≡ q.x *ℤ pos p.w → p.y *ℤ pos q.w ≡ q.y *ℤ pos p.w → IsRanked p.z p q.z q o → MatchOrdering o (IsPlaceBelow p q) (SamePlace p q) (IsPlaceBelow q p)
+order-from_last : (p q : SpacePoint) (o : Ordering) → p.x *ℤ pos q.w ≡ q.x *ℤ pos p.w → p.y *ℤ pos q.w ≡ q.y *ℤ pos p.w → IsRanked p.z p q.z q o → MatchOrdering o (IsPointBelow p q) (SamePoint p q) (IsPointBelow q p)
 order-from_last p q Less ex ey h = inr (ex, inr (ey, inl h))
 order-from_last p q Equal ex ey h = record { along_x = ex; along_y = ey; along_z = h }
 order-from_last p q Greater ex ey h = inr (sym ex, inr (sym ey, inl h))
 
 -- x decides, then y, then z
-ranked-in_turn : (p q : Place) (x y z : Ordering) → IsRanked p.x p q.x q x → IsRanked p.y p q.y q y → IsRanked p.z p q.z q z
-    → MatchOrdering (ordering_then (ordering_then x y) z) (IsPlaceBelow p q) (SamePlace p q) (IsPlaceBelow q p)
+ranked-in_turn : (p q : SpacePoint) (x y z : Ordering) → IsRanked p.x p q.x q x → IsRanked p.y p q.y q y → IsRanked p.z p q.z q z
+    → MatchOrdering (ordering_then (ordering_then x y) z) (IsPointBelow p q) (SamePoint p q) (IsPointBelow q p)
 ranked-in_turn p q Less y z hx hy hz = inl hx
 ranked-in_turn p q Greater y z hx hy hz = inl hx
 ranked-in_turn p q Equal Less z hx hy hz = inr (hx, inl hy)
 ranked-in_turn p q Equal Greater z hx hy hz = inr (sym hx, inl hy)
 ranked-in_turn p q Equal Equal z hx hy hz = order-from_last p q z hx hy hz
 
-pub order-in_turn : (p q : Place) (x y z o : Ordering) → IsRanked p.x p q.x q x → IsRanked p.y p q.y q y → IsRanked p.z p q.z q z
-    → o ≡ ordering_then (ordering_then x y) z → MatchOrdering o (IsPlaceBelow p q) (SamePlace p q) (IsPlaceBelow q p)
+pub order-in_turn : (p q : SpacePoint) (x y z o : Ordering) → IsRanked p.x p q.x q x → IsRanked p.y p q.y q y → IsRanked p.z p q.z q z
+    → o ≡ ordering_then (ordering_then x y) z → MatchOrdering o (IsPointBelow p q) (SamePoint p q) (IsPointBelow q p)
 order-in_turn p q x y z o hx hy hz e =
-    subst (λ (k : Ordering). MatchOrdering k (IsPlaceBelow p q) (SamePlace p q) (IsPlaceBelow q p)) (sym e) (ranked-in_turn p q x y z hx hy hz)
+    subst (λ (k : Ordering). MatchOrdering k (IsPointBelow p q) (SamePoint p q) (IsPointBelow q p)) (sym e) (ranked-in_turn p q x y z hx hy hz)
 
 -- ---- orders that a later one decides
 pub then-is : (o k r : Ordering) (P : Type 0) → MatchOrdering o (r ≡ Less) P (r ≡ Greater) → (P → r ≡ k) → r ≡ ordering_then o k
@@ -98,7 +98,7 @@ order-map E Less xs ys f h = h.order
 order-map E Equal xs ys f h = f h.order
 order-map E Greater xs ys f h = h.order
 
-dir-equal : (a b : Dir) → triple_of (vector_of a) ≡ triple_of (vector_of b) → a ≡ b
+dir-equal : (a b : Dir) → direction_numbers (vector_of a) ≡ direction_numbers (vector_of b) → a ≡ b
 dir-equal a b e =
     direction_equal a.x a.y a.z (a.x_small, a.y_small, a.z_small, a.some, a.lowest) b.x b.y b.z (b.x_small, b.y_small, b.z_small, b.some, b.lowest) (cc) (cc) (cc)
 
@@ -108,10 +108,10 @@ dir_order a b = ordering_then (int_cmp a.x b.x) (ordering_then (int_cmp a.y b.y)
 pub dir_total : IsTotalOrder dir_order
 dir_total = then_total (on_total (λ (d : Dir). d.x) int_cmp_total) (then_total (on_total (λ (d : Dir). d.y) int_cmp_total) (on_total (λ (d : Dir). d.z) int_cmp_total))
 
-pub dir-ordered : (a b : Dir) (o : Ordering) → o ≡ dir_order a b → MatchOrdering o (IsBelow (triple_of (vector_of a)) (triple_of (vector_of b))) (a ≡ b) (IsBelow (triple_of (vector_of b)) (triple_of (vector_of a)))
+pub dir-ordered : (a b : Dir) (o : Ordering) → o ≡ dir_order a b → MatchOrdering o (IsBelow (direction_numbers (vector_of a)) (direction_numbers (vector_of b))) (a ≡ b) (IsBelow (direction_numbers (vector_of b)) (direction_numbers (vector_of a)))
 dir-ordered a b o e =
-    order-map (a ≡ b) o (triple_of (vector_of a)) (triple_of (vector_of b)) (dir-equal a b)
-    (subst (λ (k : Ordering). IsListOrder k (triple_of (vector_of a)) (triple_of (vector_of b))) (sym e)
+    order-map (a ≡ b) o (direction_numbers (vector_of a)) (direction_numbers (vector_of b)) (dir-equal a b)
+    (subst (λ (k : Ordering). IsListOrder k (direction_numbers (vector_of a)) (direction_numbers (vector_of b))) (sym e)
     (order-cons a.x b.x (a.y ∷ a.z ∷ []) (b.y ∷ b.z ∷ []) _ (order-cons a.y b.y (a.z ∷ []) (b.z ∷ []) _ (order-one a.z b.z))))
 
 plane-equal : (g h : Plane) → form_numbers (form_of g) ≡ form_numbers (form_of h) → g ≡ h

@@ -1,5 +1,5 @@
 -- Signs of products, of sums and of forms.
-use Rattle.nef_geo.proofs.Prelude.{◌≡◌, zero, suc, ℤ, pos, negsuc, neg_ℤ, ◌*ℤ◌, ◌<ℤ◌, Bool, true, false, arith, refl, sym, ap, ◌∙◌, subst, [], ◌∷◌, FitsSigned, to_z, of_z, ints, to_z-of_z, Place, Form, form_at, at, ◌⊕◌, ◌⊗◌, ring, Minus, Zero, Plus, IsPositiveMultiple, form_of, given_form, sign_of}
+use Rattle.nef_geo.proofs.Prelude.{◌≡◌, zero, suc, ℤ, pos, negsuc, neg_ℤ, ◌*ℤ◌, ◌<ℤ◌, Bool, true, false, arith, refl, sym, ap, ◌∙◌, subst, [], ◌∷◌, FitsSigned, to_z, of_z, ints, to_z-of_z, SpacePoint, Form, form_at, at, ◌⊕◌, ◌⊗◌, ring, Minus, Zero, Plus, IsPositiveMultiple, form_of, given_form, sign_of}
 use lib.Dec.{T}
 use mir.Syntax.{w128}
 use Rattle.nef_geo.specs.declared.sign.Sign.{Sign}
@@ -34,17 +34,17 @@ sign_of-scaled (pos (suc k)) (pos (suc n)) p = sign_of-positive (pos (suc k) *�
 sign_of-scaled (pos (suc k)) (negsuc n) p = sign_of-negative (pos (suc k) *ℤ negsuc n) (omega (arith, ints))
 
 -- a form and its positive multiples have the same sides
-form_at-multiple : (h g : Form) (m : IsPositiveMultiple h g) (p : Place) → form_at h p ≡ m.factor *ℤ form_at g p
+form_at-multiple : (h g : Form) (m : IsPositiveMultiple h g) (p : SpacePoint) → form_at h p ≡ m.factor *ℤ form_at g p
 form_at-multiple h g m p =
     rw (m.a_is, m.b_is, m.c_is, m.d_is)
     (ring (m.factor ∷ g.a ∷ g.b ∷ g.c ∷ g.d ∷ p.x ∷ p.y ∷ p.z ∷ pos p.w ∷ [])
     (at 0 ⊗ at 1 ⊗ at 5 ⊕ at 0 ⊗ at 2 ⊗ at 6 ⊕ at 0 ⊗ at 3 ⊗ at 7 ⊕ at 0 ⊗ at 4 ⊗ at 8)
     (at 0 ⊗ (at 1 ⊗ at 5 ⊕ at 2 ⊗ at 6 ⊕ at 3 ⊗ at 7 ⊕ at 4 ⊗ at 8)) tt)
 
-pub sign_of-multiple : (h g : Form) → IsPositiveMultiple h g → (p : Place) → sign_of (form_at h p) ≡ sign_of (form_at g p)
+pub sign_of-multiple : (h g : Form) → IsPositiveMultiple h g → (p : SpacePoint) → sign_of (form_at h p) ≡ sign_of (form_at g p)
 sign_of-multiple h g m p = ap sign_of (form_at-multiple h g m p) ∙ sign_of-scaled m.factor (form_at g p) m.positive
 
-pub form_at-flipped : (o : Oriented) (p : Place) → o.flipped ≡ true → form_at (given_form o) p ≡ neg_ℤ (form_at (form_of o.plane) p)
+pub form_at-flipped : (o : Oriented) (p : SpacePoint) → o.flipped ≡ true → form_at (given_form o) p ≡ neg_ℤ (form_at (form_of o.plane) p)
 form_at-flipped o p e = rw e (form_at-turned (form_of o.plane) p)
 
 -- the sign of a number that passed through the machine's type

@@ -1,8 +1,8 @@
 -- Sizes of forms and of points on rays.
-use Rattle.nef_geo.proofs.Prelude.{ℕ, ◌+◌, ◌*◌, ◌^◌, ◌≤◌, ℤ, pos, ◌+ℤ◌, ◌*ℤ◌, nat_abs, arith, sym, subst, inl, inr, lit≤, of_z, normal_limit, offset_limit, point_limit, weight_limit, Place, form_at, slope, Vector, opposite, up, IsAtMost, abs_plus, abs_times, IsUpright, IsPlaceAtMost, form_of, place_of, hit_place, far_place, point_form_limit, hit_limit, hit_weight_limit, far_limit, far_weight_limit, FarHit, Hit, Plane, Point, numbers}
+use Rattle.nef_geo.proofs.Prelude.{ℕ, ◌+◌, ◌*◌, ◌^◌, ◌≤◌, ℤ, pos, ◌+ℤ◌, ◌*ℤ◌, nat_abs, arith, sym, subst, inl, inr, lit≤, of_z, normal_limit, offset_limit, point_limit, weight_limit, SpacePoint, form_at, slope, Vector, opposite, up, IsAtMost, abs_plus, abs_times, IsVertical, IsPointAtMost, form_of, point_of, hit_point, far_point, point_form_limit, hit_limit, hit_weight_limit, far_limit, far_weight_limit, FarHit, Hit, Plane, Point, numbers}
 
 -- ---- forms
-pub form_size : (h : Plane) (m n : ℕ) (q : Place) → IsPlaceAtMost m n q → nat_abs (form_at (form_of h) q) ≤ normal_limit * m + normal_limit * m + normal_limit * m + offset_limit * n
+pub form_size : (h : Plane) (m n : ℕ) (q : SpacePoint) → IsPointAtMost m n q → nat_abs (form_at (form_of h) q) ≤ normal_limit * m + normal_limit * m + normal_limit * m + offset_limit * n
 form_size h m n q s =
     abs_plus (h.a *ℤ q.x +ℤ h.b *ℤ q.y +ℤ h.c *ℤ q.z) (h.d *ℤ pos q.w) (normal_limit * m + normal_limit * m + normal_limit * m) (offset_limit * n)
     (abs_plus (h.a *ℤ q.x +ℤ h.b *ℤ q.y) (h.c *ℤ q.z) (normal_limit * m + normal_limit * m) (normal_limit * m)
@@ -11,27 +11,27 @@ form_size h m n q s =
     (abs_times h.c q.z normal_limit m h.c_small s.numbers.of_z))
     (abs_times h.d (pos q.w) offset_limit n h.d_small s.weight)
 
-pub point_within : (p : Point) → IsPlaceAtMost point_limit weight_limit (place_of p)
+pub point_within : (p : Point) → IsPointAtMost point_limit weight_limit (point_of p)
 point_within p = record { numbers = record { of_x = p.x_small; of_y = p.y_small; of_z = p.z_small }; weight = p.w_small }
 
-pub hit_within : (q : Hit) → IsPlaceAtMost hit_limit hit_weight_limit (hit_place q)
+pub hit_within : (q : Hit) → IsPointAtMost hit_limit hit_weight_limit (hit_point q)
 hit_within q = record { numbers = record { of_x = q.x_small; of_y = q.y_small; of_z = q.z_small }; weight = q.w_small }
 
-pub far_within : (q : FarHit) → IsPlaceAtMost far_limit far_weight_limit (far_place q)
+pub far_within : (q : FarHit) → IsPointAtMost far_limit far_weight_limit (far_point q)
 far_within q = record { numbers = record { of_x = q.x_small; of_y = q.y_small; of_z = q.z_small }; weight = q.w_small }
 
-pub weaken_place : (m n m' n' : ℕ) (q : Place) → m ≤ m' → n ≤ n' → IsPlaceAtMost m n q → IsPlaceAtMost m' n' q
-weaken_place m n m' n' q hm hn i = record {
+pub weaken_point : (m n m' n' : ℕ) (q : SpacePoint) → m ≤ m' → n ≤ n' → IsPointAtMost m n q → IsPointAtMost m' n' q
+weaken_point m n m' n' q hm hn i = record {
   numbers = record { of_x = omega (arith, i.numbers.of_x); of_y = omega (arith, i.numbers.of_y); of_z = omega (arith, i.numbers.of_z) };
   weight = omega (arith, i.weight);
 }
 
 -- a hit's numbers are as small as a far hit's
-pub hit_far : (q : Hit) → IsPlaceAtMost far_limit far_weight_limit (hit_place q)
-hit_far q = weaken_place hit_limit hit_weight_limit far_limit far_weight_limit (hit_place q) (lit≤ tt) (lit≤ tt) (hit_within q)
+pub hit_far : (q : Hit) → IsPointAtMost far_limit far_weight_limit (hit_point q)
+hit_far q = weaken_point hit_limit hit_weight_limit far_limit far_weight_limit (hit_point q) (lit≤ tt) (lit≤ tt) (hit_within q)
 
-pub point_form_size : (h : Plane) (p : Point) → nat_abs (form_at (form_of h) (place_of p)) ≤ point_form_limit
-point_form_size h p = let s = form_size h point_limit weight_limit (place_of p) (point_within p) in omega (arith, s)
+pub point_form_size : (h : Plane) (p : Point) → nat_abs (form_at (form_of h) (point_of p)) ≤ point_form_limit
+point_form_size h p = let s = form_size h point_limit weight_limit (point_of p) (point_within p) in omega (arith, s)
 
 -- ---- slopes, by the sum of the sizes of a direction's numbers
 pub slope_size : (h : Plane) (d : Vector) (k : ℕ) → nat_abs d.x + nat_abs d.y + nat_abs d.z ≤ k → nat_abs (slope (form_of h) d) ≤ normal_limit * k
@@ -60,6 +60,6 @@ up_sized = record { each = record { of_x = lit≤ tt; of_y = lit≤ tt; of_z = l
 down_sized : IsUprightSized (opposite up)
 down_sized = record { each = record { of_x = lit≤ tt; of_y = lit≤ tt; of_z = lit≤ tt }; sum = lit≤ tt }
 
-pub upright_sized : (d : Vector) → IsUpright d → IsUprightSized d
+pub upright_sized : (d : Vector) → IsVertical d → IsUprightSized d
 upright_sized d (inl e) = subst IsUprightSized (sym e) up_sized
 upright_sized d (inr e) = subst IsUprightSized (sym e) down_sized

@@ -4,8 +4,8 @@ use Rattle.std.specs.Bool.{IsTrue}
 use Rattle.std.proofs.Props.{props}
 use Rattle.std.proofs.lemmas.Bool.Decides.{Decides-int_eq}
 use lib.Dec.{T}
-use Rattle.nef_geo.specs.Laws.{SamePlacesAreEqual, SameDirectionsAreEqual, SamePlanesAreEqual}
-use Rattle.nef_geo.proofs.Cramer.{IsSameRatios-from_place, difference}
+use Rattle.nef_geo.specs.Laws.{SamePointsAreEqual, SameDirectionsAreEqual, SamePlanesAreEqual}
+use Rattle.nef_geo.proofs.Cramer.{IsSameRatios-from_point, difference}
 use Rattle.nef_geo.proofs.Euclid.{divides_same}
 
 turn_left : (a b c d : ℤ) → a *ℤ b ≡ c *ℤ d → b *ℤ a ≡ c *ℤ d
@@ -49,9 +49,9 @@ point_equal x y z w h x' y' z' w' k ex ey ez ew =
     (subst (λ (d : ℤ). (i : IsPoint x y z d) → point x y z w h ≡ point x y z d i) ew
     (λ (i : IsPoint x y z w). ap (point x y z w) (IsPoint-prop x y z w h i))))) k
 
-pub same_places_equal : SamePlacesAreEqual
-same_places_equal p q same =
-    let s = IsSameRatios-from_place p.x p.y p.z p.w q.x q.y q.z q.w p.proper q.proper same in
+pub same_points_equal : SamePointsAreEqual
+same_points_equal p q same =
+    let s = IsSameRatios-from_point p.x p.y p.z p.w q.x q.y q.z q.w p.proper q.proper same in
     let w_is = same_weight p.x p.y p.z p.w q.x q.y q.z q.w p.lowest q.lowest p.proper q.proper s in
     point_equal p.x p.y p.z p.w (p.x_small, p.y_small, p.z_small, p.w_small, p.proper, p.lowest) q.x q.y q.z q.w (q.x_small, q.y_small, q.z_small, q.w_small, q.proper, q.lowest)
     (same_number p.x q.x p.w q.w p.proper w_is s.along_x) (same_number p.y q.y p.w q.w p.proper w_is s.along_y) (same_number p.z q.z p.w q.w p.proper w_is s.along_z) w_is

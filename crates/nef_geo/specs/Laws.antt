@@ -1,14 +1,14 @@
 -- Normal forms are unique.
 use Rattle.std.specs.Prelude.{◌≡◌}
-use Rattle.nef_space.specs.Prelude.{SameDirection, SamePlace}
+use Rattle.nef_space.specs.Prelude.{SameDirection, SamePoint}
 use Rattle.nef_geo.specs.declared.plane.Plane.{Plane}
 use Rattle.nef_geo.specs.declared.point.Point.{Point}
 use Rattle.nef_geo.specs.declared.dir.Dir.{Dir}
 use Rattle.nef_geo.specs.Meet.{IsSamePlane}
-use Rattle.nef_geo.specs.Shapes.{form_of, place_of, vector_of}
+use Rattle.nef_geo.specs.Shapes.{form_of, point_of, vector_of}
 
-abbrev pub SamePlacesAreEqual : Type 0
-SamePlacesAreEqual = (p q : Point) → SamePlace (place_of p) (place_of q) → p ≡ q
+abbrev pub SamePointsAreEqual : Type 0
+SamePointsAreEqual = (p q : Point) → SamePoint (point_of p) (point_of q) → p ≡ q
 
 abbrev pub SameDirectionsAreEqual : Type 0
 SameDirectionsAreEqual = (a b : Dir) → SameDirection (vector_of a) (vector_of b) → a ≡ b

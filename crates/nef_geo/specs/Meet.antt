@@ -1,13 +1,13 @@
 -- Common points of planes.
 use Rattle.std.specs.Prelude.{◌≡◌, ◌*ℤ◌, ◌<ℤ◌}
-use Rattle.nef_space.specs.Prelude.{ℤ, pos, Vector, IsParallel, triple, Place, Form, form_at, normal_of, SamePlace}
+use Rattle.nef_space.specs.Prelude.{ℤ, pos, Vector, IsParallel, triple, SpacePoint, Form, form_at, normal_of, SamePoint}
 
 -- m lies on all three planes, and no other point does
-pub record IsOnlyCommon (p q r : Form) (m : Place) : Type 0 where
+pub record IsOnlyCommon (p q r : Form) (m : SpacePoint) : Type 0 where
   pub on_p : form_at p m ≡ pos 0
   pub on_q : form_at q m ≡ pos 0
   pub on_r : form_at r m ≡ pos 0
-  pub only : (n : Place) → form_at p n ≡ pos 0 → form_at q n ≡ pos 0 → form_at r n ≡ pos 0 → SamePlace n m
+  pub only : (n : SpacePoint) → form_at p n ≡ pos 0 → form_at q n ≡ pos 0 → form_at r n ≡ pos 0 → SamePoint n m
 
 -- the triple product of the three planes' normals is zero
 abbrev pub HasDependentNormals : Form → Form → Form → Type 0

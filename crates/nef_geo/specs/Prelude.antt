@@ -1,5 +1,5 @@
 -- The names that most clauses cite, passed on from one place. Declares nothing.
-pub use Rattle.nef_space.specs.Prelude.{IfErr, IfOk, IfSome, IsAhead, IsAtMost, IsBelow, IsDirection, IsGcd, IsNone, IsNormal, IsParallel, IsPlaceBelow, IsTrue, List, MatchOption, MatchOrdering, None, OnErr, OnOk, Place, SameDirection, SamePlace, Set, Some, Vector, [], cross, direction_limit, dot, drop, form, form_at, form_numbers, int_cmp, length, map, most_stairs, nat_abs, neg_ℤ, normal_limit, normal_of, number_limit, offset_limit, opposite, plane_axis, plane_dir, point_limit, pos, position, slice_get, slope, svertex_limit, triple, triple_of, true, up, vector, weight_limit, ℕ, ℤ}
+pub use Rattle.nef_space.specs.Prelude.{IfErr, IfOk, IfSome, IsAhead, IsAtMost, IsBelow, IsDirection, IsGcd, IsNone, IsNormal, IsParallel, IsPointBelow, IsTrue, List, MatchOption, MatchOrdering, None, OnErr, OnOk, SameDirection, SamePoint, Set, Some, SpacePoint, Vector, [], cross, direction_limit, direction_numbers, dot, drop, form, form_at, form_numbers, int_cmp, length, map, most_stairs, nat_abs, neg_ℤ, normal_limit, normal_of, number_limit, offset_limit, opposite, plane_axis, plane_dir, point_limit, pos, position, slice_get, slope, svertex_limit, triple, true, up, vector, weight_limit, ℕ, ℤ}
 pub use Rattle.std.specs.List.{All, filter_map, find, list_any}
 pub use Rattle.std.specs.List.Sorted.{IsPermutation}
 pub use Rattle.std.specs.Prelude.{Option, codes, cond, option_map, slice_index_or, take}
@@ -10,11 +10,11 @@ pub use Rattle.nef_space.specs.Lists.{Chained, IsAt, IsInTable}
 pub use Rattle.nef_space.specs.Local.{HasLabel}
 pub use Rattle.nef_space.specs.Signs.{Sign, sign}
 pub use Rattle.nef_space.specs.declared.label.Label.{Label}
-pub use Rattle.nef_geo.specs.Hits.{IsCrossing, IsPlaceAtMost, IsPlaneDirSized, IsReached, IsReachedBy, IsUpright}
-pub use Rattle.nef_geo.specs.Laws.{SameDirectionsAreEqual, SamePlacesAreEqual, SamePlanesAreEqual}
+pub use Rattle.nef_geo.specs.Hits.{IsCrossing, IsPlaneDirSized, IsPointAtMost, IsReached, IsReachedBy, IsVertical}
+pub use Rattle.nef_geo.specs.Laws.{SameDirectionsAreEqual, SamePlanesAreEqual, SamePointsAreEqual}
 pub use Rattle.nef_geo.specs.Meet.{HasDependentNormals, IsOnlyCommon}
 pub use Rattle.nef_geo.specs.Numbers.{IsAtMostFour, IsGcdOfFour, IsReduced, IsSameRatios, IsSomeOfFour}
-pub use Rattle.nef_geo.specs.Shapes.{far_place, form_of, given_form, hit_place, place_of, vector_of}
+pub use Rattle.nef_geo.specs.Shapes.{far_point, form_of, given_form, hit_point, point_of, vector_of}
 pub use Rattle.nef_geo.specs.Signs.{sign_number, sign_of}
 pub use Rattle.nef_geo.specs.Steps.{HasOppositeSigns, IsZeroStep}
 pub use Rattle.nef_geo.specs.Triples.{triple_vector, wide_vector}

@@ -1,7 +1,7 @@
 //! The orders of points, of directions and of hits, and the laws of normal forms.
 
 ghost use Rattle.std.specs.Prelude.{◌≡◌, ◌≤◌, ◌*ℤ◌, ◌<ℤ◌};
-ghost use Rattle.nef_geo.specs.Prelude.{nat_abs, int_cmp, MatchOrdering, IsBelow, Place, IsAhead, form_numbers, SamePlace, IsPlaceBelow, Vector, IsDirection, triple_of, form_of, place_of, vector_of, hit_place, far_place, IsReached, far_product_limit, SamePlacesAreEqual, SameDirectionsAreEqual, SamePlanesAreEqual};
+ghost use Rattle.nef_geo.specs.Prelude.{nat_abs, int_cmp, MatchOrdering, IsBelow, SpacePoint, IsAhead, form_numbers, SamePoint, IsPointBelow, Vector, IsDirection, direction_numbers, form_of, point_of, vector_of, hit_point, far_point, IsReached, far_product_limit, SamePointsAreEqual, SameDirectionsAreEqual, SamePlanesAreEqual};
 
 use crate::dir::Dir;
 use crate::hit::{FarHit, Hit};
@@ -23,7 +23,7 @@ fn ratio_cmp(x: i64, w: i64, other_x: i64, other_w: i64) -> Ordering
 
 /// Compares two points by x/w, then by y/w, then by z/w.
 pub fn lex_cmp(p: &Point, q: &Point) -> Ordering
-    ensures order { MatchOrdering result (IsPlaceBelow (place_of p.now) (place_of q.now)) (SamePlace (place_of p.now) (place_of q.now)) (IsPlaceBelow (place_of q.now) (place_of p.now)) }
+    ensures order { MatchOrdering result (IsPointBelow (point_of p.now) (point_of q.now)) (SamePoint (point_of p.now) (point_of q.now)) (IsPointBelow (point_of q.now) (point_of p.now)) }
 {
     ratio_cmp(p.x, p.w, q.x, q.w)
         .then_with(|| ratio_cmp(p.y, p.w, q.y, q.w))
@@ -32,7 +32,7 @@ pub fn lex_cmp(p: &Point, q: &Point) -> Ordering
 
 /// Compares two directions as triples of numbers.
 pub fn dir_cmp(a: &Dir, b: &Dir) -> Ordering
-    ensures order { MatchOrdering result (IsBelow (triple_of (vector_of a.now)) (triple_of (vector_of b.now))) (a.now ≡ b.now) (IsBelow (triple_of (vector_of b.now)) (triple_of (vector_of a.now))) }
+    ensures order { MatchOrdering result (IsBelow (direction_numbers (vector_of a.now)) (direction_numbers (vector_of b.now))) (a.now ≡ b.now) (IsBelow (direction_numbers (vector_of b.now)) (direction_numbers (vector_of a.now))) }
 {
     a.cmp(b)
 }
@@ -40,7 +40,7 @@ pub fn dir_cmp(a: &Dir, b: &Dir) -> Ordering
 /// Compares the steps of two hits from one start along one direction: which hit is nearer on the ray.
 pub fn hit_order(p: &Hit, q: &Hit) -> Ordering
     ensures steps { MatchOrdering result ((p.now.num *ℤ q.now.den) <ℤ (q.now.num *ℤ p.now.den)) (p.now.num *ℤ q.now.den ≡ q.now.num *ℤ p.now.den) ((q.now.num *ℤ p.now.den) <ℤ (p.now.num *ℤ q.now.den)) }
-    ensures along { (s : Place) (d : Vector) → IsDirection d → IsReached s d p.now.num p.now.den p.now.den_sign (hit_place p.now) → IsReached s d q.now.num q.now.den q.now.den_sign (hit_place q.now) → MatchOrdering result (IsAhead (hit_place p.now) d (hit_place q.now)) (SamePlace (hit_place p.now) (hit_place q.now)) (IsAhead (hit_place q.now) d (hit_place p.now)) }
+    ensures along { (s : SpacePoint) (d : Vector) → IsDirection d → IsReached s d p.now.num p.now.den p.now.den_sign (hit_point p.now) → IsReached s d q.now.num q.now.den q.now.den_sign (hit_point q.now) → MatchOrdering result (IsAhead (hit_point p.now) d (hit_point q.now)) (SamePoint (hit_point p.now) (hit_point q.now)) (IsAhead (hit_point q.now) d (hit_point p.now)) }
 {
     (p.num * q.den).cmp(&(q.num * p.den))
 }
@@ -49,14 +49,14 @@ pub fn hit_order(p: &Hit, q: &Hit) -> Ordering
 pub fn far_order(p: &FarHit, q: &FarHit) -> Ordering
     ensures steps { MatchOrdering result ((p.now.num *ℤ q.now.den) <ℤ (q.now.num *ℤ p.now.den)) (p.now.num *ℤ q.now.den ≡ q.now.num *ℤ p.now.den) ((q.now.num *ℤ p.now.den) <ℤ (p.now.num *ℤ q.now.den)) }
     ensures width { (nat_abs (p.now.num *ℤ q.now.den) ≤ far_product_limit) × (nat_abs (q.now.num *ℤ p.now.den) ≤ far_product_limit) }
-    ensures along { (s : Place) (d : Vector) → IsDirection d → IsReached s d p.now.num p.now.den p.now.den_sign (far_place p.now) → IsReached s d q.now.num q.now.den q.now.den_sign (far_place q.now) → MatchOrdering result (IsAhead (far_place p.now) d (far_place q.now)) (SamePlace (far_place p.now) (far_place q.now)) (IsAhead (far_place q.now) d (far_place p.now)) }
+    ensures along { (s : SpacePoint) (d : Vector) → IsDirection d → IsReached s d p.now.num p.now.den p.now.den_sign (far_point p.now) → IsReached s d q.now.num q.now.den q.now.den_sign (far_point q.now) → MatchOrdering result (IsAhead (far_point p.now) d (far_point q.now)) (SamePoint (far_point p.now) (far_point q.now)) (IsAhead (far_point q.now) d (far_point p.now)) }
 {
     (p.num * q.den).cmp(&(q.num * p.den))
 }
 
 /// Normal forms are unique: equal are points that are the same, directions that are the same, and forms of one plane.
 pub fn normal_form_laws()
-    ensures places { SamePlacesAreEqual }
+    ensures places { SamePointsAreEqual }
     ensures directions { SameDirectionsAreEqual }
     ensures planes { SamePlanesAreEqual }
 {}

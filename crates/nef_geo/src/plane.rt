@@ -1,7 +1,7 @@
 //! Planes in normal form, planes read from four numbers, and the planes of the frame.
 
 ghost use Rattle.std.specs.Prelude.{◌≡◌, ◌<◌, ◌≤◌, ◌↔◌, ◌∷◌};
-ghost use Rattle.nef_space.specs.Prelude.{nat_abs, [], IfOk, IsTrue, normal_limit, offset_limit, IsLowest, Place, form, form_at, vector, opposite, IsZero, IsDirection, IsNormal};
+ghost use Rattle.nef_space.specs.Prelude.{nat_abs, [], IfOk, IsTrue, normal_limit, offset_limit, IsLowest, SpacePoint, form, form_at, vector, opposite, IsZero, IsDirection, IsNormal};
 ghost use Rattle.nef_geo.specs.Reading.{IsInRange, IsPositiveMultiple, side_forms};
 
 use crate::gcd::lowest_terms;
@@ -66,7 +66,7 @@ impl Plane {
         ensures out_of_range { (result ≡ Err PlaneFault.OutOfRange) ↔ (¬ IsInRange (form a b c d)) }
         ensures zero_normal { (result ≡ Err PlaneFault.ZeroNormal) ↔ (IsInRange (form a b c d) × IsZero (vector a b c)) }
         ensures multiple { IfOk result (λ o. IsPositiveMultiple (form a b c d) (given_form o)) }
-        ensures sides { IfOk result (λ o. (p : Place) → sign_of (form_at (form a b c d) p) ≡ sign_of (form_at (given_form o) p)) }
+        ensures sides { IfOk result (λ o. (p : SpacePoint) → sign_of (form_at (form a b c d) p) ≡ sign_of (form_at (given_form o) p)) }
         ensures flipped { IfOk result (λ o. IsTrue o.flipped ↔ IsNormal (opposite (vector a b c))) }
     {
         if !is_in_range(a, b, c, d) {

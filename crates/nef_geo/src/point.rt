@@ -29,8 +29,8 @@ fn is_below(n: i64, limit: u64) -> bool
 }
 
 impl Point {
-    ghost use Rattle.nef_space.specs.Place.{SamePlace, InFrame};
-    ghost use Rattle.nef_geo.specs.Shapes.{place_at, place_of};
+    ghost use Rattle.nef_space.specs.Points.{SamePoint, InFrame};
+    ghost use Rattle.nef_geo.specs.Shapes.{point_at, point_of};
 
     /// The point `(x/w, y/w, z/w)`.
     pub fn of(x: i64, y: i64, z: i64, w: i64) -> Point
@@ -39,7 +39,7 @@ impl Point {
         requires z_small { nat_abs z ≤ point_limit }
         requires w_small { nat_abs w ≤ weight_limit }
         requires positive { pos 0 <ℤ w }
-        ensures same { (positive : pos 0 <ℤ w) → SamePlace (place_at x y z w positive) (place_of result) }
+        ensures same { (positive : pos 0 <ℤ w) → SamePoint (point_at x y z w positive) (point_of result) }
     {
         let (x, y, z, w) = lowest_terms(x, y, z, w);
         Point { x, y, z, w }
@@ -47,7 +47,7 @@ impl Point {
 
     /// Whether the point lies in the frame, the open cube `|x|, |y|, |z| < 2048`.
     pub fn in_frame(&self) -> bool
-        ensures in_frame { IsTrue result ↔ InFrame (place_of self.now) }
+        ensures in_frame { IsTrue result ↔ InFrame (point_of self.now) }
     {
         let limit = HALF_SIDE.unsigned_abs() * self.w.unsigned_abs();
         is_below(self.x, limit) && is_below(self.y, limit) && is_below(self.z, limit)

@@ -1,7 +1,7 @@
 //! Where rays cross planes.
 
 ghost use Rattle.std.specs.Prelude.{◌≡◌, ◌↔◌, ◌≤◌, ◌^◌, ◌<ℤ◌};
-ghost use Rattle.nef_geo.specs.Prelude.{pos, nat_abs, IsNone, IfSome, normal_limit, Place, form_at, slope, SamePlace, Vector, vector, IsAtMost, IsCrossing, IsReached, IsReachedBy, IsUpright, IsPlaneDirSized, IsPlaceAtMost, form_of, vector_of, place_of, hit_place, far_place, Plane, HasOppositeSigns, IsZeroStep, point_form_limit, ray_limit, ray_slope_limit, upright_limit, upright_weight_limit, plane_dir_hit_limit, plane_dir_form_limit, far_limit, far_weight_limit, far_num_limit, far_den_limit};
+ghost use Rattle.nef_geo.specs.Prelude.{pos, nat_abs, IsNone, IfSome, normal_limit, SpacePoint, form_at, slope, SamePoint, Vector, vector, IsAtMost, IsCrossing, IsReached, IsReachedBy, IsVertical, IsPlaneDirSized, IsPointAtMost, form_of, vector_of, point_of, hit_point, far_point, Plane, HasOppositeSigns, IsZeroStep, point_form_limit, ray_limit, ray_slope_limit, upright_limit, upright_weight_limit, plane_dir_hit_limit, plane_dir_form_limit, far_limit, far_weight_limit, far_num_limit, far_den_limit};
 
 use crate::dir::Dir;
 use crate::hit::{FarHit, Hit};
@@ -34,7 +34,7 @@ fn reached(p: &Point, d: &Dir, num: i128, den: i128) -> Hit
     requires den_small { nat_abs den ≤ ray_slope_limit }
     requires num_positive { pos 0 <ℤ num }
     requires den_positive { pos 0 <ℤ den }
-    ensures at { IsReachedBy (place_of p.now) (vector_of d.now) result.num result.den result.x result.y result.z result.w }
+    ensures at { IsReachedBy (point_of p.now) (vector_of d.now) result.num result.den result.x result.y result.z result.w }
     ensures num { result.num ≡ num }
     ensures den { result.den ≡ den }
 {
@@ -50,13 +50,13 @@ fn reached(p: &Point, d: &Dir, num: i128, den: i128) -> Hit
 
 // The point at the step num/den from the hit p along d.
 fn reached_far(p: &Hit, d: &Dir, num: i128, den: i128) -> FarHit
-    requires p_small { IsPlaceAtMost upright_limit upright_weight_limit (hit_place p.now) }
+    requires p_small { IsPointAtMost upright_limit upright_weight_limit (hit_point p.now) }
     requires d_small { IsAtMost normal_limit (vector_of d.now) }
     requires num_small { nat_abs num ≤ far_num_limit }
     requires den_small { nat_abs den ≤ far_den_limit }
     requires num_positive { pos 0 <ℤ num }
     requires den_positive { pos 0 <ℤ den }
-    ensures at { IsReachedBy (hit_place p.now) (vector_of d.now) result.num result.den result.x result.y result.z result.w }
+    ensures at { IsReachedBy (hit_point p.now) (vector_of d.now) result.num result.den result.x result.y result.z result.w }
     ensures num { result.num ≡ num }
     ensures den { result.den ≡ den }
 {
@@ -74,13 +74,13 @@ fn reached_far(p: &Hit, d: &Dir, num: i128, den: i128) -> FarHit
 /// `None` comes exactly where the ray crosses no point of the plane, as a ray within the plane.
 pub fn ray_hit(p: &Point, d: &Dir, h: &Plane) -> Option<Hit>
     requires d_small { IsAtMost ray_limit (vector_of d.now) }
-    ensures none { IsNone result ↔ ((q : Place) → ¬ IsCrossing (place_of p.now) (vector_of d.now) (form_of h.now) q) }
-    ensures crossing { IfSome result (λ q. IsCrossing (place_of p.now) (vector_of d.now) (form_of h.now) (hit_place q)) }
-    ensures step { IfSome result (λ q. IsReached (place_of p.now) (vector_of d.now) q.num q.den q.den_sign (hit_place q)) }
+    ensures none { IsNone result ↔ ((q : SpacePoint) → ¬ IsCrossing (point_of p.now) (vector_of d.now) (form_of h.now) q) }
+    ensures crossing { IfSome result (λ q. IsCrossing (point_of p.now) (vector_of d.now) (form_of h.now) (hit_point q)) }
+    ensures step { IfSome result (λ q. IsReached (point_of p.now) (vector_of d.now) q.num q.den q.den_sign (hit_point q)) }
     ensures ahead { IfSome result (λ q. pos 0 <ℤ q.num) }
-    ensures upright_width { IsUpright (vector_of d.now) → IfSome result (λ q. IsPlaceAtMost upright_limit upright_weight_limit (hit_place q)) }
+    ensures upright_width { IsVertical (vector_of d.now) → IfSome result (λ q. IsPointAtMost upright_limit upright_weight_limit (hit_point q)) }
     ensures plane_dir_width { IsPlaneDirSized (vector_of d.now) → IfSome result (λ q. IsAtMost plane_dir_hit_limit (vector q.x q.y q.z)) }
-    ensures plane_dir_form_width { IsPlaneDirSized (vector_of d.now) → IfSome result (λ q. (g : Plane) → nat_abs (form_at (form_of g) (hit_place q)) ≤ plane_dir_form_limit) }
+    ensures plane_dir_form_width { IsPlaneDirSized (vector_of d.now) → IfSome result (λ q. (g : Plane) → nat_abs (form_at (form_of g) (hit_point q)) ≤ plane_dir_form_limit) }
 {
     let (num, den) = zero_step(form(h, p), slope(h, d))?;
     Some(reached(p, d, num, den))
@@ -90,12 +90,12 @@ pub fn ray_hit(p: &Point, d: &Dir, h: &Plane) -> Option<Hit>
 /// `2^86` in size, its w is at most `2^73`, and the entries of d are at most `2^11` in size. `None` comes exactly where
 /// the ray doesn't cross the plane.
 pub fn far_hit(p: &Hit, d: &Dir, h: &Plane) -> Option<FarHit>
-    requires p_small { IsPlaceAtMost upright_limit upright_weight_limit (hit_place p.now) }
+    requires p_small { IsPointAtMost upright_limit upright_weight_limit (hit_point p.now) }
     requires d_small { IsAtMost normal_limit (vector_of d.now) }
-    ensures none { IsNone result ↔ ((q : Place) → ¬ IsCrossing (hit_place p.now) (vector_of d.now) (form_of h.now) q) }
-    ensures crossing { IfSome result (λ q. IsCrossing (hit_place p.now) (vector_of d.now) (form_of h.now) (far_place q)) }
-    ensures step { IfSome result (λ q. IsReached (hit_place p.now) (vector_of d.now) q.num q.den q.den_sign (far_place q)) }
-    ensures width { IfSome result (λ q. IsPlaceAtMost far_limit far_weight_limit (far_place q)) }
+    ensures none { IsNone result ↔ ((q : SpacePoint) → ¬ IsCrossing (hit_point p.now) (vector_of d.now) (form_of h.now) q) }
+    ensures crossing { IfSome result (λ q. IsCrossing (hit_point p.now) (vector_of d.now) (form_of h.now) (far_point q)) }
+    ensures step { IfSome result (λ q. IsReached (hit_point p.now) (vector_of d.now) q.num q.den q.den_sign (far_point q)) }
+    ensures width { IfSome result (λ q. IsPointAtMost far_limit far_weight_limit (far_point q)) }
 {
     let (num, den) = zero_step(hit_form(h, p), slope(h, d))?;
     Some(reached_far(p, d, num, den))
@@ -103,10 +103,10 @@ pub fn far_hit(p: &Hit, d: &Dir, h: &Plane) -> Option<FarHit>
 
 /// The point as a hit, at the step 0.
 pub fn hit_at(p: &Point) -> Hit
-    ensures same { SamePlace (hit_place result) (place_of p.now) }
+    ensures same { SamePoint (hit_point result) (point_of p.now) }
     ensures step { result.num ≡ pos 0 }
-    ensures reached { (d : Vector) → IsReached (place_of p.now) d result.num result.den result.den_sign (hit_place result) }
-    ensures upright_width { IsPlaceAtMost upright_limit upright_weight_limit (hit_place result) }
+    ensures reached { (d : Vector) → IsReached (point_of p.now) d result.num result.den result.den_sign (hit_point result) }
+    ensures upright_width { IsPointAtMost upright_limit upright_weight_limit (hit_point result) }
 {
     Hit {
         x: p.x as i128,

@@ -1,7 +1,7 @@
 //! The side of a plane on which a point lies, and the common point of three planes.
 
 ghost use Rattle.std.specs.Prelude.{◌≡◌, ◌≢◌, ◌≤◌, ◌↔◌, ◌+ℤ◌, ◌*ℤ◌};
-ghost use Rattle.nef_geo.specs.Prelude.{pos, nat_abs, IsNone, IfSome, form_at, normal_of, normal_limit, point_limit, weight_limit, vector, IsAtMost, form_of, given_form, place_of, hit_place, far_place, IsPlaceAtMost, sign_of, point_form_limit, hit_form_limit, upright_limit, upright_weight_limit, upright_form_limit, far_limit, far_weight_limit, far_form_limit, HasDependentNormals, IsOnlyCommon, IsSameRatios, triple_vector};
+ghost use Rattle.nef_geo.specs.Prelude.{pos, nat_abs, IsNone, IfSome, form_at, normal_of, normal_limit, point_limit, weight_limit, vector, IsAtMost, form_of, given_form, point_of, hit_point, far_point, IsPointAtMost, sign_of, point_form_limit, hit_form_limit, upright_limit, upright_weight_limit, upright_form_limit, far_limit, far_weight_limit, far_form_limit, HasDependentNormals, IsOnlyCommon, IsSameRatios, triple_vector};
 
 use crate::hit::{FarHit, Hit};
 use crate::plane::{Oriented, Plane};
@@ -10,7 +10,7 @@ use crate::sign::{Sign, cross_narrow, dot_narrow};
 
 // The value of the plane's form at the point.
 pub(crate) fn form(h: &Plane, p: &Point) -> i128
-    ensures value { result ≡ form_at (form_of h.now) (place_of p.now) }
+    ensures value { result ≡ form_at (form_of h.now) (point_of p.now) }
     ensures width { nat_abs result ≤ point_form_limit }
 {
     (h.a * p.x + h.b * p.y + h.c * p.z + h.d * p.w) as i128
@@ -28,32 +28,32 @@ fn wide_form(h: &Plane, x: i128, y: i128, z: i128, w: i128) -> i128
 }
 
 pub(crate) fn hit_form(h: &Plane, p: &Hit) -> i128
-    ensures value { result ≡ form_at (form_of h.now) (hit_place p.now) }
+    ensures value { result ≡ form_at (form_of h.now) (hit_point p.now) }
 {
     wide_form(h, p.x, p.y, p.z, p.w)
 }
 
 /// The sign of the plane's form at the hit.
 pub fn hit_side(h: &Plane, p: &Hit) -> Sign
-    ensures side { result ≡ sign_of (form_at (form_of h.now) (hit_place p.now)) }
-    ensures width { nat_abs (form_at (form_of h.now) (hit_place p.now)) ≤ hit_form_limit }
-    ensures upright_width { IsPlaceAtMost upright_limit upright_weight_limit (hit_place p.now) → nat_abs (form_at (form_of h.now) (hit_place p.now)) ≤ upright_form_limit }
+    ensures side { result ≡ sign_of (form_at (form_of h.now) (hit_point p.now)) }
+    ensures width { nat_abs (form_at (form_of h.now) (hit_point p.now)) ≤ hit_form_limit }
+    ensures upright_width { IsPointAtMost upright_limit upright_weight_limit (hit_point p.now) → nat_abs (form_at (form_of h.now) (hit_point p.now)) ≤ upright_form_limit }
 {
     Sign::of(hit_form(h, p))
 }
 
 /// The sign of the plane's form at the far hit.
 pub fn far_side(h: &Plane, p: &FarHit) -> Sign
-    ensures side { result ≡ sign_of (form_at (form_of h.now) (far_place p.now)) }
-    ensures width { nat_abs (form_at (form_of h.now) (far_place p.now)) ≤ far_form_limit }
+    ensures side { result ≡ sign_of (form_at (form_of h.now) (far_point p.now)) }
+    ensures width { nat_abs (form_at (form_of h.now) (far_point p.now)) ≤ far_form_limit }
 {
     Sign::of(wide_form(h, p.x, p.y, p.z, p.w))
 }
 
 /// The sign of the plane's form at the point.
 pub fn side(h: &Plane, p: &Point) -> Sign
-    ensures side { result ≡ sign_of (form_at (form_of h.now) (place_of p.now)) }
-    ensures width { nat_abs (form_at (form_of h.now) (place_of p.now)) ≤ point_form_limit }
+    ensures side { result ≡ sign_of (form_at (form_of h.now) (point_of p.now)) }
+    ensures width { nat_abs (form_at (form_of h.now) (point_of p.now)) ≤ point_form_limit }
 {
     Sign::of(form(h, p))
 }
@@ -61,8 +61,8 @@ pub fn side(h: &Plane, p: &Point) -> Sign
 impl Oriented {
     /// The sign of the given form `a x + b y + c z + d w` at the point.
     pub fn side(&self, p: &Point) -> Sign
-        ensures side { result ≡ sign_of (form_at (given_form self.now) (place_of p.now)) }
-        ensures width { nat_abs (form_at (given_form self.now) (place_of p.now)) ≤ point_form_limit }
+        ensures side { result ≡ sign_of (form_at (given_form self.now) (point_of p.now)) }
+        ensures width { nat_abs (form_at (given_form self.now) (point_of p.now)) ≤ point_form_limit }
     {
         let sign = Sign::of(form(&self.plane, p));
         if self.flipped { sign.opposite() } else { sign }
@@ -93,7 +93,7 @@ fn turned(x: i64, y: i64, z: i64, w: i64) -> Point
 /// The one common point of three planes. `None` comes exactly where the three normals are dependent.
 pub fn meet(p: &Plane, q: &Plane, r: &Plane) -> Option<Point>
     ensures none { IsNone result ↔ HasDependentNormals (form_of p.now) (form_of q.now) (form_of r.now) }
-    ensures met { IfSome result (λ m. IsOnlyCommon (form_of p.now) (form_of q.now) (form_of r.now) (place_of m)) }
+    ensures met { IfSome result (λ m. IsOnlyCommon (form_of p.now) (form_of q.now) (form_of r.now) (point_of m)) }
     ensures width { IfSome result (λ m. IsAtMost point_limit (vector m.x m.y m.z) × (nat_abs m.w ≤ weight_limit)) }
 {
     let np = normal(p);

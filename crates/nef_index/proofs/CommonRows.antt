@@ -1,5 +1,5 @@
 -- The numbers that stand in two rows, by one way through both.
-use Rattle.nef_index.proofs.Prelude.{◌≡◌, ℕ, ◌+◌, ◌<◌, ◌≤◌, List, [], ◌∷◌, ◌++◌, length, arith, sym, subst, ⊎_elim, cases_lt, IsAt, Place, form_of, place_of, Plane, less-or-last, is-at_one, is-at_some, is-at_within, Edge, Point, DoAllRise, HaveRows, AreCommon, AreCommonRows, AreNumbersWith, AreHolders, ArePointHolders, AreEdgeHolders, HaveEnds, HoldsBoth, HasEntry, DoRise}
+use Rattle.nef_index.proofs.Prelude.{◌≡◌, ℕ, ◌+◌, ◌<◌, ◌≤◌, List, [], ◌∷◌, ◌++◌, length, arith, sym, subst, ⊎_elim, cases_lt, IsAt, SpacePoint, form_of, point_of, Plane, less-or-last, is-at_one, is-at_some, is-at_within, Edge, Point, DoAllRise, HaveRows, AreCommon, AreCommonRows, AreNumbersWith, AreHolders, ArePointHolders, AreEdgeHolders, HaveEnds, HoldsBoth, HasEntry, DoRise}
 use Rattle.nef_index.proofs.Numbered.{AreThinned, thinned-none, thinned-more, thinned-skip}
 
 -- a number at the same place or later is no less
@@ -69,7 +69,7 @@ module _ (ms ns : List ℕ) (rise : DoRise ms) (rises : DoRise ns) where
   }
 
 -- carriers that stand in the rows of both points hold both, and no others do
-common-holders : (hs : List Plane) (a b : Place) (ms ns common : List ℕ) → AreHolders hs a a ms → AreHolders hs b b ns → AreCommon ms ns common → AreHolders hs a b common
+common-holders : (hs : List Plane) (a b : SpacePoint) (ms ns common : List ℕ) → AreHolders hs a a ms → AreHolders hs b b ns → AreCommon ms ns common → AreHolders hs a b common
 common-holders hs a b ms ns common M N C = record {
   each = λ i k x.
       let o = C.each i k x in
@@ -96,5 +96,5 @@ module _ (hs : List Plane) (ps : List Point) (rows : List (List ℕ)) (V : ArePo
     each = λ k e common a b u w l h.
         let m = row-of e.low u l in
         let n = row-of e.high w h in
-        common-holders hs (place_of u) (place_of w) m.0 n.0 common (V.each e.low u m.0 l m.1) (V.each e.high w n.0 h n.1) (C.each k e common a b m.0 n.0 m.1 n.1);
+        common-holders hs (point_of u) (point_of w) m.0 n.0 common (V.each e.low u m.0 l m.1) (V.each e.high w n.0 h n.1) (C.each k e common a b m.0 n.0 m.1 n.1);
   }

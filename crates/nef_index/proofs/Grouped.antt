@@ -1,5 +1,5 @@
 -- Sorting and grouping keep all numbers: each carrier stands in a group of a cluster, and the spans of both hold the points on it.
-use Rattle.nef_index.proofs.Prelude.{ℕ, zero, suc, ◌+◌, ◌<◌, ◌⊎◌, inl, inr, ⊎_elim, List, [], ◌∷◌, ◌++◌, length, arith, sym, subst, IsPermutation, Contains-permutation, IsPermutation-sym, IsAt, place_of, Plane, less-or-last, is-at_one, is-at_some, is-at_within, is-at_get, is-at_is, is-at_left, is-at_last, Either, earlier, last, is-at_either, Point, Span, Cluster, Group, AreCarrierSpans, StandsIn, IsInGroup, IsInCluster, AreSpanned, AreClusters, AreKeyed, IsWide, IsNarrower}
+use Rattle.nef_index.proofs.Prelude.{ℕ, zero, suc, ◌+◌, ◌<◌, ◌⊎◌, inl, inr, ⊎_elim, List, [], ◌∷◌, ◌++◌, length, arith, sym, subst, IsPermutation, Contains-permutation, IsPermutation-sym, IsAt, point_of, Plane, less-or-last, is-at_one, is-at_some, is-at_within, is-at_get, is-at_is, is-at_left, is-at_last, Either, earlier, last, is-at_either, Point, Span, Cluster, Group, AreCarrierSpans, StandsIn, IsInGroup, IsInCluster, AreSpanned, AreClusters, AreKeyed, IsWide, IsNarrower}
 use Rattle.nef_index.proofs.Spanning.{span-wider, narrower-still}
 
 -- ---- numbers with keys
@@ -76,19 +76,19 @@ parted (y ∷ xs) ys zero x a = inl a
 parted (y ∷ xs) ys (suc i) x a = parted xs ys i x a
 
 -- each element has P, and the number of each pair stands in some element, but for the pairs that are left
-pub record AreTaken {X : Type 0} (has : X → ℕ → Type 0) (P : X → Type 0) (pairs rest : List (ℕ × ℕ)) (xs : List X) : Type 0 where
+pub record AreAllButRest {X : Type 0} (has : X → ℕ → Type 0) (P : X → Type 0) (pairs rest : List (ℕ × ℕ)) (xs : List X) : Type 0 where
   pub left : (i : ℕ) (e : ℕ × ℕ) → IsAt rest i e → (j : ℕ) × IsAt pairs j e
   pub each : (i : ℕ) (x : X) → IsAt xs i x → P x
   pub all : (i : ℕ) (e : ℕ × ℕ) → IsAt pairs i e → StandsIn has xs e.1 ⊎ ((j : ℕ) × IsAt rest j e)
 
 module _ {X : Type 0} (has : X → ℕ → Type 0) where
-  pub taken-none : (P : X → Type 0) (pairs : List (ℕ × ℕ)) → AreTaken has P pairs pairs []
+  pub taken-none : (P : X → Type 0) (pairs : List (ℕ × ℕ)) → AreAllButRest has P pairs pairs []
   taken-none P pairs = record { left = λ i e a. (i, a); each = λ i x a. none x i a; all = λ i e a. inr (i, a) }
     where
       none : (x : X) (i : ℕ) → IsAt {X = X} [] i x → P x
       none x i a = cc
 
-  pub taken-more : (P Q : X → Type 0) (pairs next rest : List (ℕ × ℕ)) (xs : List X) (x : X) → ((y : X) → P y → Q y) → Q x → ((i : ℕ) (e : ℕ × ℕ) → IsAt next i e → has x e.1) → AreTaken has P pairs (next ++ rest) xs → AreTaken has Q pairs rest (xs ++ x ∷ [])
+  pub taken-more : (P Q : X → Type 0) (pairs next rest : List (ℕ × ℕ)) (xs : List X) (x : X) → ((y : X) → P y → Q y) → Q x → ((i : ℕ) (e : ℕ × ℕ) → IsAt next i e → has x e.1) → AreAllButRest has P pairs (next ++ rest) xs → AreAllButRest has Q pairs rest (xs ++ x ∷ [])
   taken-more P Q pairs next rest xs x still here taken T = record {
     left = λ i e a. let o = behind next rest i e a in T.left o.0 e o.1;
     each = λ i y a. each i y (is-at_either xs i y x a);
@@ -105,7 +105,7 @@ module _ {X : Type 0} (has : X → ℕ → Type 0) where
       each i y (earlier a) = still y (T.each i y a)
       each i y (last e z) = subst Q (sym z) here
 
-  pub taken-all : (P : X → Type 0) (pairs : List (ℕ × ℕ)) (xs : List X) → AreTaken has P pairs [] xs → (i : ℕ) (e : ℕ × ℕ) → IsAt pairs i e → StandsIn has xs e.1
+  pub taken-all : (P : X → Type 0) (pairs : List (ℕ × ℕ)) (xs : List X) → AreAllButRest has P pairs [] xs → (i : ℕ) (e : ℕ × ℕ) → IsAt pairs i e → StandsIn has xs e.1
   taken-all P pairs xs T i e a = ⊎_elim (λ s. s) (λ o. none o.0 o.1) (T.all i e a)
     where
       none : (j : ℕ) → IsAt {X = ℕ × ℕ} [] j e → StandsIn has xs e.1
@@ -135,7 +135,7 @@ spanned hs ps spans has span S W = record {
   within = λ k o. let l = W.within k o in let e = S.as_many in omega arith;
   each = λ k h o d m v c z.
       let s = is-at_some spans k (W.within k o) in
-      span-wider s.0 span (place_of v) (W.wide k s.0 o s.1) (S.each k h s.0 d s.1 m v c z);
+      span-wider s.0 span (point_of v) (W.wide k s.0 o s.1) (S.each k h s.0 d s.1 m v c z);
 }
 
 pub carrier-clusters : (hs : List Plane) (ps : List Point) (spans : List Span) (clusters : List Cluster) → AreCarrierSpans hs ps spans → ((i : ℕ) (q : Cluster) → IsAt clusters i q → IsWide spans (IsInCluster q) q.span)

@@ -1,5 +1,5 @@
 -- Runs of parallel planes, and the one of a run that holds a point.
-use Rattle.nef_index.proofs.Prelude.{◌≡◌, ℕ, zero, suc, ◌+◌, ◌-◌, ◌<◌, ◌≤◌, ℤ, pos, negsuc, ◌+ℤ◌, ◌-ℤ◌, ◌*ℤ◌, ◌<ℤ◌, List, [], ◌∷◌, ◌++◌, length, get_or, take, drop, arith, refl, ap, sym, ◌∙◌, ◌⊎◌, inl, inr, ⊎_elim, subst, Bool, true, false, IsTrue, Option, Some, None, is_some, IfSome, Result, Ok, Err, IsNonDecreasingBy, IsSearchInRange, IsBinarySearchResult, int_cmp, ordering_index, drop_of_length-le, cases_lt, cases_order, ints, drop_more, length-drop, get_or-take, get_or-drop, lt_by, mul_pos, sub_pos, at, ◌⊕◌, ◌⊖◌, ◌⊗◌, false≢true, IsAt, IsBelow, Place, Form, form_at, form_numbers, normal_of, Vector, form_of, Plane, sign_number, sign_of, less-or-last, is-at_one, is-at_some, is-at_within, is-at_get, is-at_is, AreInOrder, IsRun, AreRunsTo, AreRuns, GoesOn, IsHolderIn, IsOnlyHolder}
+use Rattle.nef_index.proofs.Prelude.{◌≡◌, ℕ, zero, suc, ◌+◌, ◌-◌, ◌<◌, ◌≤◌, ℤ, pos, negsuc, ◌+ℤ◌, ◌-ℤ◌, ◌*ℤ◌, ◌<ℤ◌, List, [], ◌∷◌, ◌++◌, length, get_or, take, drop, arith, refl, ap, sym, ◌∙◌, ◌⊎◌, inl, inr, ⊎_elim, subst, Bool, true, false, IsTrue, Option, Some, None, is_some, IfSome, Result, Ok, Err, IsNonDecreasingBy, IsSearchInRange, IsBinarySearchResult, int_cmp, ordering_index, drop_of_length-le, cases_lt, cases_order, ints, drop_more, length-drop, get_or-take, get_or-drop, lt_by, mul_pos, sub_pos, at, ◌⊕◌, ◌⊖◌, ◌⊗◌, false≢true, IsAt, IsBelow, SpacePoint, Form, form_at, form_numbers, normal_of, Vector, form_of, Plane, sign_number, sign_of, less-or-last, is-at_one, is-at_some, is-at_within, is-at_get, is-at_is, AreInOrder, IsRun, AreRunsTo, AreRuns, ContinuesRun, IsHolderIn, IsOnlyHolder}
 use Rattle.std.proofs.Common.{Ordering, Less, Equal, Greater}
 use Rattle.std.specs.Bool.{then_some}
 use Rattle.std.specs.Result.{IfOk, is_ok}
@@ -16,7 +16,7 @@ run-one hs k l =
       parallel = λ i g a b c. let e : i ≡ k = omega arith in ap (λ (x : Plane). normal_of (form_of x)) (is-at_one hs k g h.0 (subst (λ (j : ℕ). IsAt hs j g) e c) h.1);
     }
 
-run-more : (hs : List Plane) (first k : ℕ) → first ≤ k → IsRun hs first (k + 1) → GoesOn hs k → IsRun hs first (k + 1 + 1)
+run-more : (hs : List Plane) (first k : ℕ) → first ≤ k → IsRun hs first (k + 1) → ContinuesRun hs k → IsRun hs first (k + 1 + 1)
 run-more hs first k le R (g, h, a, b, same) = record {
   normal = R.normal;
   ordered = omega arith;
@@ -41,7 +41,7 @@ pub record IsInRun (hs : List Plane) (ends : List ℕ) (n : ℕ) : Type 0 where
 pub in-run_none : (hs : List Plane) → IsInRun hs [] 0
 in-run_none hs = record { first = 0; le = omega arith; ended = refl; inside = λ l. run-one hs 0 l; last = λ l. refl }
 
-pub in-run_on : (hs : List Plane) (ends : List ℕ) (n : ℕ) → IsInRun hs ends n → GoesOn hs n → IsInRun hs ends (n + 1)
+pub in-run_on : (hs : List Plane) (ends : List ℕ) (n : ℕ) → IsInRun hs ends n → ContinuesRun hs n → IsInRun hs ends (n + 1)
 in-run_on hs ends n I G =
     let l = is-at_within hs (n + 1) G.1 G.3 in
     record {
@@ -76,7 +76,7 @@ rise-numbers : (a b c d e x y z w : ℤ) → d <ℤ e → pos 0 <ℤ w → (a *�
 rise-numbers a b c d e x y z w l p =
     lt_by (a ∷ b ∷ c ∷ d ∷ e ∷ x ∷ y ∷ z ∷ w ∷ []) (at 0 ⊗ at 5 ⊕ at 1 ⊗ at 6 ⊕ at 2 ⊗ at 7 ⊕ at 3 ⊗ at 8) (at 0 ⊗ at 5 ⊕ at 1 ⊗ at 6 ⊕ at 2 ⊗ at 7 ⊕ at 4 ⊗ at 8) ((at 4 ⊖ at 3) ⊗ at 8) tt (mul_pos (e -ℤ d) w (sub_pos d e l) p)
 
-rise : (f g : Form) (p : Place) → normal_of f ≡ normal_of g → f.d <ℤ g.d → form_at f p <ℤ form_at g p
+rise : (f g : Form) (p : SpacePoint) → normal_of f ≡ normal_of g → f.d <ℤ g.d → form_at f p <ℤ form_at g p
 rise f g p same l =
     subst (λ (n : Vector). form_at f p <ℤ (n.x *ℤ p.x +ℤ n.y *ℤ p.y +ℤ n.z *ℤ p.z +ℤ g.d *ℤ pos p.w)) same
     (rise-numbers f.a f.b f.c f.d g.d p.x p.y p.z (pos p.w) l (let m = p.proper in omega (arith, ints)))
@@ -100,7 +100,7 @@ run_of hs first past = take (past - first) (drop first hs)
 abbrev number_order : ℤ → Ordering
 number_order z = int_cmp (sign_number (sign_of z)) (pos 0)
 
-abbrev pub side_order : Place → Plane → Ordering
+abbrev pub side_order : SpacePoint → Plane → Ordering
 side_order p h = number_order (form_at (form_of h) p)
 
 is-negative : (z : ℤ) → number_order z ≡ Less → z <ℤ pos 0
@@ -126,7 +126,7 @@ order-rises (pos (suc n)) (pos (suc m)) l = omega arith
 order-rises (pos (suc n)) (pos zero) l = absurd (omega (arith, ints))
 order-rises (pos n) (negsuc m) l = absurd (omega (arith, ints))
 
-module _ (hs : List Plane) (first past : ℕ) (p : Place) (order : AreInOrder hs) (R : IsRun hs first past) where
+module _ (hs : List Plane) (first past : ℕ) (p : SpacePoint) (order : AreInOrder hs) (R : IsRun hs first past) where
   rises : (i j : ℕ) (g h : Plane) → first ≤ i → i < j → j < past → IsAt hs i g → IsAt hs j h → form_at (form_of g) p <ℤ form_at (form_of h) p
   rises i j g h l m n a b =
       let same = R.parallel i g l (omega arith) a ∙ sym (R.parallel j h (omega arith) n b) in

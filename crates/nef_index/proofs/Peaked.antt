@@ -33,11 +33,11 @@ module _ (es : List Edge) (ns : List ℕ) where
       by (last e f) = subst (λ n. EndBelow es ns (8 * block_start (n + 1)) (8 * (n + 1)) (q + 1)) (sym e) (subst (λ n. EndBelow es ns (8 * block_start (length ps + 1)) (8 * (length ps + 1)) (n + 1)) (sym f) E)
 
 -- ---- tables
-abbrev pub IsRowOf : List (List ℕ) → ℕ → List ℕ → ℕ → List ℕ → Type 0
-IsRowOf old number row i ns = IsAt old i ns ⊎ (ns ≡ []) ⊎ ((i ≡ number) × (ns ≡ row))
+abbrev pub IsRowAfter : List (List ℕ) → ℕ → List ℕ → ℕ → List ℕ → Type 0
+IsRowAfter old number row i ns = IsAt old i ns ⊎ (ns ≡ []) ⊎ ((i ≡ number) × (ns ≡ row))
 
 -- with a row at its number, the peaks of that row of edges
-pub have-more : (es : List Edge) (rows old new : List (List ℕ)) (number : ℕ) (ns ps : List ℕ) → HavePeaks es rows old → IsAt rows number ns → ArePeaks es ns ps → ((i : ℕ) (qs : List ℕ) → IsAt new i qs → IsRowOf old number ps i qs) → HavePeaks es rows new
+pub have-more : (es : List Edge) (rows old new : List (List ℕ)) (number : ℕ) (ns ps : List ℕ) → HavePeaks es rows old → IsAt rows number ns → ArePeaks es ns ps → ((i : ℕ) (qs : List ℕ) → IsAt new i qs → IsRowAfter old number ps i qs) → HavePeaks es rows new
 have-more es rows old new number ns ps H at P rule i ms qs a b = ⊎_elim
     (λ c. H i ms qs a c)
     (⊎_elim

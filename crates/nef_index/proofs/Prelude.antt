@@ -5,7 +5,7 @@ pub use Rattle.nef_space.proofs.Prelude.{cond, fits_signed_from_abs, ltb}
 pub use Rattle.nef_space.specs.Lists.{IsAt}
 pub use Rattle.law_near.proofs.Prelude.{Out, cases_order}
 pub use Rattle.law_complex.specs.Spans.{Coordinate, IsWithin, coordinate_of, coordinate_x, coordinate_y, coordinate_z}
-pub use Rattle.nef_geo.proofs.Prelude.{false≢true, Bool, Form, IfSome, IsBelow, None, Place, Vector, at, cases_lt, false, form_at, form_numbers, form_of, int_cmp, mul_pos, nat_abs, neg, neg_ℤ, negsuc, normal_of, num, of_z, place_of, point_limit, pos-abs, ring, sign_of, sub_pos, to_z, to_z-of_z, true, w64, weight_limit, ℤ, ◌*ℤ◌, ◌*◌, ◌+ℤ◌, ◌-ℤ◌, ◌/◌, ◌<ℤ◌, ◌≤ℤ◌, ◌⊕◌, ◌⊖◌, ◌⊗◌}
+pub use Rattle.nef_geo.proofs.Prelude.{false≢true, Bool, Form, IfSome, IsBelow, None, SpacePoint, Vector, at, cases_lt, false, form_at, form_numbers, form_of, int_cmp, mul_pos, nat_abs, neg, neg_ℤ, negsuc, normal_of, num, of_z, point_of, point_limit, pos-abs, ring, sign_of, sub_pos, to_z, to_z-of_z, true, w64, weight_limit, ℤ, ◌*ℤ◌, ◌*◌, ◌+ℤ◌, ◌-ℤ◌, ◌/◌, ◌<ℤ◌, ◌≤ℤ◌, ◌⊕◌, ◌⊖◌, ◌⊗◌}
 pub use Rattle.nef_geo.specs.Signs.{sign_number}
 pub use Rattle.nef_geo.specs.declared.plane.Plane.{Plane}
 pub use Rattle.nef_geo.specs.declared.point.Point.{Point}
@@ -26,15 +26,15 @@ pub use Rattle.std.specs.Slice.Iter.{chunks_rest}
 pub use Rattle.std.specs.Vec.{vec_capacity, vec_len}
 pub use Rattle.nef_index.specs.Carriers.{AreHolders, AreInOrder, IsHolder}
 pub use Rattle.nef_index.specs.Common.{AreCommon, AreCommonAlong, AreCommonRows, DoAllRise, HasAdded, HaveRows}
-pub use Rattle.nef_index.specs.Counting.{AreNumbersBelow, ArePlaces, AreRowsPlaced, HaveCounts, StandsFor, many_below, many_equal, ordered_place}
+pub use Rattle.nef_index.specs.Counting.{AreNumbersBelow, AreRanks, AreRowsByRank, HaveCounts, StandsFor, many_below, many_equal, rank_of}
 pub use Rattle.nef_index.specs.Groups.{AreKeyed, IsInCluster, IsInGroup, IsWide, StandsIn}
 pub use Rattle.nef_index.specs.Index.{AreCarrierEdges, AreCarrierPoints, AreCarrierSpans, AreClusters, AreEdgeHolders, AreInSpan, ArePointHolders, ArePointSpans, AreSpanned}
-pub use Rattle.nef_index.specs.Numbers.{AreNumbersWith, AreOnce, AreRowsOfOnce, AreWithin, DoRise, HasEntry, HasNumber}
+pub use Rattle.nef_index.specs.Numbers.{AreNumbersOf, AreNumbersWith, AreOnce, AreRowsOfOnce, DoRise, HasEntry, HasNumber}
 pub use Rattle.nef_index.specs.Peaks.{ArePeaks, EndBelow, HavePeaks, block_start}
-pub use Rattle.nef_index.specs.Runs.{AreRuns, AreRunsTo, GoesOn, IsHolderIn, IsOnlyHolder, IsRun}
+pub use Rattle.nef_index.specs.Runs.{AreRuns, AreRunsTo, ContinuesRun, IsHolderIn, IsOnlyHolder, IsRun}
 pub use Rattle.nef_index.specs.Skeleton.{HaveEnds, HoldsBoth, IsEdgeIn, IsPointOn}
 pub use Rattle.nef_index.specs.Spans.{AreNarrower, AreNarrowerListed, IsInSpan, IsNarrower}
-pub use Rattle.nef_index.specs.Tables.{AreEnds, AreRead, rows_of}
+pub use Rattle.nef_index.specs.Tables.{AreRead, AreRowEnds, rows_of}
 pub use Rattle.nef_index.specs.declared.groups.Cluster.{Cluster}
 pub use Rattle.nef_index.specs.declared.groups.Group.{Group}
 pub use Rattle.nef_index.specs.declared.skeleton.Edge.{Edge}

@@ -1,5 +1,5 @@
 -- Whole numbers that bound coordinates.
-use Rattle.nef_index.proofs.Prelude.{◌≡◌, ℕ, zero, suc, ◌⊎◌, inl, inr, ◌+◌, ◌*◌, ◌/◌, ◌<◌, ◌≤◌, ℤ, pos, negsuc, neg_ℤ, ◌+ℤ◌, ◌*ℤ◌, ◌-ℤ◌, ◌<ℤ◌, ◌≤ℤ◌, nat_abs, List, [], ◌∷◌, length, arith, sym, ◌∙◌, subst, ⊎_elim, div-le_self, div-mul-le_self, lt-div-mul-add, ints, int_div_euclid, mul_nonneg, cancel_le, ring, at, num, neg, ◌⊕◌, ◌⊖◌, ◌⊗◌, IsAt, Place, place_of, Plane, Coordinate, coordinate_of, coordinate_x, coordinate_y, coordinate_z, IsWithin, less-or-last, is-at_one, is-at_some, is-at_within, Point, Bounds, Span, AreWithin, AreCarrierPoints, AreCarrierSpans, ArePointSpans, AreNarrowerListed, IsInSpan, AreInSpan, AreNarrower, IsNarrower}
+use Rattle.nef_index.proofs.Prelude.{◌≡◌, ℕ, zero, suc, ◌⊎◌, inl, inr, ◌+◌, ◌*◌, ◌/◌, ◌<◌, ◌≤◌, ℤ, pos, negsuc, neg_ℤ, ◌+ℤ◌, ◌*ℤ◌, ◌-ℤ◌, ◌<ℤ◌, ◌≤ℤ◌, nat_abs, List, [], ◌∷◌, length, arith, sym, ◌∙◌, subst, ⊎_elim, div-le_self, div-mul-le_self, lt-div-mul-add, ints, int_div_euclid, mul_nonneg, cancel_le, ring, at, num, neg, ◌⊕◌, ◌⊖◌, ◌⊗◌, IsAt, SpacePoint, point_of, Plane, Coordinate, coordinate_of, coordinate_x, coordinate_y, coordinate_z, IsWithin, less-or-last, is-at_one, is-at_some, is-at_within, Point, Bounds, Span, AreNumbersOf, AreCarrierPoints, AreCarrierSpans, ArePointSpans, AreNarrowerListed, IsInSpan, AreInSpan, AreNarrower, IsNarrower}
 
 -- ---- quotients
 -- z/w rounded down, times w, is at most z
@@ -94,10 +94,10 @@ euclid-next z w p off = by (int_div_euclid z w) (euclid-small z w p) (euclid-bel
         omega (arith, ints)
 
 -- ---- wider bounds
-pub weight : (p : Place) → pos 0 <ℤ pos p.w
+pub weight : (p : SpacePoint) → pos 0 <ℤ pos p.w
 weight p = let m = p.proper in omega (arith, ints)
 
-within-wider : (c : Coordinate) (a b : Bounds) (p : Place) → AreNarrower a b → IsWithin c a.low a.high p → IsWithin c b.low b.high p
+within-wider : (c : Coordinate) (a b : Bounds) (p : SpacePoint) → AreNarrower a b → IsWithin c a.low a.high p → IsWithin c b.low b.high p
 within-wider c a b p n w =
     let l = times-below b.low a.low (pos p.w) (weight p) n.0 in
     let h = times-below a.high b.high (pos p.w) (weight p) n.1 in
@@ -107,7 +107,7 @@ within-wider c a b p n w =
     lower : (x y z : ℤ) → x ≤ℤ y → y ≤ℤ z → x ≤ℤ z
     lower x y z k l = omega (arith, ints)
 
-pub span-wider : (s t : Span) (p : Place) → IsNarrower s t → IsInSpan s p → IsInSpan t p
+pub span-wider : (s t : Span) (p : SpacePoint) → IsNarrower s t → IsInSpan s p → IsInSpan t p
 span-wider s t p n i = (within-wider coordinate_x s.x t.x p n.0 i.0, within-wider coordinate_y s.y t.y p n.1 i.1, within-wider coordinate_z s.z t.z p n.2 i.2)
 
 narrower : (a b c : Bounds) → AreNarrower a b → AreNarrower b c → AreNarrower a c
@@ -120,14 +120,14 @@ pub narrower-still : (s t u : Span) → IsNarrower s t → IsNarrower t u → Is
 narrower-still s t u n m = (narrower s.x t.x u.x n.0 m.0, narrower s.y t.y u.y n.1 m.1, narrower s.z t.z u.z n.2 m.2)
 
 -- ---- bounds that hold a coordinate in common
-pub within-both : (c : Coordinate) (a b : Bounds) (q : Place) → IsWithin c a.low a.high q → IsWithin c b.low b.high q → (a.low ≤ℤ b.high) × (b.low ≤ℤ a.high)
+pub within-both : (c : Coordinate) (a b : Bounds) (q : SpacePoint) → IsWithin c a.low a.high q → IsWithin c b.low b.high q → (a.low ≤ℤ b.high) × (b.low ≤ℤ a.high)
 within-both c a b q i j = (below a.low b.high i.0 j.1, below b.low a.high j.0 i.1)
   where
     below : (l h : ℤ) → (l *ℤ pos q.w) ≤ℤ coordinate_of c q → coordinate_of c q ≤ℤ (h *ℤ pos q.w) → l ≤ℤ h
     below l h u v = cancel_le l h (pos q.w) (weight q) (omega (arith, ints))
 
 -- ---- the spans of single points
-pub within-spans : (ps : List Point) (ss : List Span) (row : List ℕ) → ArePointSpans ps ss → AreWithin ps row → AreWithin ss row
+pub within-spans : (ps : List Point) (ss : List Span) (row : List ℕ) → ArePointSpans ps ss → AreNumbersOf ps row → AreNumbersOf ss row
 within-spans ps ss row A within i k a = let l = within i k a in let e = A.as_many in omega arith
 
 -- ---- a span as wide as those listed, one after the other
@@ -143,7 +143,7 @@ narrower-more ss ns n k t s u a b all w here i m r l c d = ⊎_elim
 pub narrower-in : (ps : List Point) (ss : List Span) (row : List ℕ) (s : Span) → ArePointSpans ps ss → AreNarrowerListed ss row (length row) s → AreInSpan ps row (length row) s
 narrower-in ps ss row s A wide i k v l a b =
     let t = is-at_some ss k (let m = is-at_within ps k v b in let e = A.as_many in omega arith) in
-    span-wider t.0 s (place_of v) (wide i k t.0 l a t.1) (A.each k v t.0 b t.1)
+    span-wider t.0 s (point_of v) (wide i k t.0 l a t.1) (A.each k v t.0 b t.1)
 
 -- ---- a span for each row, as wide as those that it lists
 abbrev pub AreSpansOf : List Span → List (List ℕ) → List Span → Type 0
@@ -151,7 +151,7 @@ AreSpansOf alone rows ss = (k : ℕ) (row : List ℕ) (s : Span) → IsAt rows k
 
 -- ---- the spans of the carriers
 module _ (hs : List Plane) (ps : List Point) (rows : List (List ℕ)) (R : AreCarrierPoints hs ps rows) where
-  pub rows-within : (k : ℕ) (row : List ℕ) → IsAt rows k row → AreWithin ps row
+  pub rows-within : (k : ℕ) (row : List ℕ) → IsAt rows k row → AreNumbersOf ps row
   rows-within k row a i m b =
       let h = is-at_some hs k (let l = is-at_within rows k row a in let e = R.as_many in omega arith) in
       let o = (R.each k h.0 row h.1 a).each i m b in

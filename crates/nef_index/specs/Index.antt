@@ -1,7 +1,7 @@
 -- What an index says of carriers, points and edges.
 use Rattle.std.specs.Prelude.{◌≡◌, ◌<◌}
 use Rattle.nef_space.specs.Prelude.{ℕ, pos, List, length, IsAt, Form, form_at}
-use Rattle.nef_geo.specs.Shapes.{place_of, form_of}
+use Rattle.nef_geo.specs.Shapes.{point_of, form_of}
 use Rattle.nef_geo.specs.declared.plane.Plane.{Plane}
 use Rattle.nef_geo.specs.declared.point.Point.{Point}
 use Rattle.nef_index.specs.declared.skeleton.Edge.{Edge}
@@ -19,11 +19,11 @@ use Rattle.nef_index.specs.Peaks.{HavePeaks}
 -- for each point the table has the numbers of the carriers that hold the point
 pub record ArePointHolders (hs : List Plane) (ps : List Point) (rows : List (List ℕ)) : Type 0 where
   pub as_many : length rows ≡ length ps
-  pub each : (k : ℕ) (p : Point) (ns : List ℕ) → IsAt ps k p → IsAt rows k ns → AreHolders hs (place_of p) (place_of p) ns
+  pub each : (k : ℕ) (p : Point) (ns : List ℕ) → IsAt ps k p → IsAt rows k ns → AreHolders hs (point_of p) (point_of p) ns
 
 -- the list has the numbers of the carriers that hold both ends of the edge, in increasing order
 abbrev pub AreEndHolders : List Plane → List Point → Edge → List ℕ → Type 0
-AreEndHolders hs ps e ns = (p q : Point) → IsAt ps e.low p → IsAt ps e.high q → AreHolders hs (place_of p) (place_of q) ns
+AreEndHolders hs ps e ns = (p q : Point) → IsAt ps e.low p → IsAt ps e.high q → AreHolders hs (point_of p) (point_of q) ns
 
 -- for each edge there are the numbers of the carriers that hold both of its ends
 pub record AreEdgeHolders (hs : List Plane) (ps : List Point) (es : List Edge) (rows : List (List ℕ)) : Type 0 where
@@ -43,15 +43,15 @@ pub record AreCarrierEdges (hs : List Plane) (ps : List Point) (es : List Edge) 
 -- for each point there is a span that holds this point
 pub record ArePointSpans (ps : List Point) (spans : List Span) : Type 0 where
   pub as_many : length spans ≡ length ps
-  pub each : (k : ℕ) (p : Point) (s : Span) → IsAt ps k p → IsAt spans k s → IsInSpan s (place_of p)
+  pub each : (k : ℕ) (p : Point) (s : Span) → IsAt ps k p → IsAt spans k s → IsInSpan s (point_of p)
 
 -- the points with the first n of these numbers lie in the span
 abbrev pub AreInSpan : List Point → List ℕ → ℕ → Span → Type 0
-AreInSpan ps ns n s = (i k : ℕ) (p : Point) → i < n → IsAt ns i k → IsAt ps k p → IsInSpan s (place_of p)
+AreInSpan ps ns n s = (i k : ℕ) (p : Point) → i < n → IsAt ns i k → IsAt ps k p → IsInSpan s (point_of p)
 
 -- the span holds the points on the plane
 abbrev pub HoldsPointsOn : List Point → Form → Span → Type 0
-HoldsPointsOn ps h s = (k : ℕ) (p : Point) → IsAt ps k p → form_at h (place_of p) ≡ pos 0 → IsInSpan s (place_of p)
+HoldsPointsOn ps h s = (k : ℕ) (p : Point) → IsAt ps k p → form_at h (point_of p) ≡ pos 0 → IsInSpan s (point_of p)
 
 -- for each carrier the list has a span of the points on the carrier
 pub record AreCarrierSpans (hs : List Plane) (ps : List Point) (spans : List Span) : Type 0 where

@@ -9,8 +9,8 @@ pub record AreNumbersWith (P : ℕ → Type 0) (ns : List ℕ) : Type 0 where
   pub ordered : (i j k l : ℕ) → i < j → IsAt ns i k → IsAt ns j l → k < l
 
 -- each of the numbers is the number of an element of the list
-abbrev pub AreWithin : {X : Type 0} → List X → List ℕ → Type 0
-AreWithin xs ns = (i k : ℕ) → IsAt ns i k → k < length xs
+abbrev pub AreNumbersOf : {X : Type 0} → List X → List ℕ → Type 0
+AreNumbersOf xs ns = (i k : ℕ) → IsAt ns i k → k < length xs
 
 -- the number stands in the list
 abbrev pub HasEntry : List ℕ → ℕ → Type 0

@@ -1,6 +1,6 @@
 -- Runs of parallel planes.
 use Rattle.std.specs.Prelude.{◌≡◌, ◌+◌, ◌<◌, ◌≤◌, ◌∷◌}
-use Rattle.nef_geo.specs.Prelude.{ℕ, List, [], length, IsAt, Place, normal_of, Vector, form_of}
+use Rattle.nef_geo.specs.Prelude.{ℕ, List, [], length, IsAt, SpacePoint, normal_of, Vector, form_of}
 use Rattle.nef_geo.specs.declared.plane.Plane.{Plane}
 use Rattle.nef_index.specs.Carriers.{IsHolder}
 
@@ -21,14 +21,14 @@ abbrev pub AreRuns : List Plane → List ℕ → Type 0
 AreRuns hs ends = AreRunsTo hs 0 ends (length hs)
 
 -- the plane with number k and the next plane have one normal
-abbrev pub GoesOn : List Plane → ℕ → Type 0
-GoesOn hs k = (g h : Plane) × IsAt hs k g × IsAt hs (k + 1) h × (normal_of (form_of g) ≡ normal_of (form_of h))
+abbrev pub ContinuesRun : List Plane → ℕ → Type 0
+ContinuesRun hs k = (g h : Plane) × IsAt hs k g × IsAt hs (k + 1) h × (normal_of (form_of g) ≡ normal_of (form_of h))
 
 -- the plane with this number is one of the run from `first` to before `past`, and holds the point
-abbrev pub IsHolderIn : List Plane → ℕ → ℕ → Place → ℕ → Type 0
+abbrev pub IsHolderIn : List Plane → ℕ → ℕ → SpacePoint → ℕ → Type 0
 IsHolderIn hs first past p k = (first ≤ k) × (k < past) × IsHolder hs p p k
 
 -- of the run's planes the one with this number holds the point, and no other does
-pub record IsOnlyHolder (hs : List Plane) (first past : ℕ) (p : Place) (k : ℕ) : Type 0 where
+pub record IsOnlyHolder (hs : List Plane) (first past : ℕ) (p : SpacePoint) (k : ℕ) : Type 0 where
   pub holder : IsHolderIn hs first past p k
   pub only : (i : ℕ) → IsHolderIn hs first past p i → i ≡ k

@@ -1,12 +1,12 @@
 -- Spans: boxes with whole numbers as bounds.
 use Rattle.std.specs.Prelude.{◌<◌, ◌≤◌, ◌≤ℤ◌}
-use Rattle.nef_geo.specs.Prelude.{ℕ, nat_abs, List, point_limit, IsAt, Place}
+use Rattle.nef_geo.specs.Prelude.{ℕ, nat_abs, List, point_limit, IsAt, SpacePoint}
 use Rattle.law_complex.specs.Spans.{coordinate_x, coordinate_y, coordinate_z, IsWithin}
 use Rattle.nef_index.specs.declared.spans.Bounds.{Bounds}
 use Rattle.nef_index.specs.declared.spans.Span.{Span}
 
 -- the coordinates of the point lie within the span's bounds
-abbrev pub IsInSpan : Span → Place → Type 0
+abbrev pub IsInSpan : Span → SpacePoint → Type 0
 IsInSpan s p = IsWithin coordinate_x s.x.low s.x.high p × IsWithin coordinate_y s.y.low s.y.high p × IsWithin coordinate_z s.z.low s.z.high p
 
 -- what lies within the bounds a lies within the bounds b
@@ -18,8 +18,8 @@ abbrev pub IsNarrower : Span → Span → Type 0
 IsNarrower s t = AreNarrower s.x t.x × AreNarrower s.y t.y × AreNarrower s.z t.z
 
 -- the bounds are at most as large in size as a point's numbers
-abbrev pub AreSmall : Bounds → Type 0
-AreSmall b = (nat_abs b.low ≤ point_limit) × (nat_abs b.high ≤ point_limit)
+abbrev pub AreSmallBounds : Bounds → Type 0
+AreSmallBounds b = (nat_abs b.low ≤ point_limit) × (nat_abs b.high ≤ point_limit)
 
 -- the two bounds have a number in common
 abbrev pub HaveCommon : Bounds → Bounds → Type 0

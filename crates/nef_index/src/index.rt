@@ -1,7 +1,7 @@
 //! The index of a skeleton.
 
 ghost use Rattle.std.specs.Prelude.{◌≡◌, ◌<◌};
-ghost use Rattle.nef_geo.specs.Prelude.{length, IfOk, IsAt, place_of, form_of};
+ghost use Rattle.nef_geo.specs.Prelude.{length, IfOk, IsAt, point_of, form_of};
 ghost use Rattle.nef_geo.specs.declared.plane.Plane.{Plane};
 ghost use Rattle.nef_geo.specs.declared.point.Point.{Point};
 ghost use Rattle.nef_index.specs.declared.skeleton.Edge.{Edge as EdgeValue};
@@ -85,7 +85,7 @@ impl Index {
     /// The numbers of the carriers that hold the point with this number, in increasing order.
     pub fn point_holders(&self, number: usize) -> &[usize]
         requires within { number < length self.now.points }
-        ensures holders { (p : Point) → IsAt self.now.points number p → AreHolders self.now.carriers (place_of p) (place_of p) result.now }
+        ensures holders { (p : Point) → IsAt self.now.points number p → AreHolders self.now.carriers (point_of p) (point_of p) result.now }
     {
         self.at_point.row(number)
     }

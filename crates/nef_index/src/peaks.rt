@@ -5,7 +5,7 @@
 //! Frequency Tables", Software: Practice and Experience 24, 1994.
 
 ghost use Rattle.std.specs.Prelude.{◌≡◌, ◌<◌, ◌≤◌, ◌+◌, ◌*◌};
-ghost use Rattle.nef_index.specs.Prelude.{ℕ, length, IfSome, IfOk, OnOk, List as Sequence, IsAt, Edge as EdgeValue, AreWithin, block_start, EndBelow, ArePeaks, HavePeaks};
+ghost use Rattle.nef_index.specs.Prelude.{ℕ, length, IfSome, IfOk, OnOk, List as Sequence, IsAt, Edge as EdgeValue, AreNumbersOf, block_start, EndBelow, ArePeaks, HavePeaks};
 
 use crate::OutOfMemory;
 use crate::skeleton::Edge;
@@ -29,7 +29,7 @@ fn start_of_last(count: usize) -> usize
 
 // The greatest upper end of the edges from number `first` to before number `past` of the row.
 fn greatest_end(edges: &[Edge], numbers: &[usize], first: usize, past: usize) -> usize
-    requires within { AreWithin edges.now numbers.now }
+    requires within { AreNumbersOf edges.now numbers.now }
     requires past { past ≤ length numbers.now }
     ensures greatest { EndBelow edges.now numbers.now first past (result + 1) }
 {
@@ -56,7 +56,7 @@ fn next_peak(peaks: &[usize], own: usize) -> usize
 
 // Replaces the list by the peaks of the row.
 fn put_peaks(edges: &[Edge], numbers: &[usize], peaks: &mut Vec<usize>) -> Result<(), OutOfMemory>
-    requires within { AreWithin edges.now numbers.now }
+    requires within { AreNumbersOf edges.now numbers.now }
     ensures peaks { OnOk result (ArePeaks edges.now numbers.now peaks.new.items) }
 {
     peaks.clear();
@@ -73,7 +73,7 @@ fn put_peaks(edges: &[Edge], numbers: &[usize], peaks: &mut Vec<usize>) -> Resul
 /// For each row of edges its peaks; rows without peaks are left out at the end. `OutOfMemory` says that memory was
 /// wanted and not found.
 pub(crate) fn peaks_of(alloc: Global, edges: &[Edge], rows: &Table) -> Result<Table, OutOfMemory>
-    requires within { (i : ℕ) (ns : Sequence ℕ) → IsAt rows.now i ns → AreWithin edges.now ns }
+    requires within { (i : ℕ) (ns : Sequence ℕ) → IsAt rows.now i ns → AreNumbersOf edges.now ns }
     ensures peaks { IfOk result (HavePeaks edges.now rows.now) }
 {
     let mut table = Table::with_rows(alloc, 0, 0)?;

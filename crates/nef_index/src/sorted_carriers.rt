@@ -1,9 +1,9 @@
 //! Carriers in order, with the runs of parallel carriers, which stand side by side: at most one of a run holds a point.
 
 ghost use Rattle.std.specs.Prelude.{◌≡◌, ◌<◌, ◌↔◌};
-ghost use Rattle.nef_geo.specs.Prelude.{IfOk, OnOk, ℕ, pos, length, IsTrue, IsNone, IfSome, place_of, form_of, form_at, normal_of};
+ghost use Rattle.nef_geo.specs.Prelude.{IfOk, OnOk, ℕ, pos, length, IsTrue, IsNone, IfSome, point_of, form_of, form_at, normal_of};
 ghost use Rattle.nef_index.specs.Carriers.{AreInOrder, AreHolders};
-ghost use Rattle.nef_index.specs.Runs.{IsRun, AreRuns, GoesOn, IsHolderIn, IsOnlyHolder};
+ghost use Rattle.nef_index.specs.Runs.{IsRun, AreRuns, ContinuesRun, IsHolderIn, IsOnlyHolder};
 
 use crate::OutOfMemory;
 use nef_geo::{List, Plane, Point, Sign, side};
@@ -12,7 +12,7 @@ use std::marker::Model;
 
 /// Whether the plane holds the point.
 pub fn holds(h: &Plane, point: &Point) -> bool
-    ensures holds { IsTrue result ↔ (form_at (form_of h.now) (place_of point.now) ≡ pos 0) }
+    ensures holds { IsTrue result ↔ (form_at (form_of h.now) (point_of point.now) ≡ pos 0) }
 {
     side(h, point) == Sign::Zero
 }
@@ -26,7 +26,7 @@ fn same_normal(g: &Plane, h: &Plane) -> bool
 // Whether the carrier after this one belongs to the same run.
 fn goes_on(carriers: &[Plane], number: usize) -> bool
     requires within { number < length carriers.now }
-    ensures on { IsTrue result → GoesOn carriers.now number }
+    ensures on { IsTrue result → ContinuesRun carriers.now number }
 {
     match carriers.get(number + 1) {
         Some(next) => same_normal(&carriers[number], next),
@@ -52,8 +52,8 @@ fn run_ends(alloc: Global, carriers: &[Plane]) -> Result<Vec<usize>, OutOfMemory
 fn holder_in(carriers: &[Plane], first: usize, past: usize, point: &Point) -> Option<usize>
     requires ordered { AreInOrder carriers.now }
     requires run { IsRun carriers.now first past }
-    ensures holder { IfSome result (λ k. IsOnlyHolder carriers.now first past (place_of point.now) k) }
-    ensures none { IsNone result → (k : ℕ) → IsHolderIn carriers.now first past (place_of point.now) k → ⊥ }
+    ensures holder { IfSome result (λ k. IsOnlyHolder carriers.now first past (point_of point.now) k) }
+    ensures none { IsNone result → (k : ℕ) → IsHolderIn carriers.now first past (point_of point.now) k → ⊥ }
 {
     if past - first == 1 {
         return holds(&carriers[first], point).then_some(first);
@@ -98,7 +98,7 @@ impl SortedCarriers {
     /// Replaces the list by the numbers of the carriers that hold the point, in increasing order. `OutOfMemory` says
     /// that memory was wanted and not found.
     pub fn holders(&self, point: &Point, numbers: &mut Vec<usize>) -> Result<(), OutOfMemory>
-        ensures holders { OnOk result (AreHolders self.now (place_of point.now) (place_of point.now) numbers.new.items) }
+        ensures holders { OnOk result (AreHolders self.now (point_of point.now) (point_of point.now) numbers.new.items) }
     {
         numbers.clear();
         let mut first = 0;

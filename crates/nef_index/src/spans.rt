@@ -1,7 +1,7 @@
 //! Spans: boxes with whole numbers as bounds.
 
 ghost use Rattle.std.specs.Prelude.{◌≡◌, ◌*ℤ◌, ◌<ℤ◌, ◌≤ℤ◌, ◌≤◌, ◌↔◌};
-ghost use Rattle.nef_index.specs.Prelude.{ℕ, pos, nat_abs, List as Sequence, length, IsTrue, IfOk, point_limit, IsAt, Place, place_of, AreWithin, IsInSpan, AreNarrower, IsNarrower, AreSmall, HaveCommon, DoOverlap, AreNarrowerListed};
+ghost use Rattle.nef_index.specs.Prelude.{ℕ, pos, nat_abs, List as Sequence, length, IsTrue, IfOk, point_limit, IsAt, SpacePoint, point_of, AreNumbersOf, IsInSpan, AreNarrower, IsNarrower, AreSmallBounds, HaveCommon, DoOverlap, AreNarrowerListed};
 
 use crate::OutOfMemory;
 use crate::table::Table;
@@ -30,7 +30,7 @@ impl Bounds {
         requires positive { pos 0 <ℤ w }
         ensures low { (result.low *ℤ w) ≤ℤ x }
         ensures high { x ≤ℤ (result.high *ℤ w) }
-        ensures small { AreSmall result }
+        ensures small { AreSmallBounds result }
     {
         if w == 1 {
             return Bounds { low: x, high: x };
@@ -55,7 +55,7 @@ impl Bounds {
 impl Span {
     /// The span of no point.
     pub fn none() -> Span
-        ensures none { (y : Place) → IsInSpan result y → ⊥ }
+        ensures none { (y : SpacePoint) → IsInSpan result y → ⊥ }
     {
         let none = Bounds {
             low: i64::MAX,
@@ -70,8 +70,8 @@ impl Span {
 
     /// The least span of the point: the whole numbers next to its coordinates.
     pub fn of(point: &Point) -> Span
-        ensures point { IsInSpan result (place_of point.now) }
-        ensures small { AreSmall result.x × AreSmall result.y × AreSmall result.z }
+        ensures point { IsInSpan result (point_of point.now) }
+        ensures small { AreSmallBounds result.x × AreSmallBounds result.y × AreSmallBounds result.z }
     {
         Span {
             x: Bounds::of(point.x(), point.w()),
@@ -103,7 +103,7 @@ fn overlap(bounds: &Bounds, others: &Bounds) -> bool
 /// Whether the spans may have a point in common: their bounds overlap in each coordinate.
 pub fn may_meet(span: &Span, other: &Span) -> bool
     ensures overlap { IsTrue result ↔ DoOverlap span.now other.now }
-    ensures meets { (y : Place) → IsInSpan span.now y → IsInSpan other.now y → IsTrue result }
+    ensures meets { (y : SpacePoint) → IsInSpan span.now y → IsInSpan other.now y → IsTrue result }
 {
     if !overlap(&span.z, &other.z) {
         return false;
@@ -116,7 +116,7 @@ pub fn may_meet(span: &Span, other: &Span) -> bool
 
 // The least span that has the points of all listed spans.
 fn span_of(alone: &[Span], listed: &[usize]) -> Span
-    requires within { AreWithin alone.now listed.now }
+    requires within { AreNumbersOf alone.now listed.now }
     ensures wide { AreNarrowerListed alone.now listed.now (length listed.now) result }
 {
     let mut span = Span::none();
@@ -132,7 +132,7 @@ pub(crate) fn spans_of(
     alone: &[Span],
     rows: &Table,
 ) -> Result<List<Span>, OutOfMemory>
-    requires within { (k : ℕ) (row : Sequence ℕ) → IsAt rows.now k row → AreWithin alone.now row }
+    requires within { (k : ℕ) (row : Sequence ℕ) → IsAt rows.now k row → AreNumbersOf alone.now row }
     ensures as_many { IfOk result (λ v. length v ≡ length rows.now) }
     ensures spanned { IfOk result (λ v. (k : ℕ) (row : Sequence ℕ) (span : Span) → IsAt rows.now k row → IsAt v k span → AreNarrowerListed alone.now row (length row) span) }
 {

@@ -2,7 +2,7 @@
 use Rattle.nef_io.proofs.Prelude.{◌≡◌, ℕ, ◌-◌, ◌≤◌, ◌<◌, Bool, true, false, List, ◌++◌, length, Option, None, Some, refl, ap, ◌∙◌, append_assoc, inl, inr, Grows}
 use Rattle.std.specs.Prelude.{if◌then◌else◌}
 use Rattle.std.proofs.lemmas.Bool.{cases_lt}
-use Rattle.nef_io.specs.Memory.{Kept, written_of}
+use Rattle.nef_io.specs.Memory.{SinkBytes, written_of}
 
 -- xs is written, and then ys
 pub Grows-trans : (a b c : Option (List ℕ)) (xs ys : List ℕ) → Grows a b xs → Grows b c ys → Grows a c (xs ++ ys)
@@ -17,7 +17,7 @@ Grows-kept true bytes piece = tt
 Grows-kept false bytes piece = refl
 
 -- a piece is kept where it fits, and lost where it does not: what is told grows by it
-pub Grows-written_of : (old new : Kept) (piece : List ℕ)
+pub Grows-written_of : (old new : SinkBytes) (piece : List ℕ)
     → (length piece ≤ old.free → new ≡ record { bytes = old.bytes ++ piece; free = old.free - length piece; lost = old.lost })
     → (old.free < length piece → new ≡ record old { lost = true })
     → Grows (written_of old) (written_of new) piece

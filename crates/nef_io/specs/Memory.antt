@@ -2,13 +2,13 @@
 use Rattle.std.specs.Prelude.{ℕ, ◌+◌, ◌-◌, ◌^◌, List, min, Bool, Option, Some, None, if◌then◌else◌}
 
 -- the bytes that a sink kept, how many bytes still fit, and whether a piece didn't fit
-pub record Kept : Type 0 where
+pub record SinkBytes : Type 0 where
   pub bytes : List ℕ
   pub free : ℕ
   pub lost : Bool
 
 -- what a sink tells of what was written: the bytes that it kept, as long as no piece was lost
-abbrev pub written_of : Kept → Option (List ℕ)
+abbrev pub written_of : SinkBytes → Option (List ℕ)
 written_of kept = if kept.lost then None else Some kept.bytes
 
 -- the last value of a counter

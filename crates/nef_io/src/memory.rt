@@ -1,6 +1,6 @@
 //! Sources and sinks in memory: a source and a sink that never fail, and a source and a sink whose listed calls fail.
 ghost use Rattle.std.specs.Prelude.{◌≡◌, ◌-◌, ◌<◌, ◌≤◌, ◌⊎◌, ◌++◌, [], Some, IfOk, IsErr, MatchResult, length, vec_len, min, take, drop, ◌↔◌, Contains, ◌+◌, ℕ, List, true, false};
-ghost use Rattle.nef_io.specs.Memory.{last_count, counted, SourceState, SinkState, Kept, written_of};
+ghost use Rattle.nef_io.specs.Memory.{last_count, counted, SourceState, SinkState, SinkBytes, written_of};
 ghost use Rattle.nef_io.specs.Bytes.{Rose};
 
 use crate::OutOfMemory;
@@ -63,7 +63,7 @@ pub struct SureSink<'a> {
 }
 
 impl<'a> Model for SureSink<'a> {
-    ghost Value = { Kept };
+    ghost Value = { SinkBytes };
 
     ghost view = { λ s. record { bytes = take s.at s.buffer.now; free = length s.buffer.now - s.at; lost = s.lost } };
 
@@ -116,7 +116,7 @@ impl Sink for SureSink<'_> {
 /// theirs.
 pub fn sure_counts()
     ensures source { (old new : List ℕ) → ¬ (Rose (⟦<SureSource as Source>⟧.faults old) (⟦<SureSource as Source>⟧.faults new)) }
-    ensures sink { (old new : Kept) → ¬ (Rose (⟦<SureSink<'static> as Sink>⟧.faults old) (⟦<SureSink<'static> as Sink>⟧.faults new)) }
+    ensures sink { (old new : SinkBytes) → ¬ (Rose (⟦<SureSink<'static> as Sink>⟧.faults old) (⟦<SureSink<'static> as Sink>⟧.faults new)) }
 {}
 
 /// How many calls were made, how many of them failed, and the numbers of the calls that are to fail.

@@ -1,5 +1,5 @@
 -- The laws of lines.
-use Rattle.nef_lex.proofs.Prelude.{◌≡◌, ℕ, false, cond, List, [], ◌∷◌, ◌++◌, refl, ap, ◌∙◌, inl, inr, All, ne_eqb, eqb_tells, All-head, All-tail, All-cons, All-nil, line_feed, carriage_return, is_line_feed, LacksFeed, ended, PiecesOfEnded, EndedPieces, ReturnDropped, OthersKept}
+use Rattle.nef_lex.proofs.Prelude.{◌≡◌, ℕ, false, cond, List, [], ◌∷◌, ◌++◌, refl, ap, ◌∙◌, inl, inr, All, ne_eqb, eqb_tells, All-head, All-tail, All-cons, All-nil, line_feed, carriage_return, is_line_feed, LacksFeed, each_ended, PiecesOfEnded, EndedPieces, ReturnDropped, OthersKept}
 use Rattle.nef_lex.proofs.Pieces.{pieces_of-at, pieces_of-whole, without_return-push}
 
 lacks : ℕ → Type 0
@@ -9,11 +9,11 @@ pub pieces_of_ended : PiecesOfEnded
 pieces_of_ended [] [] all_lack rest_lacks = refl
 pieces_of_ended [] (b ∷ bs) all_lack rest_lacks = pieces_of-whole b bs rest_lacks
 pieces_of_ended (piece ∷ pieces) rest all_lack rest_lacks =
-    pieces_of-at piece line_feed (ended pieces rest) (All-head LacksFeed piece pieces all_lack) refl
+    pieces_of-at piece line_feed (each_ended pieces rest) (All-head LacksFeed piece pieces all_lack) refl
     ∙ ap (λ ps. piece ∷ ps) (pieces_of_ended pieces rest (All-tail LacksFeed piece pieces all_lack) rest_lacks)
 
 abbrev Made : List ℕ → Type 0
-Made bytes = (pieces : List (List ℕ)) × (rest : List ℕ) × All LacksFeed pieces × LacksFeed rest × (bytes ≡ ended pieces rest)
+Made bytes = (pieces : List (List ℕ)) × (rest : List ℕ) × All LacksFeed pieces × LacksFeed rest × (bytes ≡ each_ended pieces rest)
 
 put_feed : (b : ℕ) (bs : List ℕ) → b ≡ line_feed → Made bs → Made (b ∷ bs)
 put_feed b bs is_feed (pieces, rest, all_lack, rest_lacks, is_made) =

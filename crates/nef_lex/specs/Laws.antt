@@ -8,9 +8,9 @@ abbrev pub LacksFeed : List ℕ → Type 0
 LacksFeed bytes = All (λ b. is_line_feed b ≡ false) bytes
 
 -- each piece with a line feed after it, and then the rest
-abbrev pub ended : List (List ℕ) → List ℕ → List ℕ
-ended [] rest = rest
-ended (piece ∷ pieces) rest = piece ++ (line_feed ∷ ended pieces rest)
+abbrev pub each_ended : List (List ℕ) → List ℕ → List ℕ
+each_ended [] rest = rest
+each_ended (piece ∷ pieces) rest = piece ++ (line_feed ∷ each_ended pieces rest)
 
 -- the rest as a last piece, if it isn't empty
 abbrev pub last_piece : List ℕ → List (List ℕ)
@@ -19,11 +19,11 @@ last_piece (b ∷ bs) = (b ∷ bs) ∷ []
 
 -- pieces that were ended by line feeds are cut apart again
 abbrev pub PiecesOfEnded : Type 0
-PiecesOfEnded = (pieces : List (List ℕ)) (rest : List ℕ) → All LacksFeed pieces → LacksFeed rest → pieces_of (ended pieces rest) ≡ pieces ++ last_piece rest
+PiecesOfEnded = (pieces : List (List ℕ)) (rest : List ℕ) → All LacksFeed pieces → LacksFeed rest → pieces_of (each_ended pieces rest) ≡ pieces ++ last_piece rest
 
 -- all bytes are pieces ended by line feeds, with a rest
 abbrev pub EndedPieces : Type 0
-EndedPieces = (bytes : List ℕ) → (pieces : List (List ℕ)) × (rest : List ℕ) × All LacksFeed pieces × LacksFeed rest × (bytes ≡ ended pieces rest)
+EndedPieces = (bytes : List ℕ) → (pieces : List (List ℕ)) × (rest : List ℕ) × All LacksFeed pieces × LacksFeed rest × (bytes ≡ each_ended pieces rest)
 
 -- of carriage returns at the end one is dropped; no other byte is dropped
 abbrev pub ReturnDropped : Type 0

@@ -27,8 +27,8 @@ number_of [] = None
 number_of (b ∷ bs) = if b == minus_sign then option_map (λ n. neg_ℤ (pos n)) (natural_of bs) else option_map (λ n. pos n) (natural_of (b ∷ bs))
 
 -- the number is past the limit in size
-abbrev pub IsBeyond : ℤ → Type 0
-IsBeyond z = number_limit < nat_abs z
+abbrev pub IsPastLimit : ℤ → Type 0
+IsPastLimit z = number_limit < nat_abs z
 
 -- whether a word begins with a minus sign; what stands after the sign
 abbrev pub has_minus : List ℕ → Bool

@@ -5,7 +5,7 @@ ghost use Rattle.nef_space.specs.Prelude.{ℕ, ℤ, Bool, true, List, map, IsTru
 ghost use Rattle.nef_lex.specs.Lines.{numbered_lines};
 ghost use Rattle.nef_lex.specs.Words.{comment_mark, words_of};
 ghost use Rattle.nef_lex.specs.Names.{is_name, underscore};
-ghost use Rattle.nef_lex.specs.Numbers.{number_of, IsBeyond, is_digits, decimal_value, has_minus, without_minus};
+ghost use Rattle.nef_lex.specs.Numbers.{number_of, IsPastLimit, is_digits, decimal_value, has_minus, without_minus};
 ghost use Rattle.nef_lex.specs.Laws.{PiecesOfEnded, EndedPieces, ReturnDropped, OthersKept, WordsOfSpaced, SpacedWords};
 
 use crate::line::{Lines, index_of};
@@ -90,7 +90,7 @@ const LIMIT: u64 = 1 << 62;
 #[tactic(auto, using(crate::proofs::Signs::number_of_parts))]
 pub fn whole_number(word: &[u8]) -> NumberWord
     ensures not_one { (result ≡ NumberWord.NotOne) ↔ (number_of word.now ≡ None) }
-    ensures beyond { (result ≡ NumberWord.Beyond) ↔ IsSomeAnd (number_of word.now) IsBeyond }
+    ensures beyond { (result ≡ NumberWord.Beyond) ↔ IsSomeAnd (number_of word.now) IsPastLimit }
     ensures value { (z : ℤ) → result ≡ NumberWord.Value z → number_of word.now ≡ Some z }
 {
     let (is_negative, digits) = split_sign(word);

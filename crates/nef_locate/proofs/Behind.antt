@@ -1,5 +1,5 @@
 -- The corner of a facet point: what it first meets has an item behind, and such an item is its corner.
-use Rattle.nef_locate.proofs.Prelude.{◌≡◌, ℕ, pos, refl, sym, ◌∙◌, ⊎_elim, subst, Flat, FlatDim, Place, Form, form_at, level-of_opposite, normal_of, slope, toward, IsBetween, Set, Vector, opposite, dot, IsDirection, IsNormal, SameDirection, plane_axis, Drop, between-turned, between-inner, even-until, even-germs, At, arc_item, Item, item_normal, dir_of, at-arc, on-level, normal-direction, Vertex, Corner, IsCorner, IsFlatIn, Shows, IsEdgePoint, PlaneMeet, meets_vertex, meets_edge, Meets, IsFirstInPlane, IsCornerAt, HasCorner, item_plane, FlatAre, edge-points, near_point, near-between, corner-one, through-at, ahead-back, low-end, way-is, arc-beside, item-seen, facets-complete, plane-ahead, end-meets, flat-onto, even-by, between-way, between-start, SameDirection-turned, SameDirection-trans, dir-self, level-way, direction-left}
+use Rattle.nef_locate.proofs.Prelude.{◌≡◌, ℕ, pos, refl, sym, ◌∙◌, ⊎_elim, subst, Flat, FlatDim, SpacePoint, Form, form_at, level-of_opposite, normal_of, slope, toward, IsBetween, Set, Vector, opposite, dot, IsDirection, IsNormal, SameDirection, plane_axis, Drop, between-turned, between-inner, even-until, even-germs, IsAt, arc_item, Item, item_normal, dir_of, at-arc, on-level, normal-direction, Vertex, Corner, IsCorner, IsFlatIn, Shows, IsEdgePoint, PlaneMeet, meets_vertex, meets_edge, Meets, IsFirstInPlane, IsCornerAt, HasCorner, item_plane, FlatAre, edge-points, near_point, near-between, corner-one, through-at, ahead-back, low-end, way-is, arc-beside, item-seen, facets-complete, plane-ahead, end-meets, flat-onto, even-by, between-way, between-start, SameDirection-turned, SameDirection-trans, dir-self, level-way, direction-left}
 use Rattle.law_complex.specs.Complexes.{Complex}
 use Rattle.law_complex.proofs.FacetPoints.{facet-point}
 use Rattle.law_complex.proofs.FacetSides.{flats-one, flats-carried}
@@ -7,12 +7,12 @@ use Rattle.law_links.proofs.Across.{through-same}
 use Rattle.nef_conn.proofs.WayInward.{names-same}
 use Rattle.nef_locate.proofs.SameAxis.{axis-same}
 
-module _ (s : Set) (C : Complex) (S : Shows s C) (h : Form) (y : Place) (normal : IsNormal (normal_of h)) (on : form_at h y ≡ pos 0) (d : Vector) (some : IsDirection d) (level : slope h d ≡ pos 0)
+module _ (s : Set) (C : Complex) (S : Shows s C) (h : Form) (y : SpacePoint) (normal : IsNormal (normal_of h)) (on : form_at h y ≡ pos 0) (d : Vector) (some : IsDirection d) (level : slope h d ≡ pos 0)
     (F : IsFlatIn s h y) (m : PlaneMeet) (I : IsFirstInPlane C h y d m) where
   abbrev n : Vector
   n = normal_of h
 
-  abbrev z : Place
+  abbrev z : SpacePoint
   z = I.place
 
   -- ---- between the point and what it first meets two directions are flat
@@ -26,14 +26,14 @@ module _ (s : Set) (C : Complex) (S : Shows s C) (h : Form) (y : Place) (normal 
       let e = end-meets s C S h y t (between-start y t z D.between) F.0 F.1 D.even_before (plane-ahead h y t d way level on) D.drops in
       I.first t e.0 D.between e.1
 
-  all : (r : Place) → IsBetween y r z → FlatDim s r 2
+  all : (r : SpacePoint) → IsBetween y r z → FlatDim s r 2
   all = ⊎_elim (λ a. a) (λ D. absurd (never-drops D)) (even-until s 2 y z F.0 flat-way)
 
   -- ---- close to what is met
   to-y : SameDirection (toward z y) (opposite d)
   to-y = ahead-back y z d I.ahead
 
-  abbrev q : Place
+  abbrev q : SpacePoint
   q = near_point s z y
 
   close : IsBetween y q z
@@ -65,7 +65,7 @@ module _ (s : Set) (C : Complex) (S : Shows s C) (h : Form) (y : Place) (normal 
   corner-behind = by-meet m I.meets
 
 -- such an item is the corner of the point
-pub corner-has : (s : Set) (C : Complex) (S : Shows s C) (h : Form) (y : Place) → IsNormal (normal_of h) → form_at h y ≡ pos 0 → (d : Vector) → SameDirection (plane_axis (normal_of h)) d → IsFlatIn s h y
+pub corner-has : (s : Set) (C : Complex) (S : Shows s C) (h : Form) (y : SpacePoint) → IsNormal (normal_of h) → form_at h y ≡ pos 0 → (d : Vector) → SameDirection (plane_axis (normal_of h)) d → IsFlatIn s h y
     → (m : PlaneMeet) (k : Corner) → IsFirstInPlane C h y d m → IsCornerAt C h (opposite d) m k → HasCorner C y k
 corner-has s C S h y normal on d w F m k I c =
     let H = (facets-complete s C S h y normal on F).1 in
@@ -92,4 +92,4 @@ pub corner-normal : (C : Complex) (h : Form) (d : Vector) (m : PlaneMeet) (k : C
 corner-normal C h d (meets_vertex i) k (u, o, e, b, r, t) v x c = subst (λ (w : Item). SameDirection (item_normal w) (normal_of h)) (corner-one C k u v o x b c) r
 corner-normal C h d (meets_edge i) k (e, u, a, l, p, b, t, r, side) v x c =
     subst (λ (w : Item). SameDirection (item_normal w) (normal_of h))
-    (corner-one C k u v (arc_item a) x (record { vertex = subst (λ (j : ℕ). At C.vertices j u) (sym p) b; item = at-arc u.map.arcs u.map.sloop k.item a t }) c) r
+    (corner-one C k u v (arc_item a) x (record { vertex = subst (λ (j : ℕ). IsAt C.vertices j u) (sym p) b; item = at-arc u.map.arcs u.map.sloop k.item a t }) c) r

@@ -1,11 +1,11 @@
 -- Skeleton points lie on carriers, which no upright direction lies in; points of the closed frame where all directions are flat lie in the frame.
-use Rattle.nef_locate.proofs.Prelude.{◌≡◌, ℕ, ◌+◌, ◌*◌, ◌<◌, ◌≤◌, ℤ, pos, neg_ℤ, ◌+ℤ◌, ◌*ℤ◌, ◌-ℤ◌, ◌<ℤ◌, nat_abs, arith, sym, inl, inr, ⊎_elim, [], ◌∷◌, subst, ints, nought, Lies, nought-is, mul_pos, mul_nonneg, ring, at, num, neg, ◌⊕◌, ◌⊖◌, ◌⊗◌, half_side, FlatDim, Out, Place as PlainPlace, Form, form_at, InFrame, InClosedFrame, step, IsAhead, Set, Vector, vector, IsUpright, IsCrossing, form_of, Plane, carriers, sign_at, flat-germ, InFrame-decided, span-3, facet-support, At, at-map, SamePlane, IsSkeletonIn, at_vertex, on_edge, in_facet, IsSkeletonPoint, meets_vertex, meets_edge, plane-turned, plane-point, plane-slope, dim-same, between-ends, Complex, complex_of, ShowsSet, held-between, edge-carried, facet-at}
+use Rattle.nef_locate.proofs.Prelude.{◌≡◌, ℕ, ◌+◌, ◌*◌, ◌<◌, ◌≤◌, ℤ, pos, neg_ℤ, ◌+ℤ◌, ◌*ℤ◌, ◌-ℤ◌, ◌<ℤ◌, nat_abs, arith, sym, inl, inr, ⊎_elim, [], ◌∷◌, subst, ints, nought, Lies, nought-is, mul_pos, mul_nonneg, ring, at, num, neg, ◌⊕◌, ◌⊖◌, ◌⊗◌, half_side, FlatDim, Out, SpacePoint, Form, form_at, InFrame, InClosedFrame, step, IsAhead, Set, Vector, vector, IsVertical, IsCrossing, form_of, Plane, carriers, sign_at, flat-germ, InFrame-decided, span-3, facet-support, IsAt, at-map, SamePlane, IsSkeletonIn, at_vertex, on_edge, in_facet, IsSkeletonPoint, meets_vertex, meets_edge, plane-turned, plane-point, plane-slope, dim-same, between-ends, Complex, complex_of, ShowsSet, held-between, edge-carried, facet-at}
 use Rattle.law_near.proofs.Meets.{vertex-meets}
 use Rattle.nef_locate.proofs.Upward.{plane-upright}
 
 -- ---- the frame
 -- a short step from a point of the closed frame toward the middle leads into the frame
-inward : (p : PlainPlace) → InClosedFrame p → (n : ℕ) → InFrame (step p (record { a = pos 1; b = n + p.w + 1; proper = omega arith }) (vector (neg_ℤ p.x) (neg_ℤ p.y) (neg_ℤ p.z)))
+inward : (p : SpacePoint) → InClosedFrame p → (n : ℕ) → InFrame (step p (record { a = pos 1; b = n + p.w + 1; proper = omega arith }) (vector (neg_ℤ p.x) (neg_ℤ p.y) (neg_ℤ p.z)))
 inward p i n = record { along_x = one p.x i.along_x; along_y = one p.y i.along_y; along_z = one p.z i.along_z }
   where
     sized : (z : ℤ) (b : ℕ) → z <ℤ pos b → neg_ℤ (pos b) <ℤ z → nat_abs z < b
@@ -26,7 +26,7 @@ inward p i n = record { along_x = one p.x i.along_x; along_y = one p.y i.along_y
         let whole : pos (half_side * (p.w * (n + p.w + 1))) ≡ pos half_side *ℤ (pos p.w *ℤ pos (n + 1)) +ℤ pos half_side *ℤ (pos p.w *ℤ pos p.w) = ring xs (half ⊗ (at 2 ⊗ (at 1 ⊕ at 2 ⊕ num (pos 1)))) (half ⊗ (at 2 ⊗ k) ⊕ half ⊗ (at 2 ⊗ at 2)) tt in
         sized (x *ℤ pos (n + p.w + 1) +ℤ pos 1 *ℤ pos p.w *ℤ neg_ℤ x) (half_side * (p.w * (n + p.w + 1))) (omega (arith, ints)) (omega (arith, ints))
 
-pub closed-inside : (s : Set) (p : PlainPlace) → FlatDim s p 3 → InClosedFrame p → InFrame p
+pub closed-inside : (s : Set) (p : SpacePoint) → FlatDim s p 3 → InClosedFrame p → InFrame p
 closed-inside s p f i = ⊎_elim (λ j. j) (λ o. absurd (by o)) (InFrame-decided p)
   where
     d : Vector
@@ -41,14 +41,14 @@ closed-inside s p f i = ⊎_elim (λ j. j) (λ o. absurd (by o)) (InFrame-decide
 -- ---- carriers
 module _ (s : Set) (c : Complex) (S : ShowsSet s c) where
   -- the program's carrier of a plane of the set
-  record CarrierAt (f : Form) (y : PlainPlace) : Type 0 where
+  record CarrierAt (f : Form) (y : SpacePoint) : Type 0 where
     pub number : ℕ
     pub plane : Plane
-    pub listed : At c.carriers number plane
+    pub listed : IsAt c.carriers number plane
     pub same : SamePlane (form_of plane) f
     pub on : form_at (form_of plane) y ≡ pos 0
 
-  carrier-at : (f : Form) (y : PlainPlace) → Lies (carriers s) f → sign_at f y ≡ nought → CarrierAt f y
+  carrier-at : (f : Form) (y : SpacePoint) → Lies (carriers s) f → sign_at f y ≡ nought → CarrierAt f y
   carrier-at f y l o =
       let r = S.shows.carriers.all f l in
       let g = at-map form_of c.carriers r.0 r.1 r.2 in
@@ -56,14 +56,14 @@ module _ (s : Set) (c : Complex) (S : ShowsSet s c) where
       record { number = r.0; plane = g.0; listed = g.1; same = same; on = plane-point f (form_of g.0) y (plane-turned (form_of g.0) f same) (nought-is (form_at f y) o) }
 
   -- a carrier on which the skeleton point lies, as a vertex, on an edge in the plane, or in a facet of the plane
-  pub record SkeletonCarrier (y : PlainPlace) : Type 0 where
+  pub record SkeletonCarrier (y : SpacePoint) : Type 0 where
     pub number : ℕ
     pub plane : Plane
-    pub listed : At c.carriers number plane
+    pub listed : IsAt c.carriers number plane
     pub on : form_at (form_of plane) y ≡ pos 0
     pub found : IsSkeletonIn s (complex_of c) (form_of plane) y
 
-  pub skeleton-carrier : (y : PlainPlace) → IsSkeletonPoint (complex_of c) y → SkeletonCarrier y
+  pub skeleton-carrier : (y : SpacePoint) → IsSkeletonPoint (complex_of c) y → SkeletonCarrier y
   skeleton-carrier y (at_vertex k, (v, a, e)) =
       let m = vertex-meets s y (dim-same s v.point y 0 e (S.shows.vertices k v a)) in
       let g = carrier-at m.first y m.first_in m.first_at in
@@ -84,5 +84,5 @@ module _ (s : Set) (c : Complex) (S : ShowsSet s c) where
       }
 
   -- where a ray along an upright direction meets a skeleton point, it crosses the carrier
-  pub crossed : (p y : PlainPlace) (d : Vector) → IsUpright d → IsAhead p d y → (k : SkeletonCarrier y) → IsCrossing p d (form_of k.plane) y
+  pub crossed : (p y : SpacePoint) (d : Vector) → IsVertical d → IsAhead p d y → (k : SkeletonCarrier y) → IsCrossing p d (form_of k.plane) y
   crossed p y d u w k = record { on = k.on; ahead = w; passes = plane-upright k.plane d u }

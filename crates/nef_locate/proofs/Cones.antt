@@ -1,9 +1,9 @@
 -- The labels and the germs of a point by its place.
-use Rattle.nef_locate.proofs.Prelude.{◌≡◌, pos, ap, sym, subst, ◌∙◌, sign, HasLabel, Germ, FlatDim, Place, SamePlace, toward, Set, Vector, IsDirection, dot, plane_axis, Label, carriers, Label-cells, signs-same, germs-by_cell, flat-germ, span-3, IsPlaneOf, MapSloop, Item, item_normal, item_pos, item_mark, item_neg, Map, MapLabel, Valid, by_side, Cone, normal-direction, on-level, Vertex, Corner, IsCorner, Shows, item_plane, HasCorner, meets-on, through-at, facet-from_behind, weight, normal-scaled, through-level, axis-in}
+use Rattle.nef_locate.proofs.Prelude.{◌≡◌, pos, ap, sym, subst, ◌∙◌, sign, HasLabel, Germ, FlatDim, SpacePoint, SamePoint, toward, Set, Vector, IsDirection, dot, plane_axis, Label, carriers, Label-cells, signs-same, germs-by_cell, flat-germ, span-3, IsPlaneOf, MapSloop, Item, item_normal, item_pos, item_mark, item_neg, Map, MapLabel, Valid, by_side, Cone, normal-direction, on-level, Vertex, Corner, IsCorner, Shows, item_plane, HasCorner, meets-on, through-at, facet-from_behind, weight, normal-scaled, through-level, axis-in}
 use Rattle.law_complex.specs.Complexes.{Complex}
 
 -- a point that is the same has the same cone
-pub cone-same : (M : Map) (s : Set) (p q : Place) → SamePlace p q → Cone M s p → Cone M s q
+pub cone-same : (M : Map) (s : Set) (p q : SpacePoint) → SamePoint p q → Cone M s p → Cone M s q
 cone-same M s p q e K =
     let same = signs-same (carriers s) p q e in
     record {
@@ -13,7 +13,7 @@ cone-same M s p q e K =
     }
 
 -- where all directions are flat there is one label
-pub cone-flat : (M : Map) (s : Set) (y : Place) (l : Label) → Valid M → M.mark ≡ l → ((d : Vector) → IsDirection d → MapLabel M d l) → HasLabel s y l → FlatDim s y 3 → Cone M s y
+pub cone-flat : (M : Map) (s : Set) (y : SpacePoint) (l : Label) → Valid M → M.mark ≡ l → ((d : Vector) → IsDirection d → MapLabel M d l) → HasLabel s y l → FlatDim s y 3 → Cone M s y
 cone-flat M s y l valid mark all h f = record {
   valid = valid;
   mark = subst (HasLabel s y) (sym mark) h;
@@ -21,7 +21,7 @@ cone-flat M s y l valid mark all h f = record {
 }
 
 -- the item of the corner has the labels of the point
-pub corner-labels : (s : Set) (C : Complex) → Shows s C → (y : Place) (k : Corner) (v : Vertex) (x : Item) → HasCorner C y k → IsCorner C k v x
+pub corner-labels : (s : Set) (C : Complex) → Shows s C → (y : SpacePoint) (k : Corner) (v : Vertex) (x : Item) → HasCorner C y k → IsCorner C k v x
     → HasLabel s y (item_mark x) × ((d : Vector) → Germ s y d (by_side (item_pos x) (item_mark x) (item_neg x) (sign (dot (item_normal x) d))))
 corner-labels s C S y k v x H c =
     let n = item_normal H.item in
@@ -33,7 +33,7 @@ corner-labels s C S y k v x H c =
     (plane_axis n) axis.0 ((through-level n (plane_axis n) p).0 axis.1) (λ m e. H.facet_point.off_edges (meets-on s C S (item_plane H.vertex H.item) m y e)) r.0 k r.1 r.2).1 v x c
 
 -- a map with the labels of the corner's item is one of the point
-pub cone-of_corner : (M : Map) (s : Set) (C : Complex) → Shows s C → (y : Place) (k : Corner) (v : Vertex) (x : Item) → HasCorner C y k → IsCorner C k v x → (l : MapSloop) → IsPlaneOf x l
+pub cone-of_corner : (M : Map) (s : Set) (C : Complex) → Shows s C → (y : SpacePoint) (k : Corner) (v : Vertex) (x : Item) → HasCorner C y k → IsCorner C k v x → (l : MapSloop) → IsPlaneOf x l
     → Valid M → M.mark ≡ l.mark → ((d : Vector) → IsDirection d → MapLabel M d (by_side l.pos l.mark l.neg (sign (dot l.normal d)))) → Cone M s y
 cone-of_corner M s C S y k v x H c l P valid mark all =
     let g = corner-labels s C S y k v x H c in

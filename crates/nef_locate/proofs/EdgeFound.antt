@@ -1,27 +1,27 @@
 -- What is found at the points of an edge.
-use Rattle.nef_locate.proofs.Prelude.{◌≡◌, ℕ, zero, suc, ◌<◌, ◌*◌, List, map, length, arith, sym, ap, subst, ◌∙◌, slice_get, Some, None, ints, IsPermutation, svertex_limit, normal_limit, HasLabel, Place as PlainPlace, toward, IsAhead, IsBetween, Set, Vector, IsNormal, IsAtMost, opposite, flat-germ, At, MapVertex as PlainSvertex, Map, MapLabel, Item, items, item_normal, arc_item, sloop_item, Valid, Cone, Least, Ordered, InOrder, at-arc, sloop-at, at-one, arc-at, SVertex, SArc, SphereMap, svertex_of, arc_of, map_of, IsSmall, IsLeastMap, Vertex as PlainVertex, IsEdge, Shows, IsEdgePoint, label-germ, germ-label, IsAlongSvertex, along-svertex, near_point, near-between, ahead-normal, Edge, Complex, vertex_of, edge_of, complex_of, ShowsSet, IsArcBelow, two_ends, AreHalves, dir-self, direction-left, is-at_none, is-at_first}
+use Rattle.nef_locate.proofs.Prelude.{◌≡◌, ℕ, zero, suc, ◌<◌, ◌*◌, List, map, length, arith, sym, ap, subst, ◌∙◌, slice_get, Some, None, ints, IsPermutation, svertex_limit, normal_limit, HasLabel, SpacePoint, toward, IsAhead, IsBetween, Set, Vector, IsNormal, IsAtMost, opposite, flat-germ, IsAt, MapVertex as PlainSvertex, Map, MapLabel, Item, items, item_normal, arc_item, sloop_item, Valid, Cone, Least, Ordered, InOrder, at-arc, sloop-at, at-one, arc-at, SVertex, SArc, SphereMap, svertex_of, arc_of, map_of, IsSmall, IsLeastMap, Vertex as PlainVertex, IsEdge, Shows, IsEdgePoint, label-germ, germ-label, IsAlongSvertex, along-svertex, near_point, near-between, ahead-normal, Edge, Complex, vertex_of, edge_of, complex_of, ShowsSet, IsArcBelow, two_ends, AreHalves, dir-self, direction-left, is-at_none, is-at_first}
 use Rattle.law_cones.proofs.Cones.{point-map}
 use Rattle.law_sphere.proofs.Dimensions.{map-flat}
 use Rattle.law_complex.specs.Complexes.{Edge as PlainEdge, Complex as PlainComplex}
 use Rattle.nef_complex.specs.declared.complex.Vertex.{Vertex}
 use Rattle.nef_locate.proofs.Marks.{image-read, image-within}
 use Rattle.nef_locate.proofs.FlatLabels.{label-is}
-use Rattle.nef_locate.proofs.EdgeLabels.{IsAlong, L}
+use Rattle.nef_locate.proofs.EdgeLabels.{HasLabelsAlong, L}
 use Rattle.nef_locate.proofs.EdgeMaps.{AreHalfArcs, edge-built, edge-ordered}
 use Rattle.nef_locate.proofs.EdgeHalves.{half-arcs}
 
 -- ---- the lower end of an edge
 pub record Ends (C : PlainComplex) (e : PlainEdge) (v w : PlainVertex) : Type 0 where
   pub low_end : PlainSvertex
-  pub is_low : At C.vertices e.low v
-  pub is_high : At C.vertices e.high w
-  pub leaves : At v.map.svertices e.low_svertex low_end
+  pub is_low : IsAt C.vertices e.low v
+  pub is_high : IsAt C.vertices e.high w
+  pub leaves : IsAt v.map.svertices e.low_svertex low_end
   pub ahead : IsAhead v.point low_end.dir w.point
-  pub first : (k : ℕ) (x : PlainVertex) → At C.vertices k x → IsBetween v.point x.point w.point → ⊥
+  pub first : (k : ℕ) (x : PlainVertex) → IsAt C.vertices k x → IsBetween v.point x.point w.point → ⊥
   pub mark : e.mark ≡ low_end.mark
   pub normal : IsNormal low_end.dir
 
-ends-of : (s : Set) (C : PlainComplex) → Shows s C → (e : PlainEdge) → (E : IsEdge C.vertices e) → (v : PlainVertex) → At C.vertices e.low v → Ends C e v E.high_vertex
+ends-of : (s : Set) (C : PlainComplex) → Shows s C → (e : PlainEdge) → (E : IsEdge C.vertices e) → (v : PlainVertex) → IsAt C.vertices e.low v → Ends C e v E.high_vertex
 ends-of s C S e E v a =
     subst (λ (x : PlainVertex). Ends C e x E.high_vertex) (at-one C.vertices e.low E.low_vertex v E.is_low a) (record {
       low_end = E.low_end;
@@ -35,7 +35,7 @@ ends-of s C S e E v a =
     })
 
 -- ---- at a point of the edge
-module _ (s : Set) (C : PlainComplex) (S : Shows s C) (e : PlainEdge) (v w : PlainVertex) (D : Ends C e v w) (y : PlainPlace) (b : IsBetween v.point y w.point) where
+module _ (s : Set) (C : PlainComplex) (S : Shows s C) (e : PlainEdge) (v w : PlainVertex) (D : Ends C e v w) (y : SpacePoint) (b : IsBetween v.point y w.point) where
   abbrev u : PlainSvertex
   u = D.low_end
 
@@ -48,7 +48,7 @@ module _ (s : Set) (C : PlainComplex) (S : Shows s C) (e : PlainEdge) (v w : Pla
   cone : Cone N s y
   cone = (point-map s y).1
 
-  is-along : IsAlong v.map e.low_svertex u N
+  is-along : HasLabelsAlong v.map e.low_svertex u N
   is-along =
       let V = (S.cones e.low v D.is_low).valid in
       let some = V.shaped.svertex_dirs e.low_svertex u D.leaves in
@@ -75,7 +75,7 @@ turned-small k v h = record {
   of_z = (let g = h.of_z in omega (arith, ints, g));
 }
 
-two-small : (k : ℕ) (u : PlainSvertex) → IsAtMost k u.dir → (i : ℕ) (z : PlainSvertex) → At (two_ends u) i z → IsAtMost k z.dir
+two-small : (k : ℕ) (u : PlainSvertex) → IsAtMost k u.dir → (i : ℕ) (z : PlainSvertex) → IsAt (two_ends u) i z → IsAtMost k z.dir
 two-small k u h zero z e = subst (λ (x : PlainSvertex). IsAtMost k x.dir) (is-at_first e) (turned-small k u.dir h)
 two-small k u h (suc zero) z e = subst (λ (x : PlainSvertex). IsAtMost k x.dir) (is-at_first e) h
 two-small k u h (suc (suc i)) z e = absurd (is-at_none e)
@@ -95,7 +95,7 @@ module _ (s : Set) (c : Complex) (S : ShowsSet s c) (number : ℕ) (e : Edge) (r
     low-svertex =
         let E = edge in
         let f = at-one (complex_of c).vertices e.low E.low_vertex (vertex_of v) E.is_low (image-read vertex_of c.vertices e.low v low) in
-        image-within svertex_of v.map.svertices e.low_svertex E.low_end (subst (λ (x : PlainVertex). At x.map.svertices e.low_svertex E.low_end) f E.leaves)
+        image-within svertex_of v.map.svertices e.low_svertex E.low_end (subst (λ (x : PlainVertex). IsAt x.map.svertices e.low_svertex E.low_end) f E.leaves)
 
     module _ (x : SVertex) (found : slice_get v.map.svertices e.low_svertex ≡ Some x) (vs : List SVertex) (both : map svertex_of vs ≡ two_ends (svertex_of x)) (n : ℕ) (hs ys : List SArc)
         (H : AreHalves v.map.arcs e.low_svertex n hs) (all : n ≡ 2 * length v.map.arcs) (moved : IsPermutation hs ys) (ordered : InOrder IsArcBelow ys) where
@@ -105,7 +105,7 @@ module _ (s : Set) (c : Complex) (S : ShowsSet s c) (number : ℕ) (e : Edge) (r
       abbrev V : Map
       V = map_of v.map
 
-      here : At V.svertices k (svertex_of x)
+      here : IsAt V.svertices k (svertex_of x)
       here = image-read svertex_of v.map.svertices k x found
 
       abbrev m : SphereMap
@@ -130,11 +130,11 @@ module _ (s : Set) (c : Complex) (S : ShowsSet s c) (number : ℕ) (e : Edge) (r
       same : (d : PlainSvertex) → d ≡ svertex_of x → shaped (two_ends d) ≡ map_of m
       same d f = ap (λ (us : List PlainSvertex). shaped us) (ap two_ends f ∙ sym both)
 
-      module _ (y : PlainPlace) (b : IsBetween (vertex_of v).point y (let h = high in h.point)) where
+      module _ (y : SpacePoint) (b : IsBetween (vertex_of v).point y (let h = high in h.point)) where
         abbrev K : Cone (point-map s y).0 s y
         K = (point-map s y).1
 
-        along : (let d = D in IsAlong V k d.low_end (point-map s y).0)
+        along : (let d = D in HasLabelsAlong V k d.low_end (point-map s y).0)
         along = is-along s (complex_of c) S.shows (edge_of e) (vertex_of v) high D y b
 
         valid : Valid (map_of m)
@@ -163,7 +163,7 @@ module _ (s : Set) (c : Complex) (S : ShowsSet s c) (number : ℕ) (e : Edge) (r
             }
 
       -- there is a point on the edge
-      inner : PlainPlace
+      inner : SpacePoint
       inner = let h = high in near_point s (vertex_of v).point h.point
 
       inner-between : IsBetween (vertex_of v).point (near_point s (vertex_of v).point (let h = high in h.point)) (let h = high in h.point)
@@ -171,11 +171,11 @@ module _ (s : Set) (c : Complex) (S : ShowsSet s c) (number : ℕ) (e : Edge) (r
 
       small : IsSmall (map_of m)
       small = record {
-        svertices = λ i z h. let l = low-map in two-small svertex_limit (svertex_of x) (l.sphere_map.small.svertices k (svertex_of x) here) i z (subst (λ (us : List PlainSvertex). At us i z) both h);
+        svertices = λ i z h. let l = low-map in two-small svertex_limit (svertex_of x) (l.sphere_map.small.svertices k (svertex_of x) here) i z (subst (λ (us : List PlainSvertex). IsAt us i z) both h);
         normals = λ i z h. normals i z h;
       }
         where
-          normals : (i : ℕ) (z : Item) → At (items (map_of m)) i z → IsAtMost normal_limit (item_normal z)
+          normals : (i : ℕ) (z : Item) → IsAt (items (map_of m)) i z → IsAtMost normal_limit (item_normal z)
           normals i (arc_item h) l =
               let H = halves in
               let r = H.each i h (arc-at (map arc_of ys) None i h l) in
@@ -190,12 +190,12 @@ module _ (s : Set) (c : Complex) (S : ShowsSet s c) (number : ℕ) (e : Edge) (r
           let y = near_point s (vertex_of v).point h.point in
           record { sphere_map = record { valid = valid y inner-between; ordered = in-order y inner-between; small = small }; least = least y inner-between }
 
-      pub edge-cone : (y : PlainPlace) → IsEdgePoint (complex_of c) number y → Cone (map_of m) s y
+      pub edge-cone : (y : SpacePoint) → IsEdgePoint (complex_of c) number y → Cone (map_of m) s y
       edge-cone y (f, z, t, a, J, b) =
           let C = complex_of c in
           let d = D in
           let h = high in
           let g = at-one C.edges number f (edge_of e) a (image-read edge_of c.edges number e read) in
-          let i = at-one C.vertices e.low z (vertex_of v) (subst (λ (r : PlainEdge). At C.vertices r.low z) g J.low) d.is_low in
-          let j = at-one C.vertices e.high t h (subst (λ (r : PlainEdge). At C.vertices r.high t) g J.high) d.is_high in
+          let i = at-one C.vertices e.low z (vertex_of v) (subst (λ (r : PlainEdge). IsAt C.vertices r.low z) g J.low) d.is_low in
+          let j = at-one C.vertices e.high t h (subst (λ (r : PlainEdge). IsAt C.vertices r.high t) g J.high) d.is_high in
           cone-there y (subst (λ (r : PlainVertex). IsBetween r.point y h.point) i (subst (λ (r : PlainVertex). IsBetween z.point y r.point) j b))

@@ -1,5 +1,5 @@
 -- The labels at the points of an edge, by the arcs at its lower end.
-use Rattle.nef_locate.proofs.Prelude.{◌≡◌, ℕ, ◌+◌, ◌≤◌, pos, ◌*ℤ◌, ◌+ℤ◌, ◌<ℤ◌, arith, refl, ap, sym, ◌∙◌, ◌⊎◌, inl, inr, ⊎_elim, ◌↔◌, List, subst, ints, sign, sign-plus, sign-minus, nought-or, Vector, IsDirection, IsNormal, SameDirection, cross, dot, opposite, blend, Label, same-nought, same-off, SameSigns, forms, At, MapVertex, Arc, Map, MapLabel, on_item, arc_item, OnItem, NearLabel, IsFree, Valid, FlatMap, by_side, Least, Ordered, Near, StraightAt, Proper, ArcRay, ray_left, end_left, Unrayed, at-arc, cross-between, amount, far-keeps, far-level, label-unique, label-by_signs, near-from_far, far-from_near, near-direction, near-unique, search_list, near-item, SameDirection-decided, left-on, on-end, dot-comb, decided-both, Of, dot-comm, self-pos, cross-turned, cross-none, opposite-dot, direction-opposite, level-opposite, level-opposite-back, square-cross, nought-if, SameDirection-trans, blend-turned}
+use Rattle.nef_locate.proofs.Prelude.{◌≡◌, ℕ, ◌+◌, ◌≤◌, pos, ◌*ℤ◌, ◌+ℤ◌, ◌<ℤ◌, arith, refl, ap, sym, ◌∙◌, ◌⊎◌, inl, inr, ⊎_elim, ◌↔◌, List, subst, ints, sign, sign-plus, sign-minus, nought-or, Vector, IsDirection, IsNormal, SameDirection, cross, dot, opposite, blend, Label, same-nought, same-off, SameSigns, forms, IsAt, MapVertex, Arc, Map, MapLabel, on_item, arc_item, OnItem, NearLabel, IsFree, Valid, FlatMap, by_side, Least, Ordered, Near, StraightAt, Proper, ArcRay, ray_left, end_left, Unrayed, at-arc, cross-between, amount, far-keeps, far-level, label-unique, label-by_signs, near-from_far, far-from_near, near-direction, near-unique, search_list, near-item, SameDirection-decided, left-on, on-end, dot-comb, decided-both, Of, dot-comm, self-pos, cross-turned, cross-none, opposite-dot, direction-opposite, level-opposite, level-opposite-back, square-cross, nought-if, SameDirection-trans, blend-turned}
 use Rattle.law_sphere.proofs.NearItems.{free-plain}
 use Rattle.law_sphere.proofs.NearSvertex.{same-cross, near-clear}
 use Rattle.law_sphere.proofs.Unique.{eq-decided}
@@ -25,7 +25,7 @@ two-steps gs w f e K k j J hK hk hj hJ h l = ⊎_elim level off (nought-or (dot 
         (nought-or (dot h f))
 
 -- two rays of a svertex with one direction to the left are of one arc
-pub one-arc : (V : Map) → Valid V → (k : ℕ) (u : MapVertex) → At V.svertices k u → (q r : ArcRay V k) → ray_left q ≡ ray_left r → q.number ≡ r.number
+pub one-arc : (V : Map) → Valid V → (k : ℕ) (u : MapVertex) → IsAt V.svertices k u → (q r : ArcRay V k) → ray_left q ≡ ray_left r → q.number ≡ r.number
 one-arc V W k u a q r s =
     let f = on-end V W.shaped k u a q in
     let g = on-end V W.shaped k u a r in
@@ -34,18 +34,18 @@ one-arc V W k u a q r s =
     (f.1 n (omega arith)) (subst (λ (x : Vector). OnItem V (arc_item r.arc) (blend n u.dir 1 (cross x u.dir))) (sym s) (g.1 n (omega arith)))
 
 -- N has the labels that V has close to its svertex with this number, and they stay along that
-pub record IsAlong (V : Map) (k : ℕ) (u : MapVertex) (N : Map) : Type 0 where
+pub record HasLabelsAlong (V : Map) (k : ℕ) (u : MapVertex) (N : Map) : Type 0 where
   pub valid : Valid V
   pub least : Least V
   pub ordered : Ordered V
-  pub listed : At V.svertices k u
+  pub listed : IsAt V.svertices k u
   pub along_valid : Valid N
   pub flat : FlatMap N u.dir
   pub same : (d : Vector) (l : Label) → IsDirection d → MapLabel N d l ↔ NearLabel V u.dir d l
   pub own : MapLabel N u.dir u.mark
   pub normal : IsNormal u.dir
 
-module _ (V : Map) (k : ℕ) (u : MapVertex) (N : Map) (A : IsAlong V k u N) where
+module _ (V : Map) (k : ℕ) (u : MapVertex) (N : Map) (A : HasLabelsAlong V k u N) where
   abbrev w : Vector
   w = u.dir
 
@@ -130,9 +130,9 @@ module _ (V : Map) (k : ℕ) (u : MapVertex) (N : Map) (A : IsAlong V k u N) whe
       (search_list V.arcs (λ i b. (b.target ≡ k) × SameDirection (opposite b.normal) (cross w e)) (λ i b. decided-both (eq-decided b.target k) (SameDirection-decided (opposite b.normal) (cross w e)))))
       (search_list V.arcs (λ i b. (b.source ≡ k) × SameDirection b.normal (cross w e)) (λ i b. decided-both (eq-decided b.source k) (SameDirection-decided b.normal (cross w e))))
     where
-      by : ((i : ℕ) (b : Arc) → At V.arcs i b → (b.source ≡ k) × SameDirection b.normal (cross w e) → ⊥)
-          → ((i : ℕ) (b : Arc) → At V.arcs i b → (b.target ≡ k) × SameDirection (opposite b.normal) (cross w e) → ⊥)
-          → (i : ℕ) (b : Arc) → At V.arcs i b → (t : (b.source ≡ k) ⊎ (b.target ≡ k)) → SameDirection (end_left b t) (cross w e) → ⊥
+      by : ((i : ℕ) (b : Arc) → IsAt V.arcs i b → (b.source ≡ k) × SameDirection b.normal (cross w e) → ⊥)
+          → ((i : ℕ) (b : Arc) → IsAt V.arcs i b → (b.target ≡ k) × SameDirection (opposite b.normal) (cross w e) → ⊥)
+          → (i : ℕ) (b : Arc) → IsAt V.arcs i b → (t : (b.source ≡ k) ⊎ (b.target ≡ k)) → SameDirection (end_left b t) (cross w e) → ⊥
       by n m i b h (inl s) o = n i b h (s, o)
       by n m i b h (inr s) o = m i b h (s, o)
 

@@ -1,10 +1,10 @@
 -- The map of the half great circles at the lower end of an edge is the least map with the labels along the edge.
-use Rattle.nef_locate.proofs.Prelude.{◌≡◌, ℕ, zero, suc, ◌<◌, ℤ, pos, negsuc, neg_ℤ, ◌*ℤ◌, ◌+ℤ◌, ◌-ℤ◌, arith, refl, ap, sym, ◌∙◌, ◌⊎◌, inl, inr, ⊎_elim, List, [], ◌∷◌, Some, None, subst, ints, ring, at, num, neg, ◌⊕◌, ◌⊖◌, ◌⊗◌, follows, given, none, by_order, mul_pos, Vector, IsDirection, IsZero, IsNormal, IsOpposite, SameDirection, cross, dot, opposite, blend, Label, IsStrictlyOn, forms, comb, IsPrimitive, VectorBelow, At, MapVertex, Arc, Item, arc_item, sloop_item, Map, items, item_normal, dir_of, OnItem, ArcBetween, HasArc, MapLabel, at_svertex, NearLabel, Valid, by_side, InOrder, ArcBelow, Least, Ordered, Near, StraightAt, IsSmooth, plain, straight, IsBuilt, Kept, Proper, StraightAfter, ArcRay, ray_left, end_left, at-arc, sloop-at, normals-not_opposite, cross-between, lowest-same, near-lone, arc-at, normal-direction, direction-by, dot-comb, below-itself, cross-direction_right, Of, labels-build, to_opposite, from_opposite, normal-kept, two_ends, zero-decided, self-pos, vector-same, cross-turned, opposite-same, direction-opposite, level-of_opposite, opposite-twice, cross-opposite, nought-if, opposites, SameDirection-turned, SameDirection-trans, dir-self, direction-right, is-at_none, is-at_first}
+use Rattle.nef_locate.proofs.Prelude.{◌≡◌, ℕ, zero, suc, ◌<◌, ℤ, pos, negsuc, neg_ℤ, ◌*ℤ◌, ◌+ℤ◌, ◌-ℤ◌, arith, refl, ap, sym, ◌∙◌, ◌⊎◌, inl, inr, ⊎_elim, List, [], ◌∷◌, Some, None, subst, ints, ring, at, num, neg, ◌⊕◌, ◌⊖◌, ◌⊗◌, follows, given, none, by_order, mul_pos, Vector, IsDirection, IsZero, IsNormal, IsOpposite, SameDirection, cross, dot, opposite, blend, Label, IsStrictlyOn, forms, comb, IsPrimitive, VectorBelow, IsAt, MapVertex, Arc, Item, arc_item, sloop_item, Map, items, item_normal, dir_of, OnItem, ArcBetween, HasArc, MapLabel, at_svertex, NearLabel, Valid, by_side, InOrder, ArcBelow, Least, Ordered, Near, StraightAt, IsSmooth, plain, straight, IsBuilt, NoneSmooth, Proper, StraightAfter, ArcRay, ray_left, end_left, at-arc, sloop-at, normals-not_opposite, cross-between, lowest-same, near-lone, arc-at, normal-direction, direction-by, dot-comb, below-itself, cross-direction_right, Of, labels-build, to_opposite, from_opposite, normal-kept, two_ends, zero-decided, self-pos, vector-same, cross-turned, opposite-same, direction-opposite, level-of_opposite, opposite-twice, cross-opposite, nought-if, opposites, SameDirection-turned, SameDirection-trans, dir-self, direction-right, is-at_none, is-at_first}
 use Rattle.nef_space.proofs.Order.{sign}
 use Rattle.nef_space.proofs.Vectors.{dot-opposite, opposite-itself}
 use Rattle.law_build.proofs.BuiltAxes.{number-order}
 use Rattle.nef_locate.proofs.FlatLabels.{are-labelling, is-label, off-smooth, off-plane, off-axis, flat-opposite, label-moved, straight-moved}
-use Rattle.nef_locate.proofs.EdgeLabels.{IsAlong, axis, L, to-near, from-near, way-direction, arc-level, ray-straight, arc-there}
+use Rattle.nef_locate.proofs.EdgeLabels.{HasLabelsAlong, axis, L, to-near, from-near, way-direction, arc-level, ray-straight, arc-there}
 
 -- the opposite of a normal is the lesser one
 opposite-below : (d e : Vector) → IsNormal d → IsOpposite d e → VectorBelow e d
@@ -68,12 +68,12 @@ IsHighEnd u i v = (i ≡ 1) × (v.dir ≡ u.dir)
 abbrev IsLowEnd : MapVertex → ℕ → MapVertex → Type 0
 IsLowEnd u i v = (i ≡ 0) × (v.dir ≡ opposite u.dir)
 
-pub record IsEnd (u : MapVertex) (i : ℕ) (v : MapVertex) : Type 0 where
+pub record IsEdgeEnd (u : MapVertex) (i : ℕ) (v : MapVertex) : Type 0 where
   pub mark : v.mark ≡ u.mark
   pub around : v.around ≡ u.around
   pub which : IsHighEnd u i v ⊎ IsLowEnd u i v
 
-end-is : (u : MapVertex) (i : ℕ) (v : MapVertex) → At (two_ends u) i v → IsEnd u i v
+end-is : (u : MapVertex) (i : ℕ) (v : MapVertex) → IsAt (two_ends u) i v → IsEdgeEnd u i v
 end-is u zero v a = let e = is-at_first a in record { mark = sym (ap (λ (x : MapVertex). x.mark) e); around = sym (ap (λ (x : MapVertex). x.around) e); which = inr (refl, sym (ap (λ (x : MapVertex). x.dir) e)) }
 end-is u (suc zero) v a = let e = is-at_first a in record { mark = sym (ap (λ (x : MapVertex). x.mark) e); around = sym (ap (λ (x : MapVertex). x.around) e); which = inl (refl, sym (ap (λ (x : MapVertex). x.dir) e)) }
 end-is u (suc (suc i)) v e = absurd (is-at_none e)
@@ -92,8 +92,8 @@ pub record IsHalfOf {V : Map} {k : ℕ} (q : ArcRay V k) (h : Arc) : Type 0 wher
   pub ends : HalfEnds q.end h
 
 pub record AreHalfArcs (V : Map) (k : ℕ) (hs : List Arc) : Type 0 where
-  pub each : (i : ℕ) (h : Arc) → At hs i h → (q : ArcRay V k) × IsHalfOf q h
-  pub all : (q : ArcRay V k) → (i : ℕ) × (h : Arc) × At hs i h × IsHalfOf q h
+  pub each : (i : ℕ) (h : Arc) → IsAt hs i h → (q : ArcRay V k) × IsHalfOf q h
+  pub all : (q : ArcRay V k) → (i : ℕ) × (h : Arc) × IsAt hs i h × IsHalfOf q h
   pub ordered : InOrder ArcBelow hs
 
 arc-below_not : (a b : Arc) → a.normal ≡ b.normal → a.source ≡ b.source → ArcBelow a b → ⊥
@@ -144,7 +144,7 @@ neg-level x e = omega (arith, ints)
 none-some : {A B : Type 0} (x : A) → None ≡ Some x → B
 none-some x e = cc
 
-module _ (V : Map) (k : ℕ) (u : MapVertex) (N : Map) (A : IsAlong V k u N) (own : Label) (hs : List Arc) (H : AreHalfArcs V k hs) where
+module _ (V : Map) (k : ℕ) (u : MapVertex) (N : Map) (A : HasLabelsAlong V k u N) (own : Label) (hs : List Arc) (H : AreHalfArcs V k hs) where
   abbrev w : Vector
   w = u.dir
 
@@ -187,7 +187,7 @@ module _ (V : Map) (k : ℕ) (u : MapVertex) (N : Map) (A : IsAlong V k u N) (ow
   end-label i v (inl e) = ap (L V k u N A) e.1 ∙ own-is
   end-label i v (inr e) = ap (L V k u N A) e.1 ∙ back-is
 
-  smooth : (d : Vector) → IsDirection d → ((i : ℕ) (v : MapVertex) → At (two_ends u) i v → SameDirection v.dir d → ⊥) → IsSmooth F d
+  smooth : (d : Vector) → IsDirection d → ((i : ℕ) (v : MapVertex) → IsAt (two_ends u) i v → SameDirection v.dir d → ⊥) → IsSmooth F d
   smooth d h off = ⊎_elim (λ z. along (cross-turned d w z)) (λ f. off-smooth N A.along_valid w A.flat d f) (zero-decided (cross d w))
     where
       along : IsZero (cross w d) → IsSmooth F d
@@ -200,7 +200,7 @@ module _ (V : Map) (k : ℕ) (u : MapVertex) (N : Map) (A : IsAlong V k u N) (ow
   half-level : (q : ArcRay V k) (h : Arc) → IsHalfOf q h → dot h.normal w ≡ pos 0
   half-level q h I = subst (λ (n : Vector). dot n w ≡ pos 0) (sym I.normal) (arc-level V k u N A q)
 
-  listed-of : (q : ArcRay V k) → At (items V) q.number (arc_item q.arc)
+  listed-of : (q : ArcRay V k) → IsAt (items V) q.number (arc_item q.arc)
   listed-of q = at-arc V.arcs V.sloop q.number q.arc q.listed
 
   half-normal : (q : ArcRay V k) (h : Arc) → IsHalfOf q h → IsNormal h.normal
@@ -216,16 +216,16 @@ module _ (V : Map) (k : ℕ) (u : MapVertex) (N : Map) (A : IsAlong V k u N) (ow
   between-by h B C (inl e) (s, t) z = record {
     source = u;
     target = low;
-    has_source = subst (λ i. At (two_ends u) i u) (sym s) refl;
-    has_target = subst (λ i. At (two_ends u) i low) (sym t) refl;
+    has_source = subst (λ i. IsAt (two_ends u) i u) (sym s) refl;
+    has_target = subst (λ i. IsAt (two_ends u) i low) (sym t) refl;
     level_source = z;
     level_target = level-of_opposite h.normal w z;
   }
   between-by h B C (inr e) (s, t) z = record {
     source = low;
     target = u;
-    has_source = subst (λ i. At (two_ends u) i low) (sym s) refl;
-    has_target = subst (λ i. At (two_ends u) i u) (sym t) refl;
+    has_source = subst (λ i. IsAt (two_ends u) i low) (sym s) refl;
+    has_target = subst (λ i. IsAt (two_ends u) i u) (sym t) refl;
     level_source = level-of_opposite h.normal w z;
     level_target = z;
   }
@@ -263,7 +263,7 @@ module _ (V : Map) (k : ℕ) (u : MapVertex) (N : Map) (A : IsAlong V k u N) (ow
   half-proper : (q : ArcRay V k) (h : Arc) → IsHalfOf q h → Proper h.pos h.mark h.neg
   half-proper q h I x y = A.least.items_differ q.number (arc_item q.arc) (listed-of q) (sym I.pos ∙ x ∙ I.mark) (sym I.neg ∙ y ∙ I.mark)
 
-  halves-apart : (i j : ℕ) (a b : Arc) → At hs i a → At hs j b → SameDirection a.normal b.normal → a.source ≡ b.source → i ≡ j
+  halves-apart : (i j : ℕ) (a b : Arc) → IsAt hs i a → IsAt hs j b → SameDirection a.normal b.normal → a.source ≡ b.source → i ≡ j
   halves-apart i j a b g h s e =
       let p = H.each i a g in
       let r = H.each j b h in
@@ -282,7 +282,7 @@ module _ (V : Map) (k : ℕ) (u : MapVertex) (N : Map) (A : IsAlong V k u N) (ow
     ray-normal q = A.valid.shaped.normals q.number (arc_item q.arc) (listed-of q)
 
     abbrev Found : ℕ → Type 0
-    Found j = (i : ℕ) × (c : Arc) × At hs i c × (c.source ≡ j) × SameDirection n c.normal
+    Found j = (i : ℕ) × (c : Arc) × IsAt hs i c × (c.source ≡ j) × SameDirection n c.normal
 
     found-high : (q : ArcRay V k) (e : (q.arc.source ≡ k) ⊎ (q.arc.target ≡ k)) → SameDirection (end_left q.arc e) n → ((h : Arc) → IsHalfOf q h → HalfEnds e h) → Found 1
     found-high q (inl e) s ends = let r = H.all q in (r.0, r.1, r.2, (ends r.1 r.3).0, let I = r.3 in subst (SameDirection n) (sym I.normal) (SameDirection-turned q.arc.normal n s))
@@ -321,7 +321,7 @@ module _ (V : Map) (k : ℕ) (u : MapVertex) (N : Map) (A : IsAlong V k u N) (ow
         found-low r.0 r.0.end (SameDirection-trans (ray_left r.0) (cross w f) (opposite n) r.1 t) (λ h I. I.ends)
 
   arcs-all : (j : ℕ) (v : MapVertex) (n : Vector) (a m b : Label) → IsHighEnd u j v ⊎ IsLowEnd u j v → IsNormal n → dot n v.dir ≡ pos 0 → Proper a m b → StraightAfter F n a m b v.dir
-      → (i : ℕ) × (c : Arc) × At hs i c × (c.source ≡ j) × SameDirection n c.normal
+      → (i : ℕ) × (c : Arc) × IsAt hs i c × (c.source ≡ j) × SameDirection n c.normal
   arcs-all j v n a m b (inl e) normal z proper after =
       let r = arc-high n a m b normal (subst (λ (d : Vector). dot n d ≡ pos 0) e.1 z) proper (subst (StraightAfter F n a m b) e.1 after) in
       (r.0, r.1, r.2, r.3 ∙ sym e.0, r.4)
@@ -411,14 +411,14 @@ module _ (V : Map) (k : ℕ) (u : MapVertex) (N : Map) (A : IsAlong V k u N) (ow
 
   -- ---- the map
   -- what holds of half circles holds of the items
-  of-items : (P : Item → Type 0) → ((q : ArcRay V k) (h : Arc) → IsHalfOf q h → P (arc_item h)) → (i : ℕ) (x : Item) → At (items M) i x → P x
+  of-items : (P : Item → Type 0) → ((q : ArcRay V k) (h : Arc) → IsHalfOf q h → P (arc_item h)) → (i : ℕ) (x : Item) → IsAt (items M) i x → P x
   of-items P f i (arc_item h) l = let r = H.each i h (arc-at hs None i h l) in f r.0 h r.1
   of-items P f i (sloop_item c) l = none-some c (sloop-at hs None i c l)
 
-  is-end : (i : ℕ) (v : MapVertex) → At (two_ends u) i v → IsHighEnd u i v ⊎ IsLowEnd u i v
+  is-end : (i : ℕ) (v : MapVertex) → IsAt (two_ends u) i v → IsHighEnd u i v ⊎ IsLowEnd u i v
   is-end i v h = let e = end-is u i v h in e.which
 
-  no-sloop : (n y : Vector) (a m b : Label) → IsDirection y → ((i : ℕ) (v : MapVertex) → At (two_ends u) i v → dot n v.dir ≡ pos 0 → ⊥) → Proper a m b → StraightAt F n a m b y → ⊥
+  no-sloop : (n y : Vector) (a m b : Label) → IsDirection y → ((i : ℕ) (v : MapVertex) → IsAt (two_ends u) i v → dot n v.dir ≡ pos 0 → ⊥) → Proper a m b → StraightAt F n a m b y → ⊥
   no-sloop n y a m b h bare proper st =
       let q = off-plane N A.along_valid w A.flat (flat-opposite N A.along_valid w hw A.flat) n y a m b h st (bare 1 u refl) in
       proper q.0 q.1
@@ -450,7 +450,7 @@ module _ (V : Map) (k : ℕ) (u : MapVertex) (N : Map) (A : IsAlong V k u N) (ow
     ground_label = λ m d e. none-some m e;
   }
 
-  kept : Kept M F
+  kept : NoneSmooth M F
   kept i v h = needed i v (is-end i v h)
 
   pub edge-built : Valid M × Least M × ((d : Vector) → IsDirection d → MapLabel M d (L V k u N A d))

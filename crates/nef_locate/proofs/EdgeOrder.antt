@@ -1,11 +1,11 @@
 -- A point of an edge comes between the edge's ends in the order of vertices, and what comes between on its line lies on it.
-use Rattle.nef_locate.proofs.Prelude.{◌≡◌, ℕ, ◌+◌, ◌<◌, ◌≤◌, sym, pos, Bool, IsTrue, ◌↔◌, List, arith, inl, inr, ⊎_elim, subst, eq-or-lt_of_le, cases_lt, ints, by_order, IsAt, Place as PlainPlace, Form, form_at, toward, SamePlace, IsBetween, IsPlaceBelow, Set, IsNormal, IsZero, cross, form_of, place_of, Point, place_below-same, same-place_below, place_below-trans, place_below-apart, same-place_sym, At, map-at, at-map, get-from_at, at-from_get, is-at_one, Shows, IsVertexPoint, IsEdgePoint, aligned, cross-back, plane-way, between-way, same-itself, Edge, Complex, edge_of, vertex_of, complex_of, AreBelow, AreAbove, EdgeLiesIn, AreNumbersWith, EndBelow, apart, edge-inside, ends, listed_edge, vertex-same, held-between, toward-normal, normal-kept, AllThrough, edge-along, lies, lying-ends, level-same, Span, AreAlone, IsInSpan, IsNarrower, span-between, PartsOn, AreThroughEnds, cross-turned, SameDirection-turned}
+use Rattle.nef_locate.proofs.Prelude.{◌≡◌, ℕ, ◌+◌, ◌<◌, ◌≤◌, sym, pos, Bool, IsTrue, ◌↔◌, List, arith, inl, inr, ⊎_elim, subst, eq-or-lt_of_le, cases_lt, ints, by_order, IsAt, SpacePoint, Form, form_at, toward, SamePoint, IsBetween, IsPointBelow, Set, IsNormal, IsZero, cross, form_of, point_of, Point, point_below-same, same-point_below, point_below-trans, point_below-apart, same-point_sym, map-at, at-map, get-from_at, at-from_get, is-at_one, Shows, IsVertexPoint, IsEdgePoint, aligned, cross-back, plane-way, between-way, same-itself, Edge, Complex, edge_of, vertex_of, complex_of, AreBelow, AreAbove, EdgeLiesIn, AreNumbersWith, EndBelow, apart, edge-inside, ends, listed_edge, vertex-same, held-between, toward-normal, normal-kept, AllThrough, edge-along, lies, lying-ends, level-same, Span, AreAlone, IsInSpan, IsNarrower, span-between, PartsOn, AreThroughEnds, cross-turned, SameDirection-turned}
 use Rattle.law_sphere.proofs.Compare.{normals-same}
 use Rattle.nef_complex.specs.declared.complex.Vertex.{Vertex}
 use Rattle.nef_complex.proofs.Rising.{BeginFrom}
 
 -- where q - p begins with a positive number, q is a later point
-normal-below : (p q : PlainPlace) → IsNormal (toward p q) → IsPlaceBelow p q
+normal-below : (p q : SpacePoint) → IsNormal (toward p q) → IsPointBelow p q
 normal-below p q n = by_order (toward p q).x (pos 0)
     (λ l. let f = n.first in absurd (omega (arith, ints)))
     (λ e. inr (
@@ -18,45 +18,45 @@ normal-below p q n = by_order (toward p q).x (pos 0)
     (λ l. inl (omega (arith, ints)))
 
 -- a point strictly between two others comes between them
-pub between-order : (p y q : PlainPlace) → IsPlaceBelow p q → IsBetween p y q → IsPlaceBelow p y × IsPlaceBelow y q
+pub between-order : (p y q : SpacePoint) → IsPointBelow p q → IsBetween p y q → IsPointBelow p y × IsPointBelow y q
 between-order p y q h b =
     let n = normal-kept (toward p q) (toward p y) (SameDirection-turned (toward p y) (toward p q) (between-way p y q b)) (toward-normal p q h) in
     (normal-below p y n, normal-below y q (normal-kept (toward p y) (toward y q) b n))
 
-module _ (s : Set) (c : Complex) (S : Shows s (complex_of c)) (k : ℕ) (e : Edge) (u v : Vertex) (l : At c.edges k e) (i : At c.vertices e.low u) (j : At c.vertices e.high v) where
-  abbrev low : PlainPlace
-  low = place_of u.point
+module _ (s : Set) (c : Complex) (S : Shows s (complex_of c)) (k : ℕ) (e : Edge) (u v : Vertex) (l : IsAt c.edges k e) (i : IsAt c.vertices e.low u) (j : IsAt c.vertices e.high v) where
+  abbrev low : SpacePoint
+  low = point_of u.point
 
-  abbrev high : PlainPlace
-  high = place_of v.point
+  abbrev high : SpacePoint
+  high = point_of v.point
 
-  ends-order : IsPlaceBelow low high
+  ends-order : IsPointBelow low high
   ends-order =
       let E = S.edges.edges k (edge_of e) (map-at edge_of c.edges k e l) in
       S.ordered e.low e.high (vertex_of u) (vertex_of v) E.upward (map-at vertex_of c.vertices e.low u i) (map-at vertex_of c.vertices e.high v j)
 
   -- a point that lies on the edge comes between its ends
-  pub edge-order : (p y : PlainPlace) → SamePlace y p → IsEdgePoint (complex_of c) k y → IsPlaceBelow low p × IsPlaceBelow p high
+  pub edge-order : (p y : SpacePoint) → SamePoint y p → IsEdgePoint (complex_of c) k y → IsPointBelow low p × IsPointBelow p high
   edge-order p y o x =
       let b = between-order low y high ends-order (edge-inside s c S k e u v l i j y x) in
-      (place_below-same low y p b.0 o, same-place_below p y high (same-place_sym y p o) b.1)
+      (point_below-same low y p b.0 o, same-point_below p y high (same-point_sym y p o) b.1)
 
   -- so where the vertices of a plane that holds the edge are parted at number n, the lower end has a smaller number and the upper one hasn't
-  pub edge-parted : (h : Form) (y : PlainPlace) (n : ℕ) → PartsOn c.vertices h y n → form_at h low ≡ pos 0 → form_at h high ≡ pos 0 → IsEdgePoint (complex_of c) k y → (e.low < n) × (n ≤ e.high)
+  pub edge-parted : (h : Form) (y : SpacePoint) (n : ℕ) → PartsOn c.vertices h y n → form_at h low ≡ pos 0 → form_at h high ≡ pos 0 → IsEdgePoint (complex_of c) k y → (e.low < n) × (n ≤ e.high)
   edge-parted h y n P f g x =
       let b = edge-order y y (same-itself y) x in (
         ⊎_elim (λ m. m) (λ m. absurd (never low y b.0 (P.after e.low u m (get-from_at c.vertices e.low u i) f))) (cases_lt e.low n),
         ⊎_elim (λ m. absurd (never y high b.1 (P.before e.high v m (get-from_at c.vertices e.high v j) g))) (λ m. m) (cases_lt e.high n),
       )
     where
-      never : (a b : PlainPlace) → IsPlaceBelow a b → IsPlaceBelow b a → ⊥
-      never a b g h = place_below-apart a a (place_below-trans a b a g h) (same-itself a)
+      never : (a b : SpacePoint) → IsPointBelow a b → IsPointBelow b a → ⊥
+      never a b g h = point_below-apart a a (point_below-trans a b a g h) (same-itself a)
 
   -- and a point of the edge's line that comes between its ends lies on the edge
-  pub line-edge : (y : PlainPlace) → IsPlaceBelow low y → IsPlaceBelow y high → AllThrough c.carriers low high y → IsEdgePoint (complex_of c) k y
+  pub line-edge : (y : SpacePoint) → IsPointBelow low y → IsPointBelow y high → AllThrough c.carriers low high y → IsEdgePoint (complex_of c) k y
   line-edge y g h T = (edge_of e, vertex_of u, vertex_of v, listed, ends s c S k e u v l i j, normals-same (toward low y) (toward y high) (toward-normal low y g) (toward-normal y high h) turned)
     where
-      listed : At (complex_of c).edges k (edge_of e)
+      listed : IsAt (complex_of c).edges k (edge_of e)
       listed = listed_edge s c S k e u v l i j
 
       line : IsZero (cross (toward low high) (toward low y))
@@ -66,27 +66,27 @@ module _ (s : Set) (c : Complex) (S : Shows s (complex_of c)) (k : ℕ) (e : Edg
       turned = cross-back (toward low y) high y (aligned low y high (cross-turned (toward low high) (toward low y) line))
 
   -- what holds both ends holds a point of the edge
-  pub edge-through : (y : PlainPlace) → IsEdgePoint (complex_of c) k y → AllThrough c.carriers low high y
+  pub edge-through : (y : SpacePoint) → IsEdgePoint (complex_of c) k y → AllThrough c.carriers low high y
   edge-through y x = λ g f o H. held-between (form_of f) low high y (edge-inside s c S k e u v l i j y x) H
 
   -- a span as wide as those of the ends holds it too
-  pub edge-spanned : (ss : List Span) → AreAlone c.vertices ss → (a b t : Span) → IsAt ss e.low a → IsAt ss e.high b → IsNarrower a t → IsNarrower b t → (y : PlainPlace) → IsEdgePoint (complex_of c) k y → IsInSpan t y
+  pub edge-spanned : (ss : List Span) → AreAlone c.vertices ss → (a b t : Span) → IsAt ss e.low a → IsAt ss e.high b → IsNarrower a t → IsNarrower b t → (y : SpacePoint) → IsEdgePoint (complex_of c) k y → IsInSpan t y
   edge-spanned ss A a b t o r m n y x = span-between a b t low y high (edge-inside s c S k e u v l i j y x) (A.each e.low u a (get-from_at c.vertices e.low u i) o) (A.each e.high v b (get-from_at c.vertices e.high v j) r) m n
 
   -- so it does where the numbers of the plane's vertices tell that it comes between
-  pub parted-edge : (h : Form) (y : PlainPlace) (n : ℕ) → PartsOn c.vertices h y n → form_at h low ≡ pos 0 → form_at h high ≡ pos 0 → e.low < n → n ≤ e.high → AllThrough c.carriers low high y → IsEdgePoint (complex_of c) k y
+  pub parted-edge : (h : Form) (y : SpacePoint) (n : ℕ) → PartsOn c.vertices h y n → form_at h low ≡ pos 0 → form_at h high ≡ pos 0 → e.low < n → n ≤ e.high → AllThrough c.carriers low high y → IsEdgePoint (complex_of c) k y
   parted-edge h y n P f g m r T = line-edge y (P.before e.low u m (get-from_at c.vertices e.low u i) f) (P.after e.high v r (get-from_at c.vertices e.high v j) g) T
 
 -- ---- an edge alone
 module _ (s : Set) (c : Complex) (S : Shows s (complex_of c)) (k : ℕ) (e : Edge) (a : IsAt c.edges k e) where
-  l : At c.edges k e
+  l : IsAt c.edges k e
   l = at-from_get c.edges k e a
 
   record HasBoth : Type 0 where
     pub low : Vertex
     pub high : Vertex
-    pub low_at : At c.vertices e.low low
-    pub high_at : At c.vertices e.high high
+    pub low_at : IsAt c.vertices e.low low
+    pub high_at : IsAt c.vertices e.high high
 
   both : HasBoth
   both =
@@ -95,35 +95,35 @@ module _ (s : Set) (c : Complex) (S : Shows s (complex_of c)) (k : ℕ) (e : Edg
       record { low = u.0; high = v.0; low_at = u.1; high_at = v.1 }
 
   -- a span as wide as those of its ends holds the points of the edge
-  pub told-spanned : (ss : List Span) → AreAlone c.vertices ss → (x z t : Span) → IsAt ss e.low x → IsAt ss e.high z → IsNarrower x t → IsNarrower z t → (y : PlainPlace) → IsEdgePoint (complex_of c) k y → IsInSpan t y
+  pub told-spanned : (ss : List Span) → AreAlone c.vertices ss → (x z t : Span) → IsAt ss e.low x → IsAt ss e.high z → IsNarrower x t → IsNarrower z t → (y : SpacePoint) → IsEdgePoint (complex_of c) k y → IsInSpan t y
   told-spanned = edge-spanned s c S k e both.low both.high l both.low_at both.high_at
 
   -- and what holds both ends holds these points
-  pub told-line : (b : Bool) (y : PlainPlace)
-      → ((e : Edge) (u v : Vertex) → IsAt c.edges k e → IsAt c.vertices e.low u → IsAt c.vertices e.high v → (IsTrue b ↔ AllThrough c.carriers (place_of u.point) (place_of v.point) y))
+  pub told-line : (b : Bool) (y : SpacePoint)
+      → ((e : Edge) (u v : Vertex) → IsAt c.edges k e → IsAt c.vertices e.low u → IsAt c.vertices e.high v → (IsTrue b ↔ AllThrough c.carriers (point_of u.point) (point_of v.point) y))
       → IsEdgePoint (complex_of c) k y → IsTrue b
   told-line b y line x =
       (line e both.low both.high a (get-from_at c.vertices e.low both.low both.low_at) (get-from_at c.vertices e.high both.high both.high_at)).1 (edge-through s c S k e both.low both.high l both.low_at both.high_at y x)
 
 -- such a point is no vertex
-pub parts-off : (c : Complex) (h : Form) (y : PlainPlace) (n : ℕ) → form_at h y ≡ pos 0 → PartsOn c.vertices h y n → (k : ℕ) → IsVertexPoint (complex_of c) k y → ⊥
+pub parts-off : (c : Complex) (h : Form) (y : SpacePoint) (n : ℕ) → form_at h y ≡ pos 0 → PartsOn c.vertices h y n → (k : ℕ) → IsVertexPoint (complex_of c) k y → ⊥
 parts-off c h y n on P k (x, a, e) =
-    let l = lies c h k x a (level-same h y x.point (same-place_sym x.point y e) on) in
+    let l = lies c h k x a (level-same h y x.point (same-point_sym x.point y e) on) in
     let o = vertex-same c k l.0 (at-from_get c.vertices k l.0 l.1) y (x, a, e) in
     ⊎_elim
-    (λ m. place_below-apart (place_of l.0.point) y (P.before k l.0 m l.1 l.2) o)
-    (λ m. place_below-apart y (place_of l.0.point) (P.after k l.0 m l.1 l.2) (same-place_sym (place_of l.0.point) y o))
+    (λ m. point_below-apart (point_of l.0.point) y (P.before k l.0 m l.1 l.2) o)
+    (λ m. point_below-apart y (point_of l.0.point) (P.after k l.0 m l.1 l.2) (same-point_sym (point_of l.0.point) y o))
     (cases_lt k n)
 
 -- a point that parts all vertices parts those of each plane
-pub parts-all : (c : Complex) (p : Point) (y : PlainPlace) (n : ℕ) → SamePlace y (place_of p) → AreBelow c.vertices n p → AreAbove c.vertices n p → (h : Form) → PartsOn c.vertices h y n
+pub parts-all : (c : Complex) (p : Point) (y : SpacePoint) (n : ℕ) → SamePoint y (point_of p) → AreBelow c.vertices n p → AreAbove c.vertices n p → (h : Form) → PartsOn c.vertices h y n
 parts-all c p y n o below above h = record {
-  before = λ j v l e f. place_below-same (place_of v.point) (place_of p) y (below j v l e) (same-place_sym y (place_of p) o);
-  after = λ j v l e f. same-place_below y (place_of p) (place_of v.point) o (above j v l e);
+  before = λ j v l e f. point_below-same (point_of v.point) (point_of p) y (below j v l e) (same-point_sym y (point_of p) o);
+  after = λ j v l e f. same-point_below y (point_of p) (point_of v.point) o (above j v l e);
 }
 
 -- ---- edges in a plane
-module _ (s : Set) (c : Complex) (S : Shows s (complex_of c)) (h : Form) (y : PlainPlace) (n : ℕ) (P : PartsOn c.vertices h y n) where
+module _ (s : Set) (c : Complex) (S : Shows s (complex_of c)) (h : Form) (y : SpacePoint) (n : ℕ) (P : PartsOn c.vertices h y n) where
   -- an edge in it with the point on it has its lower end among the first vertices, and not its upper one
   pub number-parted : (k : ℕ) (e : Edge) → IsAt c.edges k e → EdgeLiesIn c.vertices c.edges h k → IsEdgePoint (complex_of c) k y → (e.low < n) × (n ≤ e.high)
   number-parted k e a L x =

@@ -1,5 +1,5 @@
 -- What a first meet and the corner toward the point say of the point.
-use Rattle.nef_locate.proofs.Prelude.{◌≡◌, pos, Option, Some, None, MatchOption, IfSome, subst, sym, Place, form_at, normal_of, slope, IsAhead, Set, Vector, opposite, IsDirection, SameDirection, plane_axis, form_of, Plane, Corner, IsFlatIn, PlaneMeet, Meets, IsFirstInPlane, IsCornerAt, HasCorner, facet-behind, facet-from_behind, Complex, complex_of, ShowsSet}
+use Rattle.nef_locate.proofs.Prelude.{◌≡◌, pos, Option, Some, None, MatchOption, IfSome, subst, sym, SpacePoint, form_at, normal_of, slope, IsAhead, Set, Vector, opposite, IsDirection, SameDirection, plane_axis, form_of, Plane, Corner, IsFlatIn, PlaneMeet, Meets, IsFirstInPlane, IsCornerAt, HasCorner, facet-behind, facet-from_behind, Complex, complex_of, ShowsSet}
 use Rattle.std.specs.Option.{IsNone}
 use Rattle.nef_locate.proofs.Behind.{corner-behind, corner-has}
 
@@ -15,9 +15,9 @@ none-then N P (Some x) m e = cc
 pub as-none : {X : Type 0} (N : Type 0) (P : X → Type 0) (o : Option X) → o ≡ None → N → MatchOption o N P
 as-none {X} N P o e n = subst (λ (r : Option X). MatchOption r N P) (sym e) n
 
-module _ (c : Complex) (h : Plane) (y : Place) (on : form_at (form_of h) y ≡ pos 0) (d : Vector) (some : IsDirection d) (level : slope (form_of h) d ≡ pos 0) where
+module _ (c : Complex) (h : Plane) (y : SpacePoint) (on : form_at (form_of h) y ≡ pos 0) (d : Vector) (some : IsDirection d) (level : slope (form_of h) d ≡ pos 0) where
   -- a facet point meets something
-  pub none-met : ((m : PlaneMeet) (q : Place) → IsAhead y d q → Meets (complex_of c) (form_of h) m q → ⊥) → (s : Set) → ShowsSet s c → IsFlatIn s (form_of h) y → ⊥
+  pub none-met : ((m : PlaneMeet) (q : SpacePoint) → IsAhead y d q → Meets (complex_of c) (form_of h) m q → ⊥) → (s : Set) → ShowsSet s c → IsFlatIn s (form_of h) y → ⊥
   none-met f s S F = let m = facet-behind s (complex_of c) S.shows (form_of h) y h.normal on d some level F in f m.0 m.1.place m.1.ahead m.1.meets
 
   module _ (m : PlaneMeet) (I : IsFirstInPlane (complex_of c) (form_of h) y d m) (b : Vector) (back : b ≡ opposite d) where

@@ -1,5 +1,5 @@
 -- The vertices of a plane stand in the order of points, so a hit that is none of them parts their numbers.
-use Rattle.nef_locate.proofs.Prelude.{◌≡◌, ℕ, ◌+◌, ◌≤◌, ◌<◌, ℤ, pos, ◌*ℤ◌, ◌<ℤ◌, nat_abs, length, List, arith, sym, ◌∙◌, subst, ⊎_elim, w64, Ordering, inl, inr, Less, Equal, Greater, eq-or-lt_of_le, cases_lt, MatchOrdering, IsAt, Place, Form, SamePlace, IsPlaceBelow, Set, place_of, Hit, Point, place_below-trans, is-at_one, is-at_within, map-at, at-from_get, Shows, IsVertexPoint, Complex, vertex_of, complex_of, LiesOn, AreNumbersWith, PartsOn, pos-abs}
+use Rattle.nef_locate.proofs.Prelude.{◌≡◌, ℕ, ◌+◌, ◌≤◌, ◌<◌, ℤ, pos, ◌*ℤ◌, ◌<ℤ◌, nat_abs, length, List, arith, sym, ◌∙◌, subst, ⊎_elim, w64, Ordering, inl, inr, Less, Equal, Greater, eq-or-lt_of_le, cases_lt, MatchOrdering, IsAt, SpacePoint, Form, SamePoint, IsPointBelow, Set, point_of, Hit, Point, point_below-trans, is-at_one, is-at_within, map-at, at-from_get, Shows, IsVertexPoint, Complex, vertex_of, complex_of, LiesOn, AreNumbersWith, PartsOn, pos-abs}
 use mir.Syntax.{w128}
 use mir.Val.{to_z, of_z}
 use Rattle.nef_complex.specs.declared.complex.Vertex.{Vertex}
@@ -27,22 +27,22 @@ module _ (p : Point) (q : Hit) (o : Ordering) (x w y v : ℤ) (weight_is : w ≡
   ranks-z e f = ranks p.z q.z (exact-of x p.z e p.z_small) (exact-hit y q.z f q.z_small)
 
 -- the order where the first two coordinates are equal
-pub order-from_last : (p q : Place) (o : Ordering) → p.x *ℤ pos q.w ≡ q.x *ℤ pos p.w → p.y *ℤ pos q.w ≡ q.y *ℤ pos p.w → Ranks o p.z (pos p.w) q.z (pos q.w) → MatchOrdering o (IsPlaceBelow p q) (SamePlace p q) (IsPlaceBelow q p)
+pub order-from_last : (p q : SpacePoint) (o : Ordering) → p.x *ℤ pos q.w ≡ q.x *ℤ pos p.w → p.y *ℤ pos q.w ≡ q.y *ℤ pos p.w → Ranks o p.z (pos p.w) q.z (pos q.w) → MatchOrdering o (IsPointBelow p q) (SamePoint p q) (IsPointBelow q p)
 order-from_last p q Less a b r = inr (a, inr (b, inl r))
 order-from_last p q Equal a b r = record { along_x = a; along_y = b; along_z = r }
 order-from_last p q Greater a b r = inr (sym a, inr (sym b, inl r))
 
 -- ---- the vertices of a plane
 -- the vertices with the first n of the numbers come before the point
-abbrev pub AreBefore : List Vertex → List ℕ → Place → ℕ → Type 0
-AreBefore vs ns y n = (i j : ℕ) (v : Vertex) → i < n → IsAt ns i j → IsAt vs j v → IsPlaceBelow (place_of v.point) y
+abbrev pub AreBefore : List Vertex → List ℕ → SpacePoint → ℕ → Type 0
+AreBefore vs ns y n = (i j : ℕ) (v : Vertex) → i < n → IsAt ns i j → IsAt vs j v → IsPointBelow (point_of v.point) y
 
 -- those with the other numbers come after it
-abbrev pub AreAfter : List Vertex → List ℕ → Place → ℕ → Type 0
-AreAfter vs ns y n = (i j : ℕ) (v : Vertex) → n ≤ i → IsAt ns i j → IsAt vs j v → IsPlaceBelow y (place_of v.point)
+abbrev pub AreAfter : List Vertex → List ℕ → SpacePoint → ℕ → Type 0
+AreAfter vs ns y n = (i j : ℕ) (v : Vertex) → n ≤ i → IsAt ns i j → IsAt vs j v → IsPointBelow y (point_of v.point)
 
-module _ (s : Set) (c : Complex) (S : Shows s (complex_of c)) (h : Form) (ns : List ℕ) (N : AreNumbersWith (LiesOn c.vertices h) ns) (y : Place) where
-  rise : (i m n j : ℕ) (u v : Vertex) → i < m → IsAt ns i n → IsAt ns m j → IsAt c.vertices n u → IsAt c.vertices j v → IsPlaceBelow (place_of u.point) (place_of v.point)
+module _ (s : Set) (c : Complex) (S : Shows s (complex_of c)) (h : Form) (ns : List ℕ) (N : AreNumbersWith (LiesOn c.vertices h) ns) (y : SpacePoint) where
+  rise : (i m n j : ℕ) (u v : Vertex) → i < m → IsAt ns i n → IsAt ns m j → IsAt c.vertices n u → IsAt c.vertices j v → IsPointBelow (point_of u.point) (point_of v.point)
   rise i m n j u v l a b e f = S.ordered n j (vertex_of u) (vertex_of v) (N.ordered i m n j l a b) (map-at vertex_of c.vertices n u (at-from_get c.vertices n u e)) (map-at vertex_of c.vertices j v (at-from_get c.vertices j v f))
 
   same : (i m n j : ℕ) (u v : Vertex) → i ≡ m → IsAt ns i n → IsAt ns m j → IsAt c.vertices n u → IsAt c.vertices j v → v ≡ u
@@ -51,24 +51,24 @@ module _ (s : Set) (c : Complex) (S : Shows s (complex_of c)) (h : Form) (ns : L
       is-at_one c.vertices j v u f (subst (λ x. IsAt c.vertices x u) r e)
 
   -- where a vertex comes before the point, those before it do
-  pub before-up_to : (m j : ℕ) (v : Vertex) → IsAt ns m j → IsAt c.vertices j v → IsPlaceBelow (place_of v.point) y → AreBefore c.vertices ns y (m + 1)
+  pub before-up_to : (m j : ℕ) (v : Vertex) → IsAt ns m j → IsAt c.vertices j v → IsPointBelow (point_of v.point) y → AreBefore c.vertices ns y (m + 1)
   before-up_to m j v a e b i n u l f g = ⊎_elim
-      (λ o. subst (λ (r : Vertex). IsPlaceBelow (place_of r.point) y) (same i m n j u v o f a g e) b)
-      (λ o. place_below-trans (place_of u.point) (place_of v.point) y (rise i m n j u v o f a g e) b)
+      (λ o. subst (λ (r : Vertex). IsPointBelow (point_of r.point) y) (same i m n j u v o f a g e) b)
+      (λ o. point_below-trans (point_of u.point) (point_of v.point) y (rise i m n j u v o f a g e) b)
       (eq-or-lt_of_le {n = i} {m = m} (omega (arith, l)))
 
   -- and where one comes after the point, those after it do
-  pub after-from : (m j : ℕ) (v : Vertex) → IsAt ns m j → IsAt c.vertices j v → IsPlaceBelow y (place_of v.point) → AreAfter c.vertices ns y m
+  pub after-from : (m j : ℕ) (v : Vertex) → IsAt ns m j → IsAt c.vertices j v → IsPointBelow y (point_of v.point) → AreAfter c.vertices ns y m
   after-from m j v a e b i n u l f g = ⊎_elim
-      (λ o. subst (λ (r : Vertex). IsPlaceBelow y (place_of r.point)) (sym (same m i j n v u o a f e g)) b)
-      (λ o. place_below-trans y (place_of v.point) (place_of u.point) b (rise m i j n v u o a f e g))
+      (λ o. subst (λ (r : Vertex). IsPointBelow y (point_of r.point)) (sym (same m i j n v u o a f e g)) b)
+      (λ o. point_below-trans y (point_of v.point) (point_of u.point) b (rise m i j n v u o a f e g))
       (eq-or-lt_of_le {n = m} {m = i} l)
 
-  pub is-vertex : (k : ℕ) (v : Vertex) → IsAt c.vertices k v → SamePlace (place_of v.point) y → IsVertexPoint (complex_of c) k y
+  pub is-vertex : (k : ℕ) (v : Vertex) → IsAt c.vertices k v → SamePoint (point_of v.point) y → IsVertexPoint (complex_of c) k y
   is-vertex k v a o = (vertex_of v, map-at vertex_of c.vertices k v (at-from_get c.vertices k v a), o)
 
 -- so places among the numbers of the plane's vertices that part these make numbers that do
-module _ (c : Complex) (h : Form) (ns : List ℕ) (N : AreNumbersWith (LiesOn c.vertices h) ns) (y : Place) (m : ℕ) (B : AreBefore c.vertices ns y m) (A : AreAfter c.vertices ns y m) where
+module _ (c : Complex) (h : Form) (ns : List ℕ) (N : AreNumbersWith (LiesOn c.vertices h) ns) (y : SpacePoint) (m : ℕ) (B : AreBefore c.vertices ns y m) (A : AreAfter c.vertices ns y m) where
   from : (i r j : ℕ) → m ≤ i → IsAt ns m r → IsAt ns i j → r ≤ j
   from i r j l a e = ⊎_elim
       (λ o. let f : r ≡ j = is-at_one ns i r j (subst (λ x. IsAt ns x r) o a) e in omega (arith, f))

@@ -1,5 +1,5 @@
 -- Arcs at a svertex, all of which have a positive product with one vector: the last counterclockwise of them.
-use Rattle.nef_locate.proofs.Prelude.{◌≡◌, ℕ, ◌+◌, ◌<◌, pos, ◌+ℤ◌, ◌*ℤ◌, ◌<ℤ◌, arith, sym, ◌∙◌, ◌⊎◌, inl, inr, ⊎_elim, [], ◌∷◌, Bool, true, false, subst, Option, Some, None, ints, eq-or-lt_of_le, ring, at, num, ◌⊕◌, ◌⊖◌, ◌⊗◌, follows, given, none, mul_pos, sign-scaled, Vector, IsDirection, dot, triple, At, MapVertex, Arc, Map, dir_of, Shaped, ends-of, at-one, dir-at, same-plus, end_of, IsLastArc, IsNoArc, IsLast, dot-comm, triple-in_plane}
+use Rattle.nef_locate.proofs.Prelude.{◌≡◌, ℕ, ◌+◌, ◌<◌, pos, ◌+ℤ◌, ◌*ℤ◌, ◌<ℤ◌, arith, sym, ◌∙◌, ◌⊎◌, inl, inr, ⊎_elim, [], ◌∷◌, Bool, true, false, subst, Option, Some, None, ints, eq-or-lt_of_le, ring, at, num, ◌⊕◌, ◌⊖◌, ◌⊗◌, follows, given, none, mul_pos, sign-scaled, Vector, IsDirection, dot, triple, IsAt, MapVertex, Arc, Map, dir_of, Shaped, ends-of, at-one, dir-at, same-plus, end_of, IsLastArc, IsNoArc, IsLast, dot-comm, triple-in_plane}
 
 -- of three vectors in the plane of w, by their products with a vector u
 turn-through : (w a b c u : Vector) → triple a b c ≡ pos 0 → dot u b *ℤ triple w a c ≡ dot u a *ℤ triple w b c +ℤ dot u c *ℤ triple w a b
@@ -28,19 +28,19 @@ later-later w a b c u hw la lb lc pa pb pc ab bc =
     let y = mul_pos (dot u c) (triple w a b) pc ab in
     same-plus (dot u b *ℤ triple w a c) (triple w a c) (sym (sign-scaled (dot u b) (triple w a c) pb)) (omega (arith, ints))
 
-module _ (M : Map) (V : Shaped M) (s : ℕ) (v : MapVertex) (h : At M.svertices s v) (u : Vector) (ahead : (k : ℕ) (a : Arc) → At M.arcs k a → pos 0 <ℤ dot u a.normal) where
+module _ (M : Map) (V : Shaped M) (s : ℕ) (v : MapVertex) (h : IsAt M.svertices s v) (u : Vector) (ahead : (k : ℕ) (a : Arc) → IsAt M.arcs k a → pos 0 <ℤ dot u a.normal) where
   some : IsDirection (dir_of M.svertices s)
   some = subst IsDirection (sym (dir-at M.svertices s v h)) (V.svertex_dirs s v h)
 
   -- an arc's normal lies in the plane of the svertex
-  level : (k : ℕ) (a : Arc) (begins : Bool) → At M.arcs k a → end_of a begins ≡ s → dot (dir_of M.svertices s) a.normal ≡ pos 0
+  level : (k : ℕ) (a : Arc) (begins : Bool) → IsAt M.arcs k a → end_of a begins ≡ s → dot (dir_of M.svertices s) a.normal ≡ pos 0
   level k a true l e = let b = ends-of M V k a l in dot-comm (dir_of M.svertices s) a.normal ∙ subst (λ (j : ℕ). dot a.normal (dir_of M.svertices j) ≡ pos 0) e b.source_level
   level k a false l e = let b = ends-of M V k a l in dot-comm (dir_of M.svertices s) a.normal ∙ subst (λ (j : ℕ). dot a.normal (dir_of M.svertices j) ≡ pos 0) e b.target_level
 
-  module _ (begins : Bool) (n : ℕ) (a : Arc) (l : At M.arcs n a) where
+  module _ (begins : Bool) (n : ℕ) (a : Arc) (l : IsAt M.arcs n a) where
     -- an arc before the next, or the next
-    earlier : (j : ℕ) (b : Arc) → j < n + 1 → At M.arcs j b → (b ≡ a) ⊎ (j < n)
-    earlier j b m i = ⊎_elim (λ e. inl (at-one M.arcs n b a (subst (λ (r : ℕ). At M.arcs r b) e i) l)) (λ k. inr k) (eq-or-lt_of_le {n = j} {m = n} (omega (arith, m)))
+    earlier : (j : ℕ) (b : Arc) → j < n + 1 → IsAt M.arcs j b → (b ≡ a) ⊎ (j < n)
+    earlier j b m i = ⊎_elim (λ e. inl (at-one M.arcs n b a (subst (λ (r : ℕ). IsAt M.arcs r b) e i) l)) (λ k. inr k) (eq-or-lt_of_le {n = j} {m = n} (omega (arith, m)))
 
     pub last-skip : (end_of a begins ≡ s → ⊥) → (o : Option ℕ) → IsLast M (dir_of M.svertices s) s begins n o → IsLast M (dir_of M.svertices s) s begins (n + 1) o
     last-skip off None L = λ j b m i e. ⊎_elim (λ q. off (subst (λ (r : Arc). end_of r begins ≡ s) q e)) (λ k. L j b k i e) (earlier j b m i)

@@ -1,5 +1,5 @@
 -- The vertices, edges and items that a place names, and that their labels are those of its points.
-use Rattle.nef_locate.proofs.Prelude.{◌≡◌, ℕ, ◌<◌, List, map, length, Some, slice_get, sym, ap, subst, ◌∙◌, HasLabel, Place as PlainPlace, Set, Label, At, Item, Side, at-one, map-at, at-map, at-within, at-from_get, side-has, LabelledSide, IsSide, sides_of, Vertex as PlainVertex, Corner as PlainCorner, IsCorner, at_vertex, on_edge, facet-at, facet-of, spot-mark, Complex, vertex_of, complex_of, corner_of, ShowsSet, IsPlaceAt, IsPlaceLabel, HasVolumeSide}
+use Rattle.nef_locate.proofs.Prelude.{◌≡◌, ℕ, ◌<◌, List, map, length, Some, slice_get, sym, ap, subst, ◌∙◌, HasLabel, SpacePoint, Set, Label, IsAt, Item, Side, at-one, map-at, at-map, at-within, at-from_get, side-has, LabelledSide, IsSide, sides_of, Vertex as PlainVertex, Corner as PlainCorner, IsCorner, at_vertex, on_edge, facet-at, facet-of, spot-mark, Complex, vertex_of, complex_of, corner_of, ShowsSet, IsPlaceAt, IsPlaceLabel, HasVolumeSide}
 use Rattle.law_complex.specs.Complexes.{Complex as PlainComplex}
 use Rattle.nef_complex.specs.declared.complex.Vertex.{Vertex}
 use Rattle.nef_locate.specs.declared.point.Place.{Place}
@@ -8,10 +8,10 @@ use Rattle.nef_locate.proofs.Cones.{corner-labels}
 use Rattle.nef_locate.proofs.VolumeLabels.{side-label}
 
 -- ---- lists
-pub image-within : {A B : Type 0} (f : A → B) (xs : List A) (k : ℕ) (y : B) → At (map f xs) k y → k < length xs
+pub image-within : {A B : Type 0} (f : A → B) (xs : List A) (k : ℕ) (y : B) → IsAt (map f xs) k y → k < length xs
 image-within f xs k y a = let x = at-map f xs k y a in at-within xs k x.0 x.1
 
-pub image-read : {A B : Type 0} (f : A → B) (xs : List A) (k : ℕ) (x : A) → slice_get xs k ≡ Some x → At (map f xs) k (f x)
+pub image-read : {A B : Type 0} (f : A → B) (xs : List A) (k : ℕ) (x : A) → slice_get xs k ≡ Some x → IsAt (map f xs) k (f x)
 image-read f xs k x e = map-at f xs k x (at-from_get xs k x e)
 
 pub side-within : {X : Type 0} (xs : List X) (k : ℕ) (x : X) → slice_get xs k ≡ Some x → k < length xs
@@ -21,14 +21,14 @@ side-within xs k x e = at-within xs k x (at-from_get xs k x e)
 pub corner-read : (vs : List Vertex) (C : PlainComplex) (k : PlainCorner) (u : Vertex) (x : Item) → C.vertices ≡ map vertex_of vs → slice_get vs k.vertex ≡ Some u
     → (v : PlainVertex) → IsCorner C k v x → IsCorner C k (vertex_of u) x
 corner-read vs C k u x same e v c =
-    let f = at-one C.vertices k.vertex v (vertex_of u) c.vertex (subst (λ (ws : List PlainVertex). At ws k.vertex (vertex_of u)) (sym same) (image-read vertex_of vs k.vertex u e)) in
+    let f = at-one C.vertices k.vertex v (vertex_of u) c.vertex (subst (λ (ws : List PlainVertex). IsAt ws k.vertex (vertex_of u)) (sym same) (image-read vertex_of vs k.vertex u e)) in
     subst (λ (w : PlainVertex). IsCorner C k w x) f c
 
 -- ---- labels
 one-side : (x z : LabelledSide) → Some x ≡ Some z → x.0 ≡ z.0
 one-side x z e = let f : x ≡ z = cc in ap (λ (q : LabelledSide). q.0) f
 
-pub label-holds : (c : Complex) (p : Place) (l : Label) → IsPlaceLabel (complex_of c) p l → (s : Set) (y : PlainPlace) → ShowsSet s c → IsPlaceAt (complex_of c) y p → HasLabel s y l
+pub label-holds : (c : Complex) (p : Place) (l : Label) → IsPlaceLabel (complex_of c) p l → (s : Set) (y : SpacePoint) → ShowsSet s c → IsPlaceAt (complex_of c) y p → HasLabel s y l
 label-holds c (place.Vertex k) l m s y S a = spot-mark s (complex_of c) S.shows (facet-at s (complex_of c) S.shows) (facet-of s (complex_of c) S.shows) (at_vertex k) y a l m
 label-holds c (place.OnEdge k) l m s y S a = spot-mark s (complex_of c) S.shows (facet-at s (complex_of c) S.shows) (facet-of s (complex_of c) S.shows) (on_edge k) y a l m
 label-holds c (place.InFacet k) l (v, x, i, e) s y S a = subst (HasLabel s y) e (corner-labels s (complex_of c) S.shows y (corner_of k) v x a i).0

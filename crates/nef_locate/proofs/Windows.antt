@@ -1,36 +1,36 @@
 -- Points of the frame ahead of a point lie within its window.
-use Rattle.nef_locate.proofs.Prelude.{◌≡◌, ℕ, ◌+◌, ◌*◌, ◌≤◌, ℤ, pos, neg_ℤ, ◌+ℤ◌, ◌-ℤ◌, ◌*ℤ◌, ◌<ℤ◌, ◌≤ℤ◌, nat_abs, [], ◌∷◌, arith, ap, sym, inl, inr, subst, ints, mul_nonneg, mul_le_right, cancel_le, cancel_lt, ring, at, num, ◌⊕◌, ◌⊖◌, ◌⊗◌, half_side, Place, InClosedFrame, IsAhead, Vector, opposite, up, IsUpright, Coordinate, coordinate_of, coordinate_x, coordinate_y, coordinate_z, IsWithin, ahead-back, Span, IsInSpan, IsInside, IsAmid}
+use Rattle.nef_locate.proofs.Prelude.{◌≡◌, ℕ, ◌+◌, ◌*◌, ◌≤◌, ℤ, pos, neg_ℤ, ◌+ℤ◌, ◌-ℤ◌, ◌*ℤ◌, ◌<ℤ◌, ◌≤ℤ◌, nat_abs, [], ◌∷◌, arith, ap, sym, inl, inr, subst, ints, mul_nonneg, mul_le_right, cancel_le, cancel_lt, ring, at, num, ◌⊕◌, ◌⊖◌, ◌⊗◌, half_side, SpacePoint, InClosedFrame, IsAhead, Vector, opposite, up, IsVertical, Coordinate, coordinate_of, coordinate_x, coordinate_y, coordinate_z, IsWithin, ahead-back, Span, IsInSpan, IsInsideBounds, IsAmidWindow}
 use Rattle.law_complex.specs.Spans.{IsJustAbove, IsCloseAbove}
 use Rattle.law_complex.proofs.Spans.{stays-close}
 use Rattle.nef_index.specs.declared.spans.Bounds.{Bounds}
 
-weight : (p : Place) → pos 0 <ℤ pos p.w
+weight : (p : SpacePoint) → pos 0 <ℤ pos p.w
 weight p = let m = p.proper in omega (arith, ints)
 
 -- ---- of one point above another
 exchange : (a v w : ℤ) → a *ℤ v *ℤ w ≡ a *ℤ w *ℤ v
 exchange a v w = ring (a ∷ v ∷ w ∷ []) (at 0 ⊗ at 1 ⊗ at 2) (at 0 ⊗ at 2 ⊗ at 1) tt
 
-some : (p : Place) → pos 0 ≤ℤ pos p.w
+some : (p : SpacePoint) → pos 0 ≤ℤ pos p.w
 some p = omega (arith, ints)
 
-low-rises : (c : Coordinate) (low : ℤ) (p q : Place) → (coordinate_of c p *ℤ pos q.w) ≤ℤ (coordinate_of c q *ℤ pos p.w) → (low *ℤ pos p.w) ≤ℤ coordinate_of c p → (low *ℤ pos q.w) ≤ℤ coordinate_of c q
+low-rises : (c : Coordinate) (low : ℤ) (p q : SpacePoint) → (coordinate_of c p *ℤ pos q.w) ≤ℤ (coordinate_of c q *ℤ pos p.w) → (low *ℤ pos p.w) ≤ℤ coordinate_of c p → (low *ℤ pos q.w) ≤ℤ coordinate_of c q
 low-rises c low p q e l =
     let m = mul_le_right (low *ℤ pos p.w) (coordinate_of c p) (pos q.w) (some q) l in
     let f = exchange low (pos p.w) (pos q.w) in
     cancel_le (low *ℤ pos q.w) (coordinate_of c q) (pos p.w) (weight p) (omega (arith, ints, e))
 
-high-falls : (c : Coordinate) (high : ℤ) (p q : Place) → (coordinate_of c q *ℤ pos p.w) ≤ℤ (coordinate_of c p *ℤ pos q.w) → coordinate_of c p ≤ℤ (high *ℤ pos p.w) → coordinate_of c q ≤ℤ (high *ℤ pos q.w)
+high-falls : (c : Coordinate) (high : ℤ) (p q : SpacePoint) → (coordinate_of c q *ℤ pos p.w) ≤ℤ (coordinate_of c p *ℤ pos q.w) → coordinate_of c p ≤ℤ (high *ℤ pos p.w) → coordinate_of c q ≤ℤ (high *ℤ pos q.w)
 high-falls c high p q e l =
     let m = mul_le_right (coordinate_of c p) (high *ℤ pos p.w) (pos q.w) (some q) l in
     let f = exchange high (pos p.w) (pos q.w) in
     cancel_le (coordinate_of c q) (high *ℤ pos q.w) (pos p.w) (weight p) (omega (arith, ints, e))
 
 -- ---- of points of the frame
-at-most-side : (c : Coordinate) (high : ℤ) (q : Place) → high ≡ pos half_side → nat_abs (coordinate_of c q) ≤ half_side * q.w → coordinate_of c q ≤ℤ (high *ℤ pos q.w)
+at-most-side : (c : Coordinate) (high : ℤ) (q : SpacePoint) → high ≡ pos half_side → nat_abs (coordinate_of c q) ≤ half_side * q.w → coordinate_of c q ≤ℤ (high *ℤ pos q.w)
 at-most-side c high q e l = subst (λ (r : ℤ). coordinate_of c q ≤ℤ (r *ℤ pos q.w)) (sym e) (omega (arith, ints, l))
 
-at-least-side : (c : Coordinate) (low : ℤ) (q : Place) → low ≡ neg_ℤ (pos half_side) → nat_abs (coordinate_of c q) ≤ half_side * q.w → (low *ℤ pos q.w) ≤ℤ coordinate_of c q
+at-least-side : (c : Coordinate) (low : ℤ) (q : SpacePoint) → low ≡ neg_ℤ (pos half_side) → nat_abs (coordinate_of c q) ≤ half_side * q.w → (low *ℤ pos q.w) ≤ℤ coordinate_of c q
 at-least-side c low q e l = subst (λ (r : ℤ). (r *ℤ pos q.w) ≤ℤ coordinate_of c q) (sym e) (omega (arith, ints, l))
 
 -- ---- of points of which one lies just above the other
@@ -45,7 +45,7 @@ at-most n d m p l =
 apart : (n : ℕ) (y : ℤ) (w : ℕ) (z : ℤ) (v : ℕ) → IsJustAbove (n + 1) y w z v → (z *ℤ pos w) ≤ℤ (y *ℤ pos v +ℤ pos w *ℤ pos v)
 apart n y w z v j = let l = at-most n (z *ℤ pos w -ℤ y *ℤ pos v) (pos w *ℤ pos v) (let a = j.0 in omega (arith, ints)) j.1 in omega (arith, ints)
 
-within-above : (n : ℕ) (c : Coordinate) (b r : Bounds) (p q : Place) → r.low ≡ b.low → r.high ≡ b.high +ℤ pos 1 → IsJustAbove (n + 1) (coordinate_of c p) p.w (coordinate_of c q) q.w → IsWithin c b.low b.high p → IsWithin c r.low r.high q
+within-above : (n : ℕ) (c : Coordinate) (b r : Bounds) (p q : SpacePoint) → r.low ≡ b.low → r.high ≡ b.high +ℤ pos 1 → IsJustAbove (n + 1) (coordinate_of c p) p.w (coordinate_of c q) q.w → IsWithin c b.low b.high p → IsWithin c r.low r.high q
 within-above n c b r p q e f j i =
     let k = apart n (coordinate_of c p) p.w (coordinate_of c q) q.w j in
     let h = mul_le_right (coordinate_of c p) (b.high *ℤ pos p.w) (pos q.w) (some q) i.1 in
@@ -54,7 +54,7 @@ within-above n c b r p q e f j i =
       subst (λ (r : ℤ). coordinate_of c q ≤ℤ (r *ℤ pos q.w)) (sym f) (cancel_le (coordinate_of c q) ((b.high +ℤ pos 1) *ℤ pos q.w) (pos p.w) (weight p) (omega (arith, ints))),
     )
 
-within-below : (n : ℕ) (c : Coordinate) (b r : Bounds) (p q : Place) → r.low ≡ b.low -ℤ pos 1 → r.high ≡ b.high → IsJustAbove (n + 1) (coordinate_of c q) q.w (coordinate_of c p) p.w → IsWithin c b.low b.high p → IsWithin c r.low r.high q
+within-below : (n : ℕ) (c : Coordinate) (b r : Bounds) (p q : SpacePoint) → r.low ≡ b.low -ℤ pos 1 → r.high ≡ b.high → IsJustAbove (n + 1) (coordinate_of c q) q.w (coordinate_of c p) p.w → IsWithin c b.low b.high p → IsWithin c r.low r.high q
 within-below n c b r p q e f j i =
     let k = apart n (coordinate_of c q) q.w (coordinate_of c p) p.w j in
     let l = mul_le_right (b.low *ℤ pos p.w) (coordinate_of c p) (pos q.w) (some q) i.0 in
@@ -74,7 +74,7 @@ less n d m p l =
 close : (n : ℕ) (y : ℤ) (w : ℕ) (z : ℤ) (v : ℕ) → IsJustAbove (n + 2) y w z v → (z *ℤ pos w) <ℤ (y *ℤ pos v +ℤ pos w *ℤ pos v)
 close n y w z v j = let l = less n (z *ℤ pos w -ℤ y *ℤ pos v) (pos w *ℤ pos v) (let a = j.0 in omega (arith, ints)) j.1 in omega (arith, ints)
 
-inside-above : (n : ℕ) (c : Coordinate) (b r : Bounds) (p q : Place) → r.low ≡ b.low → r.high ≡ b.high +ℤ pos 1 → IsJustAbove (n + 2) (coordinate_of c p) p.w (coordinate_of c q) q.w → IsWithin c b.low b.high p → IsInside c r q
+inside-above : (n : ℕ) (c : Coordinate) (b r : Bounds) (p q : SpacePoint) → r.low ≡ b.low → r.high ≡ b.high +ℤ pos 1 → IsJustAbove (n + 2) (coordinate_of c p) p.w (coordinate_of c q) q.w → IsWithin c b.low b.high p → IsInsideBounds c r q
 inside-above n c b r p q e f j i =
     let a = j.0 in
     let k = close n (coordinate_of c p) p.w (coordinate_of c q) q.w j in
@@ -86,7 +86,7 @@ inside-above n c b r p q e f j i =
       subst (λ (r : ℤ). coordinate_of c q <ℤ (r *ℤ pos q.w)) (sym f) (cancel_lt (coordinate_of c q) ((b.high +ℤ pos 1) *ℤ pos q.w) (pos p.w) (weight p) (omega (arith, ints))),
     )
 
-inside-below : (n : ℕ) (c : Coordinate) (b r : Bounds) (p q : Place) → r.low ≡ b.low -ℤ pos 1 → r.high ≡ b.high → IsJustAbove (n + 2) (coordinate_of c q) q.w (coordinate_of c p) p.w → IsWithin c b.low b.high p → IsInside c r q
+inside-below : (n : ℕ) (c : Coordinate) (b r : Bounds) (p q : SpacePoint) → r.low ≡ b.low -ℤ pos 1 → r.high ≡ b.high → IsJustAbove (n + 2) (coordinate_of c q) q.w (coordinate_of c p) p.w → IsWithin c b.low b.high p → IsInsideBounds c r q
 inside-below n c b r p q e f j i =
     let a = j.0 in
     let k = close n (coordinate_of c q) q.w (coordinate_of c p) p.w j in
@@ -100,32 +100,32 @@ inside-below n c b r p q e f j i =
     )
 
 -- what lies strictly within the one bounds and within the others lies within both
-reaches : (c : Coordinate) (b a : Bounds) (q : Place) → IsInside c b q → IsWithin c a.low a.high q → (a.low <ℤ b.high) × (b.low <ℤ a.high)
+reaches : (c : Coordinate) (b a : Bounds) (q : SpacePoint) → IsInsideBounds c b q → IsWithin c a.low a.high q → (a.low <ℤ b.high) × (b.low <ℤ a.high)
 reaches c b a q i j =
     let k = i.0 in let l = i.1 in let m = j.0 in let n = j.1 in
     (cancel_lt a.low b.high (pos q.w) (weight q) (omega (arith, ints)), cancel_lt b.low a.high (pos q.w) (weight q) (omega (arith, ints)))
 
-pub reaches-y : (w s : Span) (q : Place) → IsAmid w q → IsInSpan s q → (s.y.low <ℤ w.y.high) × (w.y.low <ℤ s.y.high)
+pub reaches-y : (w s : Span) (q : SpacePoint) → IsAmidWindow w q → IsInSpan s q → (s.y.low <ℤ w.y.high) × (w.y.low <ℤ s.y.high)
 reaches-y w s q A I = reaches coordinate_y w.y s.y q A.0 I.1
 
-pub reaches-z : (w s : Span) (q : Place) → IsAmid w q → IsInSpan s q → (s.z.low <ℤ w.z.high) × (w.z.low <ℤ s.z.high)
+pub reaches-z : (w s : Span) (q : SpacePoint) → IsAmidWindow w q → IsInSpan s q → (s.z.low <ℤ w.z.high) × (w.z.low <ℤ s.z.high)
 reaches-z w s q A I = reaches coordinate_z w.z s.z q A.1 I.2
 
 -- ---- along upright directions
-pub amid_up : (s t : Span) (p q : Place) → t.y.low ≡ s.y.low → t.y.high ≡ s.y.high +ℤ pos 1 → t.z.low ≡ s.z.low → t.z.high ≡ s.z.high +ℤ pos 1 → InClosedFrame p → InClosedFrame q → IsAhead p up q → IsInSpan s p → IsAmid t q
+pub amid_up : (s t : Span) (p q : SpacePoint) → t.y.low ≡ s.y.low → t.y.high ≡ s.y.high +ℤ pos 1 → t.z.low ≡ s.z.low → t.z.high ≡ s.z.high +ℤ pos 1 → InClosedFrame p → InClosedFrame q → IsAhead p up q → IsInSpan s p → IsAmidWindow t q
 amid_up s t p q c d e f i j w n = let k = (stays-close p q i j).0 w in (inside-above 0 coordinate_y s.y t.y p q c d k.0 n.1, inside-above 16382 coordinate_z s.z t.z p q e f k.1 n.2)
 
-pub amid_down : (s t : Span) (p q : Place) → t.y.low ≡ s.y.low -ℤ pos 1 → t.y.high ≡ s.y.high → t.z.low ≡ s.z.low -ℤ pos 1 → t.z.high ≡ s.z.high → InClosedFrame p → InClosedFrame q → IsAhead p (opposite up) q → IsInSpan s p → IsAmid t q
+pub amid_down : (s t : Span) (p q : SpacePoint) → t.y.low ≡ s.y.low -ℤ pos 1 → t.y.high ≡ s.y.high → t.z.low ≡ s.z.low -ℤ pos 1 → t.z.high ≡ s.z.high → InClosedFrame p → InClosedFrame q → IsAhead p (opposite up) q → IsInSpan s p → IsAmidWindow t q
 amid_down s t p q c d e f i j w n = let k = (stays-close p q i j).1 w in (inside-below 0 coordinate_y s.y t.y p q c d k.0 n.1, inside-below 16382 coordinate_z s.z t.z p q e f k.1 n.2)
 
 -- x rises 2^26 times as much as z
-x-rises : (p q : Place) → IsAhead p up q → IsCloseAbove p q → (p.x *ℤ pos q.w) ≤ℤ (q.x *ℤ pos p.w)
+x-rises : (p q : SpacePoint) → IsAhead p up q → IsCloseAbove p q → (p.x *ℤ pos q.w) ≤ℤ (q.x *ℤ pos p.w)
 x-rises p q a k = let z = k.1.0 in by (q.x *ℤ pos p.w) (p.x *ℤ pos q.w) (q.z *ℤ pos p.w) (p.z *ℤ pos q.w) a.parallel.1 z
   where
     by : (x u z t : ℤ) → (z -ℤ t) *ℤ pos 67108864 -ℤ (x -ℤ u) *ℤ pos 1 ≡ pos 0 → t <ℤ z → u ≤ℤ x
     by x u z t e l = omega (arith, ints)
 
-pub in-window_up : (s t : Span) (p q : Place) → t.x.low ≡ s.x.low → t.x.high ≡ pos half_side → t.y.low ≡ s.y.low → t.y.high ≡ s.y.high +ℤ pos 1 → t.z.low ≡ s.z.low → t.z.high ≡ s.z.high +ℤ pos 1
+pub in-window_up : (s t : Span) (p q : SpacePoint) → t.x.low ≡ s.x.low → t.x.high ≡ pos half_side → t.y.low ≡ s.y.low → t.y.high ≡ s.y.high +ℤ pos 1 → t.z.low ≡ s.z.low → t.z.high ≡ s.z.high +ℤ pos 1
     → InClosedFrame p → InClosedFrame q → IsAhead p up q → IsInSpan s p → IsInSpan t q
 in-window_up s t p q a b c d e f i j w n =
     let k = (stays-close p q i j).0 w in (
@@ -134,7 +134,7 @@ in-window_up s t p q a b c d e f i j w n =
       within-above 16383 coordinate_z s.z t.z p q e f k.1 n.2,
     )
 
-pub in-window_down : (s t : Span) (p q : Place) → t.x.low ≡ neg_ℤ (pos half_side) → t.x.high ≡ s.x.high → t.y.low ≡ s.y.low -ℤ pos 1 → t.y.high ≡ s.y.high → t.z.low ≡ s.z.low -ℤ pos 1 → t.z.high ≡ s.z.high
+pub in-window_down : (s t : Span) (p q : SpacePoint) → t.x.low ≡ neg_ℤ (pos half_side) → t.x.high ≡ s.x.high → t.y.low ≡ s.y.low -ℤ pos 1 → t.y.high ≡ s.y.high → t.z.low ≡ s.z.low -ℤ pos 1 → t.z.high ≡ s.z.high
     → InClosedFrame p → InClosedFrame q → IsAhead p (opposite up) q → IsInSpan s p → IsInSpan t q
 in-window_down s t p q a b c d e f i j w n =
     let k = (stays-close p q i j).1 w in (
@@ -143,13 +143,13 @@ in-window_down s t p q a b c d e f i j w n =
       within-below 16383 coordinate_z s.z t.z p q e f k.1 n.2,
     )
 
-pub points-up : (d : Vector) → IsUpright d → pos 0 <ℤ d.x → d ≡ up
+pub points-up : (d : Vector) → IsVertical d → pos 0 <ℤ d.x → d ≡ up
 points-up d (inl e) l = e
 points-up d (inr e) l = let f : d.x ≡ neg_ℤ (pos 67108864) = ap (λ (v : Vector). v.x) e in absurd (omega (arith, ints))
 
 pub up-positive : (d : Vector) → d ≡ up → pos 0 <ℤ d.x
 up-positive d e = let f : d.x ≡ pos 67108864 = ap (λ (v : Vector). v.x) e in omega (arith, ints)
 
-pub points-down : (d : Vector) → IsUpright d → (d ≡ up → ⊥) → d ≡ opposite up
+pub points-down : (d : Vector) → IsVertical d → (d ≡ up → ⊥) → d ≡ opposite up
 points-down d (inl e) n = absurd (n e)
 points-down d (inr e) n = e

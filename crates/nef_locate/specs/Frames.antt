@@ -1,6 +1,6 @@
 -- Numbers within bounds and within the frame's, and points strictly within the sides of a window.
 use Rattle.std.specs.Prelude.{◌*◌, ◌≤◌, ◌*ℤ◌, ◌<ℤ◌, ◌≤ℤ◌}
-use Rattle.nef_space.specs.Prelude.{ℤ, pos, nat_abs, half_side, Place}
+use Rattle.nef_space.specs.Prelude.{ℤ, pos, nat_abs, half_side, SpacePoint}
 use Rattle.law_complex.specs.Spans.{Coordinate, coordinate_of, coordinate_y, coordinate_z}
 use Rattle.nef_index.specs.declared.spans.Bounds.{Bounds}
 use Rattle.nef_index.specs.declared.spans.Span.{Span}
@@ -10,13 +10,13 @@ abbrev pub LiesBetween : Bounds → ℤ → ℤ → Type 0
 LiesBetween b n w = (nat_abs n ≤ half_side * nat_abs w) × ((b.low *ℤ w) ≤ℤ n) × (n ≤ℤ (b.high *ℤ w))
 
 -- the coordinate of the point lies within the bounds and within those of the closed frame
-abbrev pub IsFramedIn : Coordinate → Bounds → Place → Type 0
+abbrev pub IsFramedIn : Coordinate → Bounds → SpacePoint → Type 0
 IsFramedIn c b p = LiesBetween b (coordinate_of c p) (pos p.w)
 
 -- the coordinate of the point lies strictly within the bounds
-abbrev pub IsInside : Coordinate → Bounds → Place → Type 0
-IsInside c b p = ((b.low *ℤ pos p.w) <ℤ coordinate_of c p) × (coordinate_of c p <ℤ (b.high *ℤ pos p.w))
+abbrev pub IsInsideBounds : Coordinate → Bounds → SpacePoint → Type 0
+IsInsideBounds c b p = ((b.low *ℤ pos p.w) <ℤ coordinate_of c p) × (coordinate_of c p <ℤ (b.high *ℤ pos p.w))
 
 -- y and z of the point lie strictly within the window's bounds
-abbrev pub IsAmid : Span → Place → Type 0
-IsAmid w p = IsInside coordinate_y w.y p × IsInside coordinate_z w.z p
+abbrev pub IsAmidWindow : Span → SpacePoint → Type 0
+IsAmidWindow w p = IsInsideBounds coordinate_y w.y p × IsInsideBounds coordinate_z w.z p

@@ -1,6 +1,6 @@
 -- The half great circles at the points of an edge.
 use Rattle.std.specs.Prelude.{◌≡◌, ◌<◌, ◌+◌, ◌*◌, ◌∷◌, ℕ, zero, suc, List, []}
-use Rattle.nef_complex.specs.Prelude.{opposite, At, MapVertex}
+use Rattle.nef_complex.specs.Prelude.{opposite, IsAt, MapVertex}
 use Rattle.nef_smap.specs.declared.map.SArc.{SArc}
 use Rattle.nef_spair.specs.Arcs.{AreApart}
 
@@ -18,16 +18,16 @@ pub record IsHalf (a : SArc) (source : ℕ) (h : SArc) : Type 0 where
   pub neg : h.neg ≡ a.neg
 
 -- arc a ends at svertex k (for the half circle from svertex 0) or begins there (for that from svertex 1)
-abbrev pub IsEndAt : ℕ → SArc → ℕ → Type 0
-IsEndAt k a zero = a.target ≡ k
-IsEndAt k a (suc source) = a.source ≡ k
+abbrev pub IsHalfEndAt : ℕ → SArc → ℕ → Type 0
+IsHalfEndAt k a zero = a.target ≡ k
+IsHalfEndAt k a (suc source) = a.source ≡ k
 
 -- of two half circles for each arc, that of arc j from svertex `source` is one of the first n
-abbrev pub IsBefore : ℕ → ℕ → ℕ → Type 0
-IsBefore j source n = (source < 2) × (2 * j + source < n)
+abbrev pub IsHalfBefore : ℕ → ℕ → ℕ → Type 0
+IsHalfBefore j source n = (source < 2) × (2 * j + source < n)
 
 -- hs has the half circles of the arcs at svertex k, with the first n of two for each arc looked at
 pub record AreHalves (as' : List SArc) (k n : ℕ) (hs : List SArc) : Type 0 where
-  pub each : (i : ℕ) (h : SArc) → At hs i h → (j : ℕ) × (source : ℕ) × (a : SArc) × IsBefore j source n × At as' j a × IsEndAt k a source × IsHalf a source h
-  pub all : (j source : ℕ) (a : SArc) → IsBefore j source n → At as' j a → IsEndAt k a source → (i : ℕ) × (h : SArc) × At hs i h × IsHalf a source h
+  pub each : (i : ℕ) (h : SArc) → IsAt hs i h → (j : ℕ) × (source : ℕ) × (a : SArc) × IsHalfBefore j source n × IsAt as' j a × IsHalfEndAt k a source × IsHalf a source h
+  pub all : (j source : ℕ) (a : SArc) → IsHalfBefore j source n → IsAt as' j a → IsHalfEndAt k a source → (i : ℕ) × (h : SArc) × IsAt hs i h × IsHalf a source h
   pub apart : AreApart hs

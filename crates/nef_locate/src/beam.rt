@@ -1,9 +1,9 @@
 //! What a ray upward or downward first meets. Carriers off the ray's way through the frame are passed over.
 
 ghost use Rattle.std.specs.Prelude.{◌≡◌, ◌⊎◌, ◌↔◌, ◌<◌, ◌<ℤ◌, ◌+ℤ◌, ◌-ℤ◌};
-ghost use Rattle.nef_complex.specs.Prelude.{IsTrue, IsNone, IfSome, None, length, pos, Place as PlainPlace, InClosedFrame, IsAhead, Set, Vector, IsDirection, opposite, up, IsReached, IsUpright, vector_of, place_of, hit_place, IsSkeletonPoint, complex_of, ShowsSet, IsInSpan, AreSmall};
+ghost use Rattle.nef_complex.specs.Prelude.{IsTrue, IsNone, IfSome, None, length, pos, SpacePoint, InClosedFrame, IsAhead, Set, Vector, IsDirection, opposite, up, IsReached, IsVertical, vector_of, point_of, hit_point, IsSkeletonPoint, complex_of, ShowsSet, IsInSpan, AreSmallBounds};
 ghost use Rattle.law_complex.specs.Complexes.{Complex as PlainComplex};
-ghost use Rattle.nef_locate.specs.Frames.{IsAmid};
+ghost use Rattle.nef_locate.specs.Frames.{IsAmidWindow};
 ghost use Rattle.nef_locate.specs.Places.{IsPlaceIn, IsFirstHit};
 ghost use Rattle.nef_locate.specs.Rays.{IsReachedMet, IsMet, IsSooner, HasNoneOnCarrier};
 
@@ -17,7 +17,7 @@ const LEAST_CROWD: usize = 64;
 
 // The bounds, raised by one at the upper end.
 fn above(bounds: &Bounds) -> Bounds
-    requires small { AreSmall bounds.now }
+    requires small { AreSmallBounds bounds.now }
     ensures low { result.low ≡ bounds.now.low }
     ensures high { result.high ≡ bounds.now.high +ℤ pos 1 }
 {
@@ -29,7 +29,7 @@ fn above(bounds: &Bounds) -> Bounds
 
 // The bounds, lowered by one at the lower end.
 fn below(bounds: &Bounds) -> Bounds
-    requires small { AreSmall bounds.now }
+    requires small { AreSmallBounds bounds.now }
     ensures low { result.low ≡ bounds.now.low -ℤ pos 1 }
     ensures high { result.high ≡ bounds.now.high }
 {
@@ -41,7 +41,7 @@ fn below(bounds: &Bounds) -> Bounds
 
 // Whether the direction is the upward direction, and not the downward one.
 fn is_up(d: &Dir) -> bool
-    requires upright { IsUpright (vector_of d.now) }
+    requires upright { IsVertical (vector_of d.now) }
     ensures upward { IsTrue result ↔ (vector_of d.now ≡ up) }
 {
     d.x() > 0
@@ -50,9 +50,9 @@ fn is_up(d: &Dir) -> bool
 // A span of all points of the frame that the upward or downward ray from the point leads to. Upward all coordinates
 // rise, y and z by less than one within the frame: so the y and z of these points lie strictly within the span.
 fn ray_window(p: &Point, d: &Dir) -> Span
-    requires upright { IsUpright (vector_of d.now) }
-    ensures ahead { (q : PlainPlace) → InClosedFrame (place_of p.now) → InClosedFrame q → IsAhead (place_of p.now) (vector_of d.now) q → IsInSpan result q }
-    ensures amid { (q : PlainPlace) → InClosedFrame (place_of p.now) → InClosedFrame q → IsAhead (place_of p.now) (vector_of d.now) q → IsAmid result q }
+    requires upright { IsVertical (vector_of d.now) }
+    ensures ahead { (q : SpacePoint) → InClosedFrame (point_of p.now) → InClosedFrame q → IsAhead (point_of p.now) (vector_of d.now) q → IsInSpan result q }
+    ensures amid { (q : SpacePoint) → InClosedFrame (point_of p.now) → InClosedFrame q → IsAhead (point_of p.now) (vector_of d.now) q → IsAmidWindow result q }
 {
     let here = Span::of(p);
     if is_up(d) {
@@ -85,7 +85,7 @@ fn reach_into(window: &Bounds, bounds: &Bounds) -> bool
 
 // Whether a point with y and z strictly within the window's bounds may lie within the span.
 fn may_lead_into(window: &Span, span: &Span) -> bool
-    ensures leads { (q : PlainPlace) → IsAmid window.now q → IsInSpan span.now q → IsTrue result }
+    ensures leads { (q : SpacePoint) → IsAmidWindow window.now q → IsInSpan span.now q → IsTrue result }
 {
     if !reach_into(&window.y, &span.y) {
         return false;
@@ -95,7 +95,7 @@ fn may_lead_into(window: &Span, span: &Span) -> bool
 
 // What a ray meets, as a place of the complex, and the hit there.
 #[derive(Clone, Copy)]
-struct Met {
+struct MetPlace {
     place: Place,
     at: Hit,
 }
@@ -107,15 +107,15 @@ struct Beam<'a> {
     start: &'a Point,
     direction: &'a Dir,
     window: Span,
-    guess: Option<Met>,
+    guess: Option<MetPlace>,
     missed: usize,
-    ghost ahead: { (q : PlainPlace) → InClosedFrame q → IsAhead (place_of start.now) (vector_of direction.now) q → IsInSpan window q },
-    ghost amid: { (q : PlainPlace) → InClosedFrame q → IsAhead (place_of start.now) (vector_of direction.now) q → IsAmid window q },
+    ghost ahead: { (q : SpacePoint) → InClosedFrame q → IsAhead (point_of start.now) (vector_of direction.now) q → IsInSpan window q },
+    ghost amid: { (q : SpacePoint) → InClosedFrame q → IsAhead (point_of start.now) (vector_of direction.now) q → IsAmidWindow window q },
 }
 
 // Whether the hit lies before what was met so far, or nothing was met.
-fn is_sooner(hit: &Hit, best: &Option<Met>) -> bool
-    ensures sooner { (p : PlainPlace) (d : Vector) → IsDirection d → IsReached p d hit.now.num hit.now.den hit.now.den_sign (hit_place hit.now) → IfSome best.now (IsReachedMet p d) → (IsTrue result ↔ IsSooner d hit.now best.now) }
+fn is_sooner(hit: &Hit, best: &Option<MetPlace>) -> bool
+    ensures sooner { (p : SpacePoint) (d : Vector) → IsDirection d → IsReached p d hit.now.num hit.now.den hit.now.den_sign (hit_point hit.now) → IfSome best.now (IsReachedMet p d) → (IsTrue result ↔ IsSooner d hit.now best.now) }
 {
     match best {
         Some(met) => hit_order(hit, &met.at).is_lt(),
@@ -124,24 +124,24 @@ fn is_sooner(hit: &Hit, best: &Option<Met>) -> bool
 }
 
 impl Search for Beam<'_> {
-    type Found = Met;
+    type Found = MetPlace;
 
     ghost within = { λ x. x.window };
 
-    ghost right = { λ x c f. IsUpright (vector_of x.direction.now) × IfSome f (IsMet (complex_of c) (place_of x.start.now) (vector_of x.direction.now)) × IfSome x.guess (IsMet (complex_of c) (place_of x.start.now) (vector_of x.direction.now)) × (IsNone x.guess → HasNoneOnCarrier c (place_of x.start.now) (vector_of x.direction.now) None x.missed) };
+    ghost right = { λ x c f. IsVertical (vector_of x.direction.now) × IfSome f (IsMet (complex_of c) (point_of x.start.now) (vector_of x.direction.now)) × IfSome x.guess (IsMet (complex_of c) (point_of x.start.now) (vector_of x.direction.now)) × (IsNone x.guess → HasNoneOnCarrier c (point_of x.start.now) (vector_of x.direction.now) None x.missed) };
 
-    ghost passed = { λ x c f k. HasNoneOnCarrier c (place_of x.start.now) (vector_of x.direction.now) f k };
+    ghost passed = { λ x c f k. HasNoneOnCarrier c (point_of x.start.now) (vector_of x.direction.now) f k };
 
     fn window(&self) -> &Span {
         &self.window
     }
 
-    fn is_over(&self, _best: &Option<Met>) -> bool {
+    fn is_over(&self, _best: &Option<MetPlace>) -> bool {
         false
     }
 
     // Takes what the ray meets on this carrier, if that lies before what was met so far.
-    fn ask(&self, c: &Complex, number: usize, best: &mut Option<Met>) {
+    fn ask(&self, c: &Complex, number: usize, best: &mut Option<MetPlace>) {
         if !may_lead_into(&self.window, &carrier_spans(c)[number]) {
             return;
         }
@@ -158,7 +158,7 @@ impl Search for Beam<'_> {
             return;
         }
         if let Some(place) = place_on(c, number, h, &hit) {
-            *best = Some(Met { place, at: hit });
+            *best = Some(MetPlace { place, at: hit });
         }
     }
 
@@ -167,7 +167,7 @@ impl Search for Beam<'_> {
 
 // Where a ray crosses a carrier, and the carrier's number.
 #[derive(Clone, Copy)]
-struct Crossing {
+struct CarrierCrossing {
     number: usize,
     at: Hit,
 }
@@ -181,11 +181,11 @@ struct Scout<'a> {
 }
 
 impl Search for Scout<'_> {
-    type Found = Crossing;
+    type Found = CarrierCrossing;
 
     ghost within = { λ x. x.window };
 
-    ghost right = { λ x c f. IsUpright (vector_of x.direction.now) × IfSome f (λ m. m.number < length c.carriers) };
+    ghost right = { λ x c f. IsVertical (vector_of x.direction.now) × IfSome f (λ m. m.number < length c.carriers) };
 
     ghost passed = { λ x c f k. Unit {0} };
 
@@ -193,12 +193,12 @@ impl Search for Scout<'_> {
         &self.window
     }
 
-    fn is_over(&self, _nearest: &Option<Crossing>) -> bool {
+    fn is_over(&self, _nearest: &Option<CarrierCrossing>) -> bool {
         false
     }
 
     // Takes this carrier, if the ray crosses it before the nearest crossing so far.
-    fn ask(&self, c: &Complex, number: usize, nearest: &mut Option<Crossing>) {
+    fn ask(&self, c: &Complex, number: usize, nearest: &mut Option<CarrierCrossing>) {
         let span = &carrier_spans(c)[number];
         if !may_lead_into(&self.window, span) {
             return;
@@ -209,7 +209,7 @@ impl Search for Scout<'_> {
         if nearest.is_none_or(|crossing| hit_order(&hit, &crossing.at).is_lt())
             && is_in_span(&hit, span)
         {
-            *nearest = Some(Crossing { number, at: hit });
+            *nearest = Some(CarrierCrossing { number, at: hit });
         }
     }
 
@@ -226,7 +226,7 @@ fn is_crowded(c: &Complex) -> bool {
 // Where carriers are crowded, the carrier that the ray from `p` crosses first within the carrier's span.
 fn first_crossed(c: &Complex, p: &Point, d: &Dir, window: &Span) -> Option<usize>
     requires shows { (s : Set) × ShowsSet s c.now }
-    requires upright { IsUpright (vector_of d.now) }
+    requires upright { IsVertical (vector_of d.now) }
     ensures within { IfSome result (λ k. k < length c.now.carriers) }
 {
     if !is_crowded(c) {
@@ -242,26 +242,26 @@ fn first_crossed(c: &Complex, p: &Point, d: &Dir, window: &Span) -> Option<usize
 }
 
 // What the ray from `p` meets on the carrier with this number.
-fn met_on(c: &Complex, p: &Point, d: &Dir, number: usize) -> Option<Met>
+fn met_on(c: &Complex, p: &Point, d: &Dir, number: usize) -> Option<MetPlace>
     requires shows { (s : Set) × ShowsSet s c.now }
-    requires upright { IsUpright (vector_of d.now) }
+    requires upright { IsVertical (vector_of d.now) }
     requires within { number < length c.now.carriers }
-    ensures met { IfSome result (IsMet (complex_of c.now) (place_of p.now) (vector_of d.now)) }
-    ensures none { IsNone result → HasNoneOnCarrier c.now (place_of p.now) (vector_of d.now) None number }
+    ensures met { IfSome result (IsMet (complex_of c.now) (point_of p.now) (vector_of d.now)) }
+    ensures none { IsNone result → HasNoneOnCarrier c.now (point_of p.now) (vector_of d.now) None number }
 {
     let h = c.carriers.at(number);
     let hit = ray_hit(p, d, h)?;
     let place = place_on(c, number, h, &hit)?;
-    Some(Met { place, at: hit })
+    Some(MetPlace { place, at: hit })
 }
 
 // What the ray from `p` meets on the carrier that it crosses first, and this carrier's number: then nearly no other
 // carrier needs to be asked closely. Where carriers aren't crowded there is no guess, and no carrier has the number.
-fn first_guess(c: &Complex, p: &Point, d: &Dir, window: &Span) -> (Option<Met>, usize)
+fn first_guess(c: &Complex, p: &Point, d: &Dir, window: &Span) -> (Option<MetPlace>, usize)
     requires shows { (s : Set) × ShowsSet s c.now }
-    requires upright { IsUpright (vector_of d.now) }
-    ensures met { IfSome result.0 (IsMet (complex_of c.now) (place_of p.now) (vector_of d.now)) }
-    ensures none { IsNone result.0 → HasNoneOnCarrier c.now (place_of p.now) (vector_of d.now) None result.1 }
+    requires upright { IsVertical (vector_of d.now) }
+    ensures met { IfSome result.0 (IsMet (complex_of c.now) (point_of p.now) (vector_of d.now)) }
+    ensures none { IsNone result.0 → HasNoneOnCarrier c.now (point_of p.now) (vector_of d.now) None result.1 }
 {
     match first_crossed(c, p, d, window) {
         Some(number) => (met_on(c, p, d, number), number),
@@ -274,11 +274,11 @@ fn first_guess(c: &Complex, p: &Point, d: &Dir, window: &Span) -> (Option<Met>, 
 /// point at most; and each skeleton point is a vertex on a carrier, or lies on an edge or in a facet of a carrier.
 pub fn first_hit(c: &Complex, p: &Point, d: &Dir) -> Option<Place>
     requires shows { (s : Set) × ShowsSet s c.now }
-    requires framed { InClosedFrame (place_of p.now) }
+    requires framed { InClosedFrame (point_of p.now) }
     requires upright { (vector_of d.now ≡ up) ⊎ (vector_of d.now ≡ opposite up) }
     ensures place { IfSome result (λ a. IsPlaceIn (complex_of c.now) a) }
-    ensures some { IfSome result (λ a. IsFirstHit (complex_of c.now) (place_of p.now) (vector_of d.now) a) }
-    ensures none { IsNone result → (q : PlainPlace) → IsAhead (place_of p.now) (vector_of d.now) q → IsSkeletonPoint (complex_of c.now) q → ⊥ }
+    ensures some { IfSome result (λ a. IsFirstHit (complex_of c.now) (point_of p.now) (vector_of d.now) a) }
+    ensures none { IsNone result → (q : SpacePoint) → IsAhead (point_of p.now) (vector_of d.now) q → IsSkeletonPoint (complex_of c.now) q → ⊥ }
 {
     let window = ray_window(p, d);
     let (guess, missed) = first_guess(c, p, d, &window);

@@ -2,7 +2,7 @@
 //! alone exclude most vertices and edges.
 
 ghost use Rattle.std.specs.Prelude.{◌≡◌, ◌≤◌, ◌*ℤ◌, ◌<ℤ◌, ◌*◌, ◌<◌, ◌≤ℤ◌, ◌↔◌};
-ghost use Rattle.nef_complex.specs.Prelude.{ℕ, pos, length, IsNone, IfSome, nat_abs, IfOk, IfErr, IsTrue, MatchOption, IsAt, Form, InClosedFrame, form_at, SamePlace, IsPlaceBelow, Set, IsPlaceAtMost, form_of, hit_place, place_of, upright_limit, upright_weight_limit, IsEdgePoint, IsVertexPoint, complex_of, ShowsSet, AreNumbersWith, EdgeLiesIn, LiesOn, IsSkeletonIn, MatchOrdering, point_limit, weight_limit, half_side, IsInSpan};
+ghost use Rattle.nef_complex.specs.Prelude.{ℕ, pos, length, IsNone, IfSome, nat_abs, IfOk, IfErr, IsTrue, MatchOption, IsAt, Form, InClosedFrame, form_at, SamePoint, IsPointBelow, Set, IsPointAtMost, form_of, hit_point, point_of, upright_limit, upright_weight_limit, IsEdgePoint, IsVertexPoint, complex_of, ShowsSet, AreNumbersWith, EdgeLiesIn, LiesOn, IsSkeletonIn, MatchOrdering, point_limit, weight_limit, half_side, IsInSpan};
 ghost use Rattle.law_complex.specs.Spans.{coordinate_y, coordinate_z};
 ghost use Rattle.nef_index.specs.Peaks.{ArePeaks};
 ghost use Rattle.nef_locate.specs.Frames.{IsFramedIn, LiesBetween};
@@ -33,8 +33,8 @@ fn lies_between(n: i128, w: i128, bounds: &Bounds) -> bool
 
 // Whether the hit lies within the span, and within the closed frame's bounds, in y and in z.
 fn is_in_sides(q: &Hit, span: &Span) -> bool
-    requires numbers { IsPlaceAtMost upright_limit upright_weight_limit (hit_place q.now) }
-    ensures sides { IsTrue result ↔ (IsFramedIn coordinate_y span.now.y (hit_place q.now) × IsFramedIn coordinate_z span.now.z (hit_place q.now)) }
+    requires numbers { IsPointAtMost upright_limit upright_weight_limit (hit_point q.now) }
+    ensures sides { IsTrue result ↔ (IsFramedIn coordinate_y span.now.y (hit_point q.now) × IsFramedIn coordinate_z span.now.z (hit_point q.now)) }
 {
     if !lies_between(q.y(), q.w(), &span.y) {
         return false;
@@ -44,8 +44,8 @@ fn is_in_sides(q: &Hit, span: &Span) -> bool
 
 // Whether the hit lies in the closed frame and within the span.
 pub(crate) fn is_in_span(q: &Hit, span: &Span) -> bool
-    requires numbers { IsPlaceAtMost upright_limit upright_weight_limit (hit_place q.now) }
-    ensures spanned { IsTrue result ↔ (InClosedFrame (hit_place q.now) × IsInSpan span.now (hit_place q.now)) }
+    requires numbers { IsPointAtMost upright_limit upright_weight_limit (hit_point q.now) }
+    ensures spanned { IsTrue result ↔ (InClosedFrame (hit_point q.now) × IsInSpan span.now (hit_point q.now)) }
 {
     if !lies_between(q.x(), q.w(), &span.x) {
         return false;
@@ -66,8 +66,8 @@ fn ratio_cmp(x: i64, w: i64, y: i128, v: i128) -> Ordering
 
 // Compares a point with a hit by their first coordinates, then by the second, then by the third.
 fn hit_cmp(p: &Point, q: &Hit) -> Ordering
-    requires numbers { IsPlaceAtMost upright_limit upright_weight_limit (hit_place q.now) }
-    ensures order { MatchOrdering result (IsPlaceBelow (place_of p.now) (hit_place q.now)) (SamePlace (place_of p.now) (hit_place q.now)) (IsPlaceBelow (hit_place q.now) (place_of p.now)) }
+    requires numbers { IsPointAtMost upright_limit upright_weight_limit (hit_point q.now) }
+    ensures order { MatchOrdering result (IsPointBelow (point_of p.now) (hit_point q.now)) (SamePoint (point_of p.now) (hit_point q.now)) (IsPointBelow (hit_point q.now) (point_of p.now)) }
 {
     match ratio_cmp(p.x(), p.w(), q.x(), q.w()) {
         Ordering::Equal => match ratio_cmp(p.y(), p.w(), q.y(), q.w()) {
@@ -86,9 +86,9 @@ fn hit_cmp(p: &Point, q: &Hit) -> Ordering
 fn find_among(c: &Complex, numbers: &[usize], q: &Hit) -> Result<usize, usize>
     requires shows { (s : Set) × ShowsSet s c.now }
     requires listed { (h : Form) × AreNumbersWith (LiesOn c.now.vertices h) numbers.now }
-    requires numbers { IsPlaceAtMost upright_limit upright_weight_limit (hit_place q.now) }
-    ensures found { IfOk result (λ k. IsVertexPoint (complex_of c.now) k (hit_place q.now)) }
-    ensures parts { IfErr result (λ n. (h : Form) → AreNumbersWith (LiesOn c.now.vertices h) numbers.now → PartsOn c.now.vertices h (hit_place q.now) n) }
+    requires numbers { IsPointAtMost upright_limit upright_weight_limit (hit_point q.now) }
+    ensures found { IfOk result (λ k. IsVertexPoint (complex_of c.now) k (hit_point q.now)) }
+    ensures parts { IfErr result (λ n. (h : Form) → AreNumbersWith (LiesOn c.now.vertices h) numbers.now → PartsOn c.now.vertices h (hit_point q.now) n) }
 {
     let mut low = 0;
     let mut high = numbers.len();
@@ -113,10 +113,10 @@ fn find_among(c: &Complex, numbers: &[usize], q: &Hit) -> Result<usize, usize>
 fn is_along(c: &Complex, number: usize, q: &Hit) -> bool
     requires shows { (s : Set) × ShowsSet s c.now }
     requires within { number < length c.now.edges }
-    requires framed { InClosedFrame (hit_place q.now) }
-    requires numbers { IsPlaceAtMost upright_limit upright_weight_limit (hit_place q.now) }
-    ensures on { IsEdgePoint (complex_of c.now) number (hit_place q.now) → IsTrue result }
-    ensures line { IsTrue result → AreThroughEnds c.now number (hit_place q.now) }
+    requires framed { InClosedFrame (hit_point q.now) }
+    requires numbers { IsPointAtMost upright_limit upright_weight_limit (hit_point q.now) }
+    ensures on { IsEdgePoint (complex_of c.now) number (hit_point q.now) → IsTrue result }
+    ensures line { IsTrue result → AreThroughEnds c.now number (hit_point q.now) }
 {
     let edge = c.edges.at(number);
     let spans = point_spans(c);
@@ -131,11 +131,11 @@ fn is_along(c: &Complex, number: usize, q: &Hit) -> bool
 // the hit, the others after it: so the edge's lower end is below number `next`, and its upper end isn't.
 fn edge_among(c: &Complex, items: &PlaneItems, q: &Hit, next: usize) -> Option<usize>
     requires shows { (s : Set) × ShowsSet s c.now }
-    requires framed { InClosedFrame (hit_place q.now) }
-    requires numbers { IsPlaceAtMost upright_limit upright_weight_limit (hit_place q.now) }
-    requires parts { (h : Form) × AreNumbersWith (EdgeLiesIn c.now.vertices c.now.edges h) items.now.edges.now × PartsOn c.now.vertices h (hit_place q.now) next }
+    requires framed { InClosedFrame (hit_point q.now) }
+    requires numbers { IsPointAtMost upright_limit upright_weight_limit (hit_point q.now) }
+    requires parts { (h : Form) × AreNumbersWith (EdgeLiesIn c.now.vertices c.now.edges h) items.now.edges.now × PartsOn c.now.vertices h (hit_point q.now) next }
     requires peaks { ArePeaks c.now.edges items.now.edges.now items.now.peaks.now }
-    ensures edge { MatchOption result ((i k : ℕ) → IsAt items.now.edges.now i k → IsEdgePoint (complex_of c.now) k (hit_place q.now) → ⊥) (λ k. IsEdgePoint (complex_of c.now) k (hit_place q.now)) }
+    ensures edge { MatchOption result ((i k : ℕ) → IsAt items.now.edges.now i k → IsEdgePoint (complex_of c.now) k (hit_point q.now) → ⊥) (λ k. IsEdgePoint (complex_of c.now) k (hit_point q.now)) }
 {
     let count = items.edges_before(c, next);
     let mut place = items.last_reaching(c, count, next);
@@ -160,12 +160,12 @@ pub(crate) fn place_beside_vertices(
 ) -> Option<Place>
     requires shows { (s : Set) × ShowsSet s c.now }
     requires number { IsAt c.now.carriers number h.now }
-    requires framed { InClosedFrame (hit_place q.now) }
-    requires on { form_at (form_of h.now) (hit_place q.now) ≡ pos 0 }
-    requires parts { PartsOn c.now.vertices (form_of h.now) (hit_place q.now) next }
-    requires numbers { IsPlaceAtMost upright_limit upright_weight_limit (hit_place q.now) }
-    ensures at { IfSome result (IsSkeletonAt (complex_of c.now) (hit_place q.now)) }
-    ensures none { IsNone result → (s : Set) → ShowsSet s c.now → IsSkeletonIn s (complex_of c.now) (form_of h.now) (hit_place q.now) → ⊥ }
+    requires framed { InClosedFrame (hit_point q.now) }
+    requires on { form_at (form_of h.now) (hit_point q.now) ≡ pos 0 }
+    requires parts { PartsOn c.now.vertices (form_of h.now) (hit_point q.now) next }
+    requires numbers { IsPointAtMost upright_limit upright_weight_limit (hit_point q.now) }
+    ensures at { IfSome result (IsSkeletonAt (complex_of c.now) (hit_point q.now)) }
+    ensures none { IsNone result → (s : Set) → ShowsSet s c.now → IsSkeletonIn s (complex_of c.now) (form_of h.now) (hit_point q.now) → ⊥ }
 {
     let items = carrier_items(c, number);
     if let Some(edge) = edge_among(c, &items, q, next) {
@@ -184,10 +184,10 @@ pub(crate) fn place_beside_vertices(
 pub fn place_on(c: &Complex, number: usize, h: &Plane, q: &Hit) -> Option<Place>
     requires shows { (s : Set) × ShowsSet s c.now }
     requires number { IsAt c.now.carriers number h.now }
-    requires on { form_at (form_of h.now) (hit_place q.now) ≡ pos 0 }
-    requires numbers { IsPlaceAtMost upright_limit upright_weight_limit (hit_place q.now) }
-    ensures at { IfSome result (IsSkeletonAt (complex_of c.now) (hit_place q.now)) }
-    ensures none { IsNone result → (s : Set) → ShowsSet s c.now → IsSkeletonIn s (complex_of c.now) (form_of h.now) (hit_place q.now) → ⊥ }
+    requires on { form_at (form_of h.now) (hit_point q.now) ≡ pos 0 }
+    requires numbers { IsPointAtMost upright_limit upright_weight_limit (hit_point q.now) }
+    ensures at { IfSome result (IsSkeletonAt (complex_of c.now) (hit_point q.now)) }
+    ensures none { IsNone result → (s : Set) → ShowsSet s c.now → IsSkeletonIn s (complex_of c.now) (form_of h.now) (hit_point q.now) → ⊥ }
 {
     // what the carrier holds of the skeleton lies in the closed frame, and within the carrier's span
     if !is_in_span(q, &carrier_spans(c)[number]) {

@@ -1,6 +1,6 @@
 //! The facet of a plane in which a point lies.
 
-ghost use Rattle.nef_complex.specs.Prelude.{ℕ, length, pos, Some, IsTrue, IsNone, IfSome, form_at, normal_of, InClosedFrame, Set, SameDirection, dot, Item, item_normal, IsPlaceAtMost, form_of, vector_of, hit_place, upright_limit, upright_weight_limit, Corner as PlainCorner, IsCorner, IsFlatIn, PlaneMeet as PlainMeet, Meets, IsCornerAt, HasCorner, complex_of, corner_of, meet_of, vertex_of, ShowsSet, HasItemIn, IsAt, Plane as PlaneValue};
+ghost use Rattle.nef_complex.specs.Prelude.{ℕ, length, pos, Some, IsTrue, IsNone, IfSome, form_at, normal_of, InClosedFrame, Set, SameDirection, dot, Item, item_normal, IsPointAtMost, form_of, vector_of, hit_point, upright_limit, upright_weight_limit, Corner as PlainCorner, IsCorner, IsFlatIn, PlaneMeet as PlainMeet, Meets, IsCornerAt, HasCorner, complex_of, corner_of, meet_of, vertex_of, ShowsSet, HasItemIn, IsAt, Plane as PlaneValue};
 ghost use Rattle.nef_plane.specs.Asked.{AreItems};
 ghost use Rattle.std.specs.Prelude.{MatchOption, ◌≡◌, ◌<◌, ◌⊎◌, ◌↔◌};
 ghost use Rattle.law_complex.specs.Complexes.{Vertex as PlainVertex};
@@ -74,14 +74,14 @@ pub(crate) fn has_item(c: &Complex, number: usize) -> bool
 pub(crate) fn in_facet_among(c: &Complex, h: &Plane, items: PlaneItems, p: &Hit) -> Option<Corner>
     requires shows { (s : Set) × ShowsSet s c.now }
     requires items { AreItems c.now (form_of h.now) items }
-    requires framed { InClosedFrame (hit_place p.now) }
-    requires on { form_at (form_of h.now) (hit_place p.now) ≡ pos 0 }
-    requires off { (m : PlainMeet) → Meets (complex_of c.now) (form_of h.now) m (hit_place p.now) → ⊥ }
-    requires numbers { IsPlaceAtMost upright_limit upright_weight_limit (hit_place p.now) }
-    ensures flat { IfSome result (λ k. (s : Set) → ShowsSet s c.now → IsFlatIn s (form_of h.now) (hit_place p.now)) }
-    ensures corner { IfSome result (λ k. HasCorner (complex_of c.now) (hit_place p.now) (corner_of k)) }
+    requires framed { InClosedFrame (hit_point p.now) }
+    requires on { form_at (form_of h.now) (hit_point p.now) ≡ pos 0 }
+    requires off { (m : PlainMeet) → Meets (complex_of c.now) (form_of h.now) m (hit_point p.now) → ⊥ }
+    requires numbers { IsPointAtMost upright_limit upright_weight_limit (hit_point p.now) }
+    ensures flat { IfSome result (λ k. (s : Set) → ShowsSet s c.now → IsFlatIn s (form_of h.now) (hit_point p.now)) }
+    ensures corner { IfSome result (λ k. HasCorner (complex_of c.now) (hit_point p.now) (corner_of k)) }
     ensures plane { IfSome result (λ k. (v : PlainVertex) (x : Item) → IsCorner (complex_of c.now) (corner_of k) v x → SameDirection (item_normal x) (normal_of (form_of h.now))) }
-    ensures none { IsNone result → (s : Set) → ShowsSet s c.now → IsFlatIn s (form_of h.now) (hit_place p.now) → ⊥ }
+    ensures none { IsNone result → (s : Set) → ShowsSet s c.now → IsFlatIn s (form_of h.now) (hit_point p.now) → ⊥ }
 {
     // a ray from a point of a facet stays in the facet up to the first vertex or edge of the plane, which has an item
     // on this side; and from such an item the facet reaches back to the point
@@ -96,14 +96,14 @@ pub(crate) fn in_facet_among(c: &Complex, h: &Plane, items: PlaneItems, p: &Hit)
 /// taken.
 pub fn in_facet(c: &Complex, h: &Plane, p: &Hit) -> Option<Corner>
     requires shows { (s : Set) × ShowsSet s c.now }
-    requires framed { InClosedFrame (hit_place p.now) }
-    requires on { form_at (form_of h.now) (hit_place p.now) ≡ pos 0 }
-    requires off { (m : PlainMeet) → Meets (complex_of c.now) (form_of h.now) m (hit_place p.now) → ⊥ }
-    requires numbers { IsPlaceAtMost upright_limit upright_weight_limit (hit_place p.now) }
-    ensures flat { IfSome result (λ k. (s : Set) → ShowsSet s c.now → IsFlatIn s (form_of h.now) (hit_place p.now)) }
-    ensures corner { IfSome result (λ k. HasCorner (complex_of c.now) (hit_place p.now) (corner_of k)) }
+    requires framed { InClosedFrame (hit_point p.now) }
+    requires on { form_at (form_of h.now) (hit_point p.now) ≡ pos 0 }
+    requires off { (m : PlainMeet) → Meets (complex_of c.now) (form_of h.now) m (hit_point p.now) → ⊥ }
+    requires numbers { IsPointAtMost upright_limit upright_weight_limit (hit_point p.now) }
+    ensures flat { IfSome result (λ k. (s : Set) → ShowsSet s c.now → IsFlatIn s (form_of h.now) (hit_point p.now)) }
+    ensures corner { IfSome result (λ k. HasCorner (complex_of c.now) (hit_point p.now) (corner_of k)) }
     ensures plane { IfSome result (λ k. (v : PlainVertex) (x : Item) → IsCorner (complex_of c.now) (corner_of k) v x → SameDirection (item_normal x) (normal_of (form_of h.now))) }
-    ensures none { IsNone result → (s : Set) → ShowsSet s c.now → IsFlatIn s (form_of h.now) (hit_place p.now) → ⊥ }
+    ensures none { IsNone result → (s : Set) → ShowsSet s c.now → IsFlatIn s (form_of h.now) (hit_point p.now) → ⊥ }
 {
     in_facet_among(c, h, plane_items(c, h)?, p)
 }

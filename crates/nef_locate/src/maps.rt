@@ -1,7 +1,7 @@
 //! The least map of the set at a place, and at a point.
 
 ghost use Rattle.std.specs.Prelude.{◌≡◌, ◌<◌, ◌*◌};
-ghost use Rattle.nef_complex.specs.Prelude.{IfOk, length, map, Place as PlainPlace, InClosedFrame, Set, place_of, Cone, complex_of, ShowsSet, At, MapVertex};
+ghost use Rattle.nef_complex.specs.Prelude.{IfOk, length, map, SpacePoint, InClosedFrame, Set, point_of, Cone, complex_of, ShowsSet, IsAt, MapVertex};
 ghost use Rattle.nef_smap.specs.Maps.{map_of, IsLeastMap, svertex_of, IsSphereMap};
 ghost use Rattle.nef_locate.specs.Places.{IsPlaceIn, IsPlaceAt};
 ghost use Rattle.nef_locate.specs.Halves.{two_ends, IsHalf, AreHalves};
@@ -45,7 +45,7 @@ fn half_circle(arc: &SArc, source: usize) -> SArc
 // The half circles along the arcs that begin or end at the svertex: an arc that is a whole circle gives both halves.
 fn half_circles(alloc: Global, map: &SphereMap, svertex: usize) -> Result<Vec<SArc>, OutOfMemory>
     requires map { IsSphereMap map.now }
-    requires svertex { (u : MapVertex) × At (map_of map.now).svertices svertex u }
+    requires svertex { (u : MapVertex) × IsAt (map_of map.now).svertices svertex u }
     ensures halves { IfOk result (λ v. AreHalves map.now.arcs svertex (2 * length map.now.arcs) v.items) }
 {
     let mut halves = Vec::with_capacity(alloc, map.arcs.len())?;
@@ -65,7 +65,7 @@ fn edge_map(alloc: Global, c: &Complex, number: usize) -> Result<SphereMap, OutO
     requires shows { (s : Set) × ShowsSet s c.now }
     requires place { IsPlaceIn (complex_of c.now) (place.OnEdge number) }
     ensures least { IfOk result (λ m. IsLeastMap m) }
-    ensures cone { IfOk result (λ m. (s : Set) (y : PlainPlace) → ShowsSet s c.now → IsPlaceAt (complex_of c.now) y (place.OnEdge number) → Cone (map_of m) s y) }
+    ensures cone { IfOk result (λ m. (s : Set) (y : SpacePoint) → ShowsSet s c.now → IsPlaceAt (complex_of c.now) y (place.OnEdge number) → Cone (map_of m) s y) }
 {
     let edge = *c.edges.at(number);
     let low = &c.vertices.at(edge.low).map;
@@ -87,7 +87,7 @@ fn facet_map(alloc: Global, c: &Complex, corner: &Corner) -> SphereMap
     requires shows { (s : Set) × ShowsSet s c.now }
     requires place { IsPlaceIn (complex_of c.now) (place.InFacet corner.now) }
     ensures least { IsLeastMap result }
-    ensures cone { (s : Set) (y : PlainPlace) → ShowsSet s c.now → IsPlaceAt (complex_of c.now) y (place.InFacet corner.now) → Cone (map_of result) s y }
+    ensures cone { (s : Set) (y : SpacePoint) → ShowsSet s c.now → IsPlaceAt (complex_of c.now) y (place.InFacet corner.now) → Cone (map_of result) s y }
 {
     let item = c.vertices.at(corner.vertex).map.item_at(corner.item);
     let plane = SLoop {
@@ -105,7 +105,7 @@ pub fn place_map(alloc: Global, c: &Complex, at: &Place) -> Result<SphereMap, Ou
     requires shows { (s : Set) × ShowsSet s c.now }
     requires place { IsPlaceIn (complex_of c.now) at.now }
     ensures least { IfOk result (λ m. IsLeastMap m) }
-    ensures cone { IfOk result (λ m. (s : Set) (y : PlainPlace) → ShowsSet s c.now → IsPlaceAt (complex_of c.now) y at.now → Cone (map_of m) s y) }
+    ensures cone { IfOk result (λ m. (s : Set) (y : SpacePoint) → ShowsSet s c.now → IsPlaceAt (complex_of c.now) y at.now → Cone (map_of m) s y) }
 {
     match *at {
         Place::Vertex(number) => copy(alloc, &c.vertices.at(number).map),
@@ -122,9 +122,9 @@ pub fn place_map(alloc: Global, c: &Complex, at: &Place) -> Result<SphereMap, Ou
 /// not found; off the vertices and edges no memory is taken.
 pub fn local_map(alloc: Global, c: &Complex, p: &Point) -> Result<SphereMap, OutOfMemory>
     requires shows { (s : Set) × ShowsSet s c.now }
-    requires framed { InClosedFrame (place_of p.now) }
+    requires framed { InClosedFrame (point_of p.now) }
     ensures least { IfOk result (λ m. IsLeastMap m) }
-    ensures cone { IfOk result (λ m. (s : Set) → ShowsSet s c.now → Cone (map_of m) s (place_of p.now)) }
+    ensures cone { IfOk result (λ m. (s : Set) → ShowsSet s c.now → Cone (map_of m) s (point_of p.now)) }
 {
     place_map(alloc, c, &locate(c, p))
 }

@@ -1,6 +1,6 @@
 //! The place of a point in a complex, and the label there.
 
-ghost use Rattle.nef_complex.specs.Prelude.{IsNone, IfSome, FlatDim, HasLabel, Form, InClosedFrame, Place as PlainPlace, Set, IsPlaceAtMost, place_of, hit_place, upright_limit, upright_weight_limit, IsSkeletonPoint, complex_of, ShowsSet, IsInSpan};
+ghost use Rattle.nef_complex.specs.Prelude.{IsNone, IfSome, FlatDim, HasLabel, Form, InClosedFrame, SpacePoint, Set, IsPointAtMost, point_of, hit_point, upright_limit, upright_weight_limit, IsSkeletonPoint, complex_of, ShowsSet, IsInSpan};
 ghost use Rattle.nef_locate.specs.Orders.{PartsOn};
 ghost use Rattle.nef_locate.specs.Places.{IsPlaceIn, IsPlaceAt, place_dimension, IsPlaceLabel};
 ghost use Rattle.nef_locate.specs.Rays.{IsSkeletonAt, HasNotAtCarrier};
@@ -26,7 +26,7 @@ pub enum Place {
 pub fn place_label(c: &Complex, at: &Place) -> Label
     requires place { IsPlaceIn (complex_of c.now) at.now }
     ensures label { IsPlaceLabel (complex_of c.now) at.now result }
-    ensures set { (s : Set) (y : PlainPlace) → ShowsSet s c.now → IsPlaceAt (complex_of c.now) y at.now → HasLabel s y result }
+    ensures set { (s : Set) (y : SpacePoint) → ShowsSet s c.now → IsPlaceAt (complex_of c.now) y at.now → HasLabel s y result }
 {
     match *at {
         Place::Vertex(number) => c.vertices.at(number).map.mark,
@@ -46,9 +46,9 @@ struct Probe {
     at: Hit,
     before: usize,
     window: Span,
-    ghost framed: { InClosedFrame (hit_place at) },
-    ghost numbers: { IsPlaceAtMost upright_limit upright_weight_limit (hit_place at) },
-    ghost inside: { IsInSpan window (hit_place at) },
+    ghost framed: { InClosedFrame (hit_point at) },
+    ghost numbers: { IsPointAtMost upright_limit upright_weight_limit (hit_point at) },
+    ghost inside: { IsInSpan window (hit_point at) },
 }
 
 impl Search for Probe {
@@ -56,9 +56,9 @@ impl Search for Probe {
 
     ghost within = { λ x. x.window };
 
-    ghost right = { λ x c f. ((h : Form) → PartsOn c.vertices h (hit_place x.at) x.before) × IfSome f (IsSkeletonAt (complex_of c) (hit_place x.at)) };
+    ghost right = { λ x c f. ((h : Form) → PartsOn c.vertices h (hit_point x.at) x.before) × IfSome f (IsSkeletonAt (complex_of c) (hit_point x.at)) };
 
-    ghost passed = { λ x c f k. IsNone f → HasNotAtCarrier c (hit_place x.at) k };
+    ghost passed = { λ x c f k. IsNone f → HasNotAtCarrier c (hit_point x.at) k };
 
     fn window(&self) -> &Span {
         &self.window
@@ -78,15 +78,15 @@ impl Search for Probe {
         }
     }
 
-    ghost apart = { λ x c f k o e h a s S on i. (o h a s (hit_place x.at) S on i).1 x.inside };
+    ghost apart = { λ x c f k o e h a s S on i. (o h a s (hit_point x.at) S on i).1 x.inside };
 }
 
 // The place of a point of the skeleton: a vertex, or an edge or a facet, which is searched on the carriers.
 fn on_skeleton(c: &Complex, p: &Point) -> Option<Place>
     requires shows { (s : Set) × ShowsSet s c.now }
-    requires framed { InClosedFrame (place_of p.now) }
-    ensures at { IfSome result (IsSkeletonAt (complex_of c.now) (place_of p.now)) }
-    ensures none { IsNone result → IsSkeletonPoint (complex_of c.now) (place_of p.now) → ⊥ }
+    requires framed { InClosedFrame (point_of p.now) }
+    ensures at { IfSome result (IsSkeletonAt (complex_of c.now) (point_of p.now)) }
+    ensures none { IsNone result → IsSkeletonPoint (complex_of c.now) (point_of p.now) → ⊥ }
 {
     match find_vertex(c, p) {
         Ok(number) => Some(Place::Vertex(number)),
@@ -104,10 +104,10 @@ fn on_skeleton(c: &Complex, p: &Point) -> Option<Place>
 // The place of a point off the skeleton: the side above what the ray down from the point first meets.
 fn in_volume(c: &Complex, p: &Point) -> Place
     requires shows { (s : Set) × ShowsSet s c.now }
-    requires framed { InClosedFrame (place_of p.now) }
-    requires off { IsSkeletonPoint (complex_of c.now) (place_of p.now) → ⊥ }
+    requires framed { InClosedFrame (point_of p.now) }
+    requires off { IsSkeletonPoint (complex_of c.now) (point_of p.now) → ⊥ }
     ensures place { IsPlaceIn (complex_of c.now) result }
-    ensures at { IsPlaceAt (complex_of c.now) (place_of p.now) result }
+    ensures at { IsPlaceAt (complex_of c.now) (point_of p.now) result }
 {
     match first_hit(c, p, &up().back()) {
         Some(floor) => {
@@ -122,10 +122,10 @@ fn in_volume(c: &Complex, p: &Point) -> Place
 /// point names, or a volume, which the side above the first skeleton point below the point names. No memory is taken.
 pub fn locate(c: &Complex, p: &Point) -> Place
     requires shows { (s : Set) × ShowsSet s c.now }
-    requires framed { InClosedFrame (place_of p.now) }
+    requires framed { InClosedFrame (point_of p.now) }
     ensures place { IsPlaceIn (complex_of c.now) result }
-    ensures at { IsPlaceAt (complex_of c.now) (place_of p.now) result }
-    ensures dimension { (s : Set) → ShowsSet s c.now → FlatDim s (place_of p.now) (place_dimension result) }
+    ensures at { IsPlaceAt (complex_of c.now) (point_of p.now) result }
+    ensures dimension { (s : Set) → ShowsSet s c.now → FlatDim s (point_of p.now) (place_dimension result) }
 {
     match on_skeleton(c, p) {
         Some(place) => place,

@@ -1,5 +1,5 @@
 -- A plane as it was given is the plane of its normal form.
-use Rattle.nef_ops.proofs.Prelude.{◌≡◌, ℤ, pos, neg_ℤ, ◌*ℤ◌, Bool, true, false, [], ◌∷◌, arith, sym, subst, cond, ints, ring, at, neg, ◌⊗◌, Form, normal_of, IsDirection, form_of, turned_form, given_form, Plane, normal-direction, SamePlane}
+use Rattle.nef_ops.proofs.Prelude.{◌≡◌, ℤ, pos, neg_ℤ, ◌*ℤ◌, Bool, true, false, [], ◌∷◌, arith, sym, subst, cond, ints, ring, at, neg, ◌⊗◌, Form, normal_of, IsDirection, form_of, opposite_form, given_form, Plane, normal-direction, SamePlane}
 use Rattle.nef_geo.specs.declared.plane.Oriented.{Oriented}
 
 crossed : (a b : ℤ) → a *ℤ b ≡ b *ℤ a
@@ -8,7 +8,7 @@ crossed a b = ring (a ∷ b ∷ []) (at 0 ⊗ at 1) (at 1 ⊗ at 0) tt
 crossed-turned : (a b : ℤ) → a *ℤ neg_ℤ b ≡ b *ℤ neg_ℤ a
 crossed-turned a b = ring (a ∷ b ∷ []) (at 0 ⊗ neg (at 1)) (at 1 ⊗ neg (at 0)) tt
 
-way-plane : (f : Form) (flipped : Bool) → IsDirection (normal_of f) → SamePlane f (cond flipped (turned_form f) f)
+way-plane : (f : Form) (flipped : Bool) → IsDirection (normal_of f) → SamePlane f (cond flipped (opposite_form f) f)
 way-plane f false d = record {
   is_plane = d;
   is_other_plane = d;

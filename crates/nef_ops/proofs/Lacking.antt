@@ -1,25 +1,25 @@
 -- Labels that a map doesn't have, from what its svertices and its items don't have.
-use Rattle.nef_ops.proofs.Prelude.{◌≡◌, ℕ, ◌+◌, ◌<◌, List, get_or, ap, ◌∙◌, subst, Some, Place, Set, Vector, Label, Not, In, SVertex, SphereMap, svertex_of, map_of, at-map, at-get, At, Map, MapVertex, Item, items, around_svertex, pos_item, neg_item, whole, HasSide, MapLabel, at_svertex, on_item, seen, Cone, label-one, germ-label, Share, Nothing, Everything, Lacks, SvertexLacks, ItemLacks, InShare, HasShare}
+use Rattle.nef_ops.proofs.Prelude.{◌≡◌, ℕ, ◌+◌, ◌<◌, List, get_or, ap, ◌∙◌, subst, Some, SpacePoint, Set, Vector, Label, Not, In, SVertex, SphereMap, svertex_of, map_of, at-map, at-get, IsAt, Map, MapVertex, Item, items, around_svertex, pos_item, neg_item, whole, HasSide, MapLabel, at_svertex, on_item, seen, Cone, label-one, germ-label, Share, Nothing, Everything, LacksLabel, SvertexLacks, ItemLacks, InShare, HasShare}
 use borrow.Author.Count.{below_more}
 use Rattle.law_sphere.specs.Maps.{Side}
 
 -- what holds of the elements so far, and of one more
 pub all-more : {A : Type 0} (P : A → Type 0) (xs : List A) (i : ℕ) (x : A) → x ≡ get_or xs i x → P x
-    → ((k : ℕ) (y : A) → k < i → At xs k y → P y) → (k : ℕ) (y : A) → k < i + 1 → At xs k y → P y
+    → ((k : ℕ) (y : A) → k < i → IsAt xs k y → P y) → (k : ℕ) (y : A) → k < i + 1 → IsAt xs k y → P y
 all-more {A} P xs i x is here before k y l h =
-    below_more (λ (n : ℕ). (z : A) → At xs n z → P z) i (λ n m z. before n z m) (λ z a. subst P (is ∙ at-get xs i z x a) here) k l y h
+    below_more (λ (n : ℕ). (z : A) → IsAt xs n z → P z) i (λ n m z. before n z m) (λ z a. subst P (is ∙ at-get xs i z x a) here) k l y h
 
 -- ---- a map
 module _ (l : Label) (m : SphereMap)
-    (V : (k : ℕ) (v : SVertex) → At m.svertices k v → SvertexLacks l v)
-    (I : (k : ℕ) (x : Item) → At (items (map_of m)) k x → ItemLacks l x) where
-  svertex-lacks : (k : ℕ) (v : MapVertex) → At (map_of m).svertices k v → (v.mark ≡ l → ⊥) × (v.around ≡ Some l → ⊥)
+    (V : (k : ℕ) (v : SVertex) → IsAt m.svertices k v → SvertexLacks l v)
+    (I : (k : ℕ) (x : Item) → IsAt (items (map_of m)) k x → ItemLacks l x) where
+  svertex-lacks : (k : ℕ) (v : MapVertex) → IsAt (map_of m).svertices k v → (v.mark ≡ l → ⊥) × (v.around ≡ Some l → ⊥)
   svertex-lacks k v h =
       let u = at-map svertex_of m.svertices k v h in
       let L = V k u.0 u.1 in
       (λ e. L.mark (ap (λ (r : MapVertex). r.mark) u.2 ∙ e), λ e. L.around (ap (λ (r : MapVertex). r.around) u.2 ∙ e))
 
-  pub map-lacks : (m.mark ≡ l → ⊥) → (m.ground ≡ Some l → ⊥) → Lacks l (map_of m)
+  pub map-lacks : (m.mark ≡ l → ⊥) → (m.ground ≡ Some l → ⊥) → LacksLabel l (map_of m)
   map-lacks own ground = record { mark = own; directions = by }
     where
       side : (o : Side) → HasSide (map_of m) o l → ⊥
@@ -35,14 +35,14 @@ module _ (l : Label) (m : SphereMap)
 
 -- ---- shares
 -- the labels of the map are those close to the point
-share-by_map : (f : Share) (M : Map) (s : Set) (p : Place) → InShare f M.mark → ((d : Vector) (l : Label) → MapLabel M d l → InShare f l) → Cone M s p → HasShare f s p
+share-by_map : (f : Share) (M : Map) (s : Set) (p : SpacePoint) → InShare f M.mark → ((d : Vector) (l : Label) → MapLabel M d l → InShare f l) → Cone M s p → HasShare f s p
 share-by_map f M s p mark directions K = record {
   mark = λ l h. subst (InShare f) (label-one s p M.mark l K.mark h) mark;
   germs = λ d l i g. directions d l (germ-label M s p K d l i g);
 }
 
-pub nothing-share : (M : Map) → Lacks In M → (s : Set) (p : Place) → Cone M s p → HasShare Nothing s p
+pub nothing-share : (M : Map) → LacksLabel In M → (s : Set) (p : SpacePoint) → Cone M s p → HasShare Nothing s p
 nothing-share M L s p K = share-by_map Nothing M s p L.mark (λ d l h e. L.directions d (subst (MapLabel M d) e h)) K
 
-pub everything-share : (M : Map) → Lacks Not M → (s : Set) (p : Place) → Cone M s p → HasShare Everything s p
+pub everything-share : (M : Map) → LacksLabel Not M → (s : Set) (p : SpacePoint) → Cone M s p → HasShare Everything s p
 everything-share M L s p K = share-by_map Everything M s p L.mark (λ d l h e. L.directions d (subst (MapLabel M d) e h)) K

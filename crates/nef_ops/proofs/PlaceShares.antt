@@ -1,18 +1,18 @@
 -- What a set has of the frame close to a vertex, and to the points of an edge, of a facet and of a volume.
-use Rattle.nef_ops.proofs.Prelude.{◌≡◌, ℕ, Some, arith, refl, slice_get, subst, Sign, minus, nought, plus, sign, HasLabel, Germ, FlatDim, Place, IsBetween, Set, Vector, zero_vector, blend, dot, Label, Not, In, flat-germ, span-3, label-one, Germ-unique, Germ-zero, Cone, by_side, At, Item, item_normal, item_pos, item_mark, item_neg, dir_of, label-direction, at-one, Edge, Corner, HasEnds, IsCorner, Shows, HasCorner, label-germ, edge-points, map_of, vertex_of, complex_of, ShowsSet, Complex as ShownComplex, Vertex as ShownVertex, IsPlaceAt, corner-labels, cone-same, image-read, Share, Nothing, Everything, InShare, HasShare, ItemLacks}
+use Rattle.nef_ops.proofs.Prelude.{◌≡◌, ℕ, Some, arith, refl, slice_get, subst, Sign, minus, nought, plus, sign, HasLabel, Germ, FlatDim, SpacePoint, IsBetween, Set, Vector, zero_vector, blend, dot, Label, Not, In, flat-germ, span-3, label-one, Germ-unique, Germ-zero, Cone, by_side, IsAt, Item, item_normal, item_pos, item_mark, item_neg, dir_of, label-direction, at-one, Edge, Corner, HasEnds, IsCorner, Shows, HasCorner, label-germ, edge-points, map_of, vertex_of, complex_of, ShowsSet, Complex as ShownComplex, Vertex as ShownVertex, IsPlaceAt, corner-labels, cone-same, image-read, Share, Nothing, Everything, InShare, HasShare, ItemLacks}
 use Rattle.law_complex.specs.Complexes.{Vertex, Complex}
 use Rattle.nef_locate.specs.declared.point.Place.TheVariants as place
 
 -- the labels close to a vertex are those of its map
-pub vertex-share : (c : ShownComplex) (k : ℕ) (u : ShownVertex) (f : Share) → slice_get c.vertices k ≡ Some u → ((s : Set) (p : Place) → Cone (map_of u.map) s p → HasShare f s p)
-    → (s : Set) (y : Place) → ShowsSet s c → IsPlaceAt (complex_of c) y (place.Vertex k) → HasShare f s y
+pub vertex-share : (c : ShownComplex) (k : ℕ) (u : ShownVertex) (f : Share) → slice_get c.vertices k ≡ Some u → ((s : Set) (p : SpacePoint) → Cone (map_of u.map) s p → HasShare f s p)
+    → (s : Set) (y : SpacePoint) → ShowsSet s c → IsPlaceAt (complex_of c) y (place.Vertex k) → HasShare f s y
 vertex-share c k u f here by s y S p =
     let e = at-one (complex_of c).vertices k p.0 (vertex_of u) p.1 (image-read vertex_of c.vertices k u here) in
     let K = subst (λ (v : Vertex). Cone v.map s p.0.point) e (S.shows.cones k p.0 p.1) in
     by s y (cone-same (map_of u.map) s p.0.point y p.2 K)
 
 -- the labels close to a point of an edge are labels close to its lower end
-pub edge-share : (f : Share) (s : Set) (C : Complex) → Shows s C → (k : ℕ) (e : Edge) (v w : Vertex) (y : Place) → At C.edges k e → HasEnds C e v w → IsBetween v.point y w.point
+pub edge-share : (f : Share) (s : Set) (C : Complex) → Shows s C → (k : ℕ) (e : Edge) (v w : Vertex) (y : SpacePoint) → IsAt C.edges k e → HasEnds C e v w → IsBetween v.point y w.point
     → HasShare f s v.point → HasShare f s y
 edge-share f s C S k e v w y a H b F = record { mark = λ l h. along zero_vector l ((Germ-zero s y zero_vector l (refl, refl, refl)).1 h); germs = λ d l _ g. along d l g }
   where
@@ -24,7 +24,7 @@ edge-share f s C S k e v w y a H b F = record { mark = λ l h. along zero_vector
         F.germs x l (label-direction v.map x l h) (label-germ v.map s v.point (S.cones e.low v H.low) x l h)
 
 -- close to a point of a facet are the labels of its item alone
-corner-share : (f : Share) (s : Set) (C : Complex) → Shows s C → (y : Place) (k : Corner) (v : Vertex) (x : Item) → HasCorner C y k → IsCorner C k v x
+corner-share : (f : Share) (s : Set) (C : Complex) → Shows s C → (y : SpacePoint) (k : Corner) (v : Vertex) (x : Item) → HasCorner C y k → IsCorner C k v x
     → InShare f (item_pos x) → InShare f (item_mark x) → InShare f (item_neg x) → HasShare f s y
 corner-share f s C S y k v x H c above on below =
     let g = corner-labels s C S y k v x H c in
@@ -38,7 +38,7 @@ corner-share f s C S y k v x H c above on below =
     by nought = on
     by minus = below
 
-module _ (s : Set) (C : Complex) (S : Shows s C) (y : Place) (k : Corner) (v : Vertex) (x : Item) (H : HasCorner C y k) (c : IsCorner C k v x) where
+module _ (s : Set) (C : Complex) (S : Shows s C) (y : SpacePoint) (k : Corner) (v : Vertex) (x : Item) (H : HasCorner C y k) (c : IsCorner C k v x) where
   pub corner-nothing : ItemLacks In x → HasShare Nothing s y
   corner-nothing L = corner-share Nothing s C S y k v x H c L.pos L.mark L.neg
 
@@ -46,7 +46,7 @@ module _ (s : Set) (C : Complex) (S : Shows s C) (y : Place) (k : Corner) (v : V
   corner-everything L = corner-share Everything s C S y k v x H c L.pos L.mark L.neg
 
 -- where all directions are flat there is one label
-pub flat-share : (f : Share) (s : Set) (y : Place) (l : Label) → HasLabel s y l → FlatDim s y 3 → InShare f l → HasShare f s y
+pub flat-share : (f : Share) (s : Set) (y : SpacePoint) (l : Label) → HasLabel s y l → FlatDim s y 3 → InShare f l → HasShare f s y
 flat-share f s y l h flat i = record {
   mark = λ k g. subst (InShare f) (label-one s y l k h g) i;
   germs = λ d k _ g.

@@ -1,7 +1,7 @@
 -- The share of the frame that a set holds close to a point, what is known of a point in a complex, and which map is
 -- that of a combination at a point.
 use Rattle.std.specs.Prelude.{◌≡◌}
-use Rattle.nef_complex.specs.Prelude.{Bool, true, false, Some, HasLabel, Germ, Place, Set, Vector, IsDirection, Label, Out, Not, In, Cone, complex_of}
+use Rattle.nef_complex.specs.Prelude.{Bool, true, false, Some, HasLabel, Germ, SpacePoint, Set, Vector, IsDirection, Label, Out, Not, In, Cone, complex_of}
 use Rattle.law_near.specs.Cones.{label_not}
 use Rattle.nef_smap.specs.declared.map.SVertex.{SVertex}
 use Rattle.nef_cand.specs.declared.named.Operand.{Operand}
@@ -10,8 +10,8 @@ use Rattle.law_sphere.specs.Maps.{Map, MapLabel, Item, item_pos, item_mark, item
 use Rattle.nef_star.specs.Ops.{op_label}
 use Rattle.nef_ops.specs.declared.share.Share.{Share}
 use Rattle.nef_ops.specs.declared.share.Share.TheVariants.{Nothing, Everything, Part}
-use Rattle.nef_ops.specs.declared.local.Choice.{Choice}
-use Rattle.nef_ops.specs.declared.local.Choice.TheVariants.{One, Both}
+use Rattle.nef_ops.specs.declared.local.MapChoice.{MapChoice}
+use Rattle.nef_ops.specs.declared.local.MapChoice.TheVariants.{One, Both}
 use Rattle.nef_complex.specs.declared.complex.Complex.{Complex}
 use Rattle.nef_locate.specs.Places.{IsPlaceIn, IsPlaceAt}
 use Rattle.nef_ops.specs.declared.local.Finding.{Finding}
@@ -20,7 +20,7 @@ use Rattle.nef_ops.specs.Far.{IsUniformIn}
 
 -- ---- labels that a map doesn't have
 -- neither the point nor a direction has the label
-pub record Lacks (l : Label) (M : Map) : Type 0 where
+pub record LacksLabel (l : Label) (M : Map) : Type 0 where
   pub mark : M.mark ≡ l → ⊥
   pub directions : (d : Vector) → MapLabel M d l → ⊥
 
@@ -42,21 +42,21 @@ InShare Everything l = l ≡ Not → ⊥
 InShare Part l = Unit {0}
 
 -- the set has this share of the frame close to p, by the labels of the point and of all directions
-pub record HasShare (f : Share) (s : Set) (p : Place) : Type 0 where
+pub record HasShare (f : Share) (s : Set) (p : SpacePoint) : Type 0 where
   pub mark : (l : Label) → HasLabel s p l → InShare f l
   pub germs : (d : Vector) (l : Label) → IsDirection d → Germ s p d l → InShare f l
 
 -- labels of two sets at one point: both are Out or neither is
-abbrev pub AreAlike : Label → Label → Type 0
-AreAlike Out Out = Unit {0}
-AreAlike Out Not = ⊥
-AreAlike Out In = ⊥
-AreAlike Not Out = ⊥
-AreAlike Not Not = Unit {0}
-AreAlike Not In = Unit {0}
-AreAlike In Out = ⊥
-AreAlike In Not = Unit {0}
-AreAlike In In = Unit {0}
+abbrev pub AgreeOnOut : Label → Label → Type 0
+AgreeOnOut Out Out = Unit {0}
+AgreeOnOut Out Not = ⊥
+AgreeOnOut Out In = ⊥
+AgreeOnOut Not Out = ⊥
+AgreeOnOut Not Not = Unit {0}
+AgreeOnOut Not In = Unit {0}
+AgreeOnOut In Out = ⊥
+AgreeOnOut In Not = Unit {0}
+AgreeOnOut In In = Unit {0}
 
 -- ---- choices
 -- of two values, one for each operand, that of this operand
@@ -65,32 +65,32 @@ either_of First x y = x
 either_of Second x y = y
 
 -- the label, or, if turned, the label in the complement
-abbrev pub turned_label : Bool → Label → Label
-turned_label false l = l
-turned_label true l = label_not l
+abbrev pub complement_label_if : Bool → Label → Label
+complement_label_if false l = l
+complement_label_if true l = label_not l
 
 -- the set, or, if turned, its complement
-abbrev pub turned_set : Bool → Set → Set
-turned_set false s = s
-turned_set true s = Set.other s
+abbrev pub complement_if : Bool → Set → Set
+complement_if false s = s
+complement_if true s = Set.other s
 
 -- the chosen map has the operation's label of k and l; Both isn't looked at
-abbrev pub Makes : Choice → Op → Label → Label → Type 0
-Makes (One o turned) op k l = op_label op k l ≡ turned_label turned (either_of o k l)
-Makes Both op k l = Unit {0}
+abbrev pub GivesLabel : MapChoice → Op → Label → Label → Type 0
+GivesLabel (One o turned) op k l = op_label op k l ≡ complement_label_if turned (either_of o k l)
+GivesLabel Both op k l = Unit {0}
 
 -- the choice gives the operation's labels wherever two sets have these shares
-abbrev pub Leads : Choice → Op → Share → Share → Type 0
-Leads w op f g = (k l : Label) → AreAlike k l → InShare f k → InShare g l → Makes w op k l
+abbrev pub IsRightChoice : MapChoice → Op → Share → Share → Type 0
+IsRightChoice w op f g = (k l : Label) → AgreeOnOut k l → InShare f k → InShare g l → GivesLabel w op k l
 
 -- the choice gives the operation's labels for some two shares that s and t have at p
-abbrev pub LeadsAt : Choice → Op → Set → Set → Place → Type 0
-LeadsAt w op s t p = (f : Share) × (g : Share) × HasShare f s p × HasShare g t p × Leads w op f g
+abbrev pub LeadsAt : MapChoice → Op → Set → Set → SpacePoint → Type 0
+LeadsAt w op s t p = (f : Share) × (g : Share) × HasShare f s p × HasShare g t p × IsRightChoice w op f g
 
 -- m is the least map of the combination of any two sets that the first two maps show
-pub record IsCombined (op : Op) (first second m : SphereMap) : Type 0 where
+pub record IsCombinedMap (op : Op) (first second m : SphereMap) : Type 0 where
   pub least : IsLeastMap m
-  pub cone : (s t : Set) (p : Place) → Cone (map_of first) s p → Cone (map_of second) t p → Cone (map_of m) (op_set op s t) p
+  pub cone : (s t : Set) (p : SpacePoint) → Cone (map_of first) s p → Cone (map_of second) t p → Cone (map_of m) (op_set op s t) p
 
 -- the complex has the place, if the finding is a place
 abbrev pub IsFindingIn : Complex → Finding → Type 0
@@ -98,6 +98,6 @@ IsFindingIn c (At place) = IsPlaceIn (complex_of c) place
 IsFindingIn c (Far label) = Unit {0}
 
 -- the point lies at the place, or has the label with all points close to it
-abbrev pub IsFoundAt : Complex → Place → Finding → Type 0
+abbrev pub IsFoundAt : Complex → SpacePoint → Finding → Type 0
 IsFoundAt c y (At place) = IsPlaceAt (complex_of c) y place
 IsFoundAt c y (Far label) = IsUniformIn c y label

@@ -1,7 +1,7 @@
 //! What a combination of two complexes has at a point.
 
 ghost use Rattle.std.specs.Prelude.{◌≡◌};
-ghost use Rattle.nef_complex.specs.Prelude.{List as Sequence, length, map, IfOk, IfSome, IsTrue, IsVertexPoint, Place as PlainPlace, InClosedFrame, Set, Label as PlainLabel, place_of, Cone, complex_of, ShowsSet};
+ghost use Rattle.nef_complex.specs.Prelude.{List as Sequence, length, map, IfOk, IfSome, IsTrue, IsVertexPoint, SpacePoint, InClosedFrame, Set, Label as PlainLabel, point_of, Cone, complex_of, ShowsSet};
 ghost use Rattle.nef_star.specs.Ops.{op_label};
 ghost use Rattle.nef_smap.specs.Maps.{map_of, IsLeastMap};
 ghost use Rattle.nef_stopo.specs.Sets.{op_set};
@@ -11,7 +11,7 @@ ghost use Rattle.nef_complex.specs.declared.complex.Vertex.{Vertex as ShownVerte
 ghost use Rattle.nef_cand.specs.Candidates.{AreFramed};
 ghost use Rattle.nef_cand.specs.Names.{operand_of, other_of, named_point, IsNameAt, IsNamed, AreNamed};
 ghost use Rattle.nef_locate.specs.Places.{IsPlaceIn, IsPlaceAt};
-ghost use Rattle.nef_ops.specs.Shares.{either_of, turned_set, IsCombined, HasShare, Leads, LeadsAt, IsFindingIn, IsFoundAt};
+ghost use Rattle.nef_ops.specs.Shares.{either_of, complement_if, IsCombinedMap, HasShare, IsRightChoice, LeadsAt, IsFindingIn, IsFoundAt};
 ghost use Rattle.nef_ops.specs.Far.{AreTold};
 ghost use Rattle.nef_ops.specs.Rights.{IsAsIn, IsRight, IsInput, movable, kept_outcome, IsOutcomeOf};
 ghost use Rattle.nef_result.specs.Outcomes.{of_operand, IsOutcomeAt};
@@ -19,7 +19,7 @@ ghost use Rattle.nef_result.specs.Outcomes.{of_operand, IsOutcomeAt};
 use crate::OutOfMemory;
 use crate::regions::{Regions, label_among};
 use crate::share::{Share, face_share, share_at, share_of};
-use nef_cand::{Name, Named, Operand};
+use nef_cand::{CandidateName, Named, Operand};
 use nef_complex::Complex;
 use nef_core::Job;
 use nef_geo::{Label, Point};
@@ -45,7 +45,7 @@ enum Finding {
 fn found_share(c: &Complex, found: &Finding, by_maps: bool) -> Share
     requires shows { (s : Set) × ShowsSet s c.now }
     requires has { IsFindingIn c.now found.now }
-    ensures share { (s : Set) (y : PlainPlace) → ShowsSet s c.now → IsFoundAt c.now y found.now → HasShare result s y }
+    ensures share { (s : Set) (y : SpacePoint) → ShowsSet s c.now → IsFoundAt c.now y found.now → HasShare result s y }
 {
     match *found {
         Finding::At(place) => share_at(c, &place, by_maps),
@@ -59,7 +59,7 @@ fn found_map(alloc: Global, c: &Complex, found: &Finding) -> Result<SphereMap, O
     requires shows { (s : Set) × ShowsSet s c.now }
     requires has { IsFindingIn c.now found.now }
     ensures least { IfOk result IsLeastMap }
-    ensures cone { IfOk result (λ m. (s : Set) (y : PlainPlace) → ShowsSet s c.now → IsFoundAt c.now y found.now → Cone (map_of m) s y) }
+    ensures cone { IfOk result (λ m. (s : Set) (y : SpacePoint) → ShowsSet s c.now → IsFoundAt c.now y found.now → Cone (map_of m) s y) }
 {
     match *found {
         Finding::At(place) => place_map(alloc, c, &place),
@@ -69,7 +69,7 @@ fn found_map(alloc: Global, c: &Complex, found: &Finding) -> Result<SphereMap, O
 
 // The number of the vertex, where the place is a vertex.
 fn vertex_number(place: &Place) -> Option<usize>
-    ensures vertex { (C : PlainComplex) (y : PlainPlace) → IsPlaceAt C y place.now → IfSome result (λ k. IsVertexPoint C k y) }
+    ensures vertex { (C : PlainComplex) (y : SpacePoint) → IsPlaceAt C y place.now → IfSome result (λ k. IsVertexPoint C k y) }
 {
     match *place {
         Place::Vertex(number) => Some(number),
@@ -81,7 +81,7 @@ fn vertex_number(place: &Place) -> Option<usize>
 
 // The number of the vertex, where a vertex was found.
 fn found_vertex(found: &Finding) -> Option<usize>
-    ensures vertex { (c : ShownComplex) (y : PlainPlace) → IsFoundAt c y found.now → IfSome result (λ k. IsVertexPoint (complex_of c) k y) }
+    ensures vertex { (c : ShownComplex) (y : SpacePoint) → IsFoundAt c y found.now → IfSome result (λ k. IsVertexPoint (complex_of c) k y) }
 {
     match *found {
         Finding::At(place) => vertex_number(&place),
@@ -104,7 +104,7 @@ fn kept(operand: Operand, number: usize, turned: bool) -> Outcome
 fn turned_if(map: SphereMap, turned: bool) -> SphereMap
     requires least { IsLeastMap map }
     ensures least { IsLeastMap result }
-    ensures cone { (s : Set) (y : PlainPlace) → Cone (map_of map) s y → Cone (map_of result) (turned_set turned s) y }
+    ensures cone { (s : Set) (y : SpacePoint) → Cone (map_of map) s y → Cone (map_of result) (complement_if turned s) y }
 {
     if turned { exchanged(map) } else { map }
 }
@@ -120,7 +120,7 @@ fn one_outcome(
 ) -> Result<Outcome, OutOfMemory>
     requires shows { (s : Set) × ShowsSet s input.now.complex.now }
     requires has { IsFindingIn input.now.complex.now found.now }
-    ensures outcome { IfOk result (λ o. (us vs : Sequence ShownVertex) (r s : Set) (y : PlainPlace) → of_operand operand us vs ≡ movable input.now → ShowsSet s input.now.complex.now → IsFoundAt input.now.complex.now y found.now → IsAsIn (turned_set turned s) r y → IsOutcomeAt us vs r y o) }
+    ensures outcome { IfOk result (λ o. (us vs : Sequence ShownVertex) (r s : Set) (y : SpacePoint) → of_operand operand us vs ≡ movable input.now → ShowsSet s input.now.complex.now → IsFoundAt input.now.complex.now y found.now → IsAsIn (complement_if turned s) r y → IsOutcomeAt us vs r y o) }
 {
     if input.is_own {
         if let Some(number) = found_vertex(found) {
@@ -132,15 +132,15 @@ fn one_outcome(
 }
 
 // The vertex or edge in the name, with its operand, and the place in the other operand if the name has one.
-fn told_places(name: &Name) -> (Operand, Place, Option<Place>)
-    ensures place { (C D : PlainComplex) (y : PlainPlace) → IsNameAt C D y name.now → IsPlaceIn (operand_of result.0 C D) result.1 }
-    ensures at { (C D : PlainComplex) (y : PlainPlace) → IsNameAt C D y name.now → IsPlaceAt (operand_of result.0 C D) y result.1 }
-    ensures across { (C D : PlainComplex) (y : PlainPlace) → IsNameAt C D y name.now → IfSome result.2 (λ a. IsPlaceIn (other_of result.0 C D) a × IsPlaceAt (other_of result.0 C D) y a) }
+fn told_places(name: &CandidateName) -> (Operand, Place, Option<Place>)
+    ensures place { (C D : PlainComplex) (y : SpacePoint) → IsNameAt C D y name.now → IsPlaceIn (operand_of result.0 C D) result.1 }
+    ensures at { (C D : PlainComplex) (y : SpacePoint) → IsNameAt C D y name.now → IsPlaceAt (operand_of result.0 C D) y result.1 }
+    ensures across { (C D : PlainComplex) (y : SpacePoint) → IsNameAt C D y name.now → IfSome result.2 (λ a. IsPlaceIn (other_of result.0 C D) a × IsPlaceAt (other_of result.0 C D) y a) }
 {
     match *name {
-        Name::Vertex(operand, number) => (operand, Place::Vertex(number), None),
-        Name::Edge(operand, number) => (operand, Place::OnEdge(number), None),
-        Name::Cut(operand, number, place) => (operand, Place::OnEdge(number), Some(place)),
+        CandidateName::Vertex(operand, number) => (operand, Place::Vertex(number), None),
+        CandidateName::Edge(operand, number) => (operand, Place::OnEdge(number), None),
+        CandidateName::Cut(operand, number, place) => (operand, Place::OnEdge(number), Some(place)),
     }
 }
 
@@ -148,10 +148,10 @@ fn told_places(name: &Name) -> (Operand, Place, Option<Place>)
 // other operand alone and no region tells its label.
 fn finding_in(input: &Input, own: Operand, candidate: &Named) -> Finding
     requires input { IsInput input.now }
-    requires framed { InClosedFrame (place_of candidate.now.point) }
+    requires framed { InClosedFrame (point_of candidate.now.point) }
     requires named { (C D : PlainComplex) × (operand_of own C D ≡ complex_of input.now.complex.now) × IsNamed C D candidate.now }
     ensures has { IsFindingIn input.now.complex.now result }
-    ensures found { IsFoundAt input.now.complex.now (place_of candidate.now.point) result }
+    ensures found { IsFoundAt input.now.complex.now (point_of candidate.now.point) result }
 {
     let (operand, place, across) = told_places(&candidate.name);
     if operand == own {
@@ -169,7 +169,7 @@ fn finding_in(input: &Input, own: Operand, candidate: &Named) -> Finding
 
 // What the set holds of the frame close to the point, where a region tells the point's label.
 fn far_share(far: &Regions, point: &Point) -> Share
-    ensures share { (c : ShownComplex) (s : Set) → AreTold c far.now → ShowsSet s c → HasShare result s (place_of point.now) }
+    ensures share { (c : ShownComplex) (s : Set) → AreTold c far.now → ShowsSet s c → HasShare result s (point_of point.now) }
 {
     match label_among(far, point) {
         Some(label) => face_share(label),
@@ -179,7 +179,7 @@ fn far_share(far: &Regions, point: &Point) -> Share
 
 // Which map a combination has at a point.
 #[derive(Clone, Copy, PartialEq, Eq)]
-enum Choice {
+enum MapChoice {
     /// The map of this set, or of its complement if the flag is true.
     One(Operand, bool),
     /// A map with parts of both sets.
@@ -187,27 +187,27 @@ enum Choice {
 }
 
 // Which map the operation's combination has at a point, where the two sets hold these shares of the frame.
-fn choice_of(op: Op, first: Share, second: Share) -> Choice
-    ensures leads { Leads result op first second }
+fn choice_of(op: Op, first: Share, second: Share) -> MapChoice
+    ensures leads { IsRightChoice result op first second }
 {
     match (op, first, second) {
-        (Op::And, Share::Nothing, _) => Choice::One(Operand::First, false),
-        (Op::And, _, Share::Nothing) => Choice::One(Operand::Second, false),
-        (Op::And, Share::Everything, _) => Choice::One(Operand::Second, false),
-        (Op::And, _, Share::Everything) => Choice::One(Operand::First, false),
-        (Op::Or, Share::Nothing, _) => Choice::One(Operand::Second, false),
-        (Op::Or, _, Share::Nothing) => Choice::One(Operand::First, false),
-        (Op::Or, Share::Everything, _) => Choice::One(Operand::First, false),
-        (Op::Or, _, Share::Everything) => Choice::One(Operand::Second, false),
-        (Op::Diff, Share::Nothing, _) => Choice::One(Operand::First, false),
-        (Op::Diff, _, Share::Nothing) => Choice::One(Operand::First, false),
-        (Op::Diff, Share::Everything, _) => Choice::One(Operand::Second, true),
-        (Op::Diff, _, Share::Everything) => Choice::One(Operand::Second, true),
-        (Op::Xor, Share::Nothing, _) => Choice::One(Operand::Second, false),
-        (Op::Xor, _, Share::Nothing) => Choice::One(Operand::First, false),
-        (Op::Xor, Share::Everything, _) => Choice::One(Operand::Second, true),
-        (Op::Xor, _, Share::Everything) => Choice::One(Operand::First, true),
-        (_, Share::Part, Share::Part) => Choice::Both,
+        (Op::And, Share::Nothing, _) => MapChoice::One(Operand::First, false),
+        (Op::And, _, Share::Nothing) => MapChoice::One(Operand::Second, false),
+        (Op::And, Share::Everything, _) => MapChoice::One(Operand::Second, false),
+        (Op::And, _, Share::Everything) => MapChoice::One(Operand::First, false),
+        (Op::Or, Share::Nothing, _) => MapChoice::One(Operand::Second, false),
+        (Op::Or, _, Share::Nothing) => MapChoice::One(Operand::First, false),
+        (Op::Or, Share::Everything, _) => MapChoice::One(Operand::First, false),
+        (Op::Or, _, Share::Everything) => MapChoice::One(Operand::Second, false),
+        (Op::Diff, Share::Nothing, _) => MapChoice::One(Operand::First, false),
+        (Op::Diff, _, Share::Nothing) => MapChoice::One(Operand::First, false),
+        (Op::Diff, Share::Everything, _) => MapChoice::One(Operand::Second, true),
+        (Op::Diff, _, Share::Everything) => MapChoice::One(Operand::Second, true),
+        (Op::Xor, Share::Nothing, _) => MapChoice::One(Operand::Second, false),
+        (Op::Xor, _, Share::Nothing) => MapChoice::One(Operand::First, false),
+        (Op::Xor, Share::Everything, _) => MapChoice::One(Operand::Second, true),
+        (Op::Xor, _, Share::Everything) => MapChoice::One(Operand::First, true),
+        (_, Share::Part, Share::Part) => MapChoice::Both,
     }
 }
 
@@ -231,14 +231,14 @@ fn merged(
 ) -> Result<SphereMap, OutOfMemory>
     requires first { IsLeastMap first }
     requires second { IsLeastMap second }
-    ensures combined { IfOk result (IsCombined op first second) }
+    ensures combined { IfOk result (IsCombinedMap op first second) }
 {
     match choice_of(op, share_of(&first), share_of(&second)) {
-        Choice::One(operand, turned) => match operand {
+        MapChoice::One(operand, turned) => match operand {
             Operand::First => Ok(turned_if(first, turned)),
             Operand::Second => Ok(turned_if(second, turned)),
         },
-        Choice::Both => {
+        MapChoice::Both => {
             if keeps_equals(op) && same_map(&first, &second) {
                 Ok(first)
             } else {
@@ -278,17 +278,17 @@ pub(crate) struct BinaryJob<'a> {
 impl<'a> BinaryJob<'a> {
     // Which map the combination has at a point, by what is found of the point in the two operands. Labels mostly
     // decide, and cost less to look at than the map of a vertex.
-    fn choice(&self, first: &Finding, second: &Finding) -> Choice
+    fn choice(&self, first: &Finding, second: &Finding) -> MapChoice
         requires first { IsInput self.now.first }
         requires second { IsInput self.now.second }
         requires has_first { IsFindingIn self.now.first.complex.now first.now }
         requires has_second { IsFindingIn self.now.second.complex.now second.now }
-        ensures leads { (s t : Set) (y : PlainPlace) → ShowsSet s self.now.first.complex.now → ShowsSet t self.now.second.complex.now → IsFoundAt self.now.first.complex.now y first.now → IsFoundAt self.now.second.complex.now y second.now → LeadsAt result self.now.op s t y }
+        ensures leads { (s t : Set) (y : SpacePoint) → ShowsSet s self.now.first.complex.now → ShowsSet t self.now.second.complex.now → IsFoundAt self.now.first.complex.now y first.now → IsFoundAt self.now.second.complex.now y second.now → LeadsAt result self.now.op s t y }
     {
         let first_told = found_share(self.first.complex, first, false);
         let second_told = found_share(self.second.complex, second, false);
         let told = choice_of(self.op, first_told, second_told);
-        if told != Choice::Both {
+        if told != MapChoice::Both {
             return told;
         }
         let first_share = found_share(self.first.complex, first, true);
@@ -300,8 +300,8 @@ impl<'a> BinaryJob<'a> {
     fn told_outcome(&self, operand: Operand, number: usize, point: &Point) -> Option<Outcome>
         requires first { IsInput self.now.first }
         requires second { IsInput self.now.second }
-        requires vertex { IsVertexPoint (operand_of operand (complex_of self.now.first.complex.now) (complex_of self.now.second.complex.now)) number (place_of point.now) }
-        ensures outcome { IfSome result (IsOutcomeOf self.now.op self.now.first self.now.second (place_of point.now)) }
+        requires vertex { IsVertexPoint (operand_of operand (complex_of self.now.first.complex.now) (complex_of self.now.second.complex.now)) number (point_of point.now) }
+        ensures outcome { IfSome result (IsOutcomeOf self.now.op self.now.first self.now.second (point_of point.now)) }
     {
         if !either_of(operand, &self.first, &self.second).is_own {
             return None;
@@ -311,14 +311,14 @@ impl<'a> BinaryJob<'a> {
         let first = *either_of(operand, &part, &share);
         let second = *either_of(operand, &share, &part);
         match choice_of(self.op, first, second) {
-            Choice::One(chosen, turned) => {
+            MapChoice::One(chosen, turned) => {
                 if chosen == operand {
                     Some(kept(operand, number, turned))
                 } else {
                     None
                 }
             }
-            Choice::Both => None,
+            MapChoice::Both => None,
         }
     }
 
@@ -326,11 +326,11 @@ impl<'a> BinaryJob<'a> {
     fn outcome_at(&self, alloc: Global, candidate: &Named) -> Result<Outcome, OutOfMemory>
         requires first { IsInput self.now.first }
         requires second { IsInput self.now.second }
-        requires framed { InClosedFrame (place_of candidate.now.point) }
+        requires framed { InClosedFrame (point_of candidate.now.point) }
         requires named { IsNamed (complex_of self.now.first.complex.now) (complex_of self.now.second.complex.now) candidate.now }
-        ensures outcome { IfOk result (IsOutcomeOf self.now.op self.now.first self.now.second (place_of candidate.now.point)) }
+        ensures outcome { IfOk result (IsOutcomeOf self.now.op self.now.first self.now.second (point_of candidate.now.point)) }
     {
-        if let Name::Vertex(operand, number) = candidate.name {
+        if let CandidateName::Vertex(operand, number) = candidate.name {
             if let Some(outcome) = self.told_outcome(operand, number, &candidate.point) {
                 return Ok(outcome);
             }
@@ -343,14 +343,14 @@ impl<'a> BinaryJob<'a> {
     fn found_outcome(&self, alloc: Global, candidate: &Named) -> Result<Outcome, OutOfMemory>
         requires first { IsInput self.now.first }
         requires second { IsInput self.now.second }
-        requires framed { InClosedFrame (place_of candidate.now.point) }
+        requires framed { InClosedFrame (point_of candidate.now.point) }
         requires named { IsNamed (complex_of self.now.first.complex.now) (complex_of self.now.second.complex.now) candidate.now }
-        ensures outcome { IfOk result (IsOutcomeOf self.now.op self.now.first self.now.second (place_of candidate.now.point)) }
+        ensures outcome { IfOk result (IsOutcomeOf self.now.op self.now.first self.now.second (point_of candidate.now.point)) }
     {
         let first = finding_in(&self.first, Operand::First, candidate);
         let second = finding_in(&self.second, Operand::Second, candidate);
         match self.choice(&first, &second) {
-            Choice::One(operand, turned) => match operand {
+            MapChoice::One(operand, turned) => match operand {
                 Operand::First => one_outcome(alloc, &self.first, Operand::First, &first, turned),
                 Operand::Second => one_outcome(
                     alloc,
@@ -360,7 +360,7 @@ impl<'a> BinaryJob<'a> {
                     turned,
                 ),
             },
-            Choice::Both => {
+            MapChoice::Both => {
                 let map = found_map(alloc, self.first.complex, &first)?;
                 let other = found_map(alloc, self.second.complex, &second)?;
                 let both = merged(alloc, map, other, self.op)?;
@@ -372,12 +372,12 @@ impl<'a> BinaryJob<'a> {
     // Whether one look tells the outcome: the candidate is an operand's vertex, in a labelled region of the other.
     fn is_told(&self, candidate: &Named) -> bool {
         match candidate.name {
-            Name::Vertex(operand, _) => {
+            CandidateName::Vertex(operand, _) => {
                 let far = either_of(operand, &self.second, &self.first).far;
                 label_among(far, &candidate.point).is_some()
             }
-            Name::Edge(_, _) => false,
-            Name::Cut(_, _, _) => false,
+            CandidateName::Edge(_, _) => false,
+            CandidateName::Cut(_, _, _) => false,
         }
     }
 

@@ -2,7 +2,7 @@
 //! regularisation of a set, and combinations of two.
 
 ghost use Rattle.std.specs.Prelude.{◌≡◌, ◌+◌, ◌-◌, ◌^◌};
-ghost use Rattle.nef_complex.specs.Prelude.{[], length, min, IfOk, Set, given_form, ShowsSet, Place, Cone};
+ghost use Rattle.nef_complex.specs.Prelude.{[], length, min, IfOk, Set, given_form, ShowsSet, SpacePoint, Cone};
 ghost use Rattle.nef_cand.specs.Candidates.{AreFramed};
 ghost use Rattle.nef_ops.specs.Nodes.{constant_set, unary_set};
 ghost use Rattle.nef_ops.specs.Rights.{IsRight};
@@ -141,7 +141,7 @@ pub enum UnaryOp {
 fn changed(alloc: Global, map: &SphereMap, op: UnaryOp) -> Result<SphereMap, OutOfMemory>
     requires map { IsSphereMap map.now }
     ensures least { IfOk result IsLeastMap }
-    ensures cone { IfOk result (λ m. (s : Set) (p : Place) → Cone (map_of map.now) s p → Cone (map_of m) (unary_set op s) p) }
+    ensures cone { IfOk result (λ m. (s : Set) (p : SpacePoint) → Cone (map_of map.now) s p → Cone (map_of m) (unary_set op s) p) }
 {
     match op {
         UnaryOp::Not => complement(alloc, map),

@@ -1,11 +1,11 @@
 //! Regions of the frame far from a set's skeleton, in each of which the set has one label.
 
 ghost use Rattle.std.specs.Prelude.{◌≡◌, ◌≤◌, ◌<◌, ◌↔◌, ◌⊎◌, [], pos};
-ghost use Rattle.nef_complex.specs.Prelude.{ℕ, length, IfSome, IsNone, IsTrue, InFrame, Set, Place, place_of, Point as PlainPoint, At, coordinate_of, IsInSpan, ShowsSet};
+ghost use Rattle.nef_complex.specs.Prelude.{ℕ, length, IfSome, IsNone, IsTrue, InFrame, Set, SpacePoint, point_of, Point as PlainPoint, IsAt, coordinate_of, IsInSpan, ShowsSet};
 ghost use Rattle.nef_complex.specs.declared.complex.Complex.{Complex as ShownComplex};
 ghost use Rattle.nef_index.specs.declared.spans.Span.{Span as ShownSpan};
 ghost use Rattle.nef_ops.specs.declared.regions.Region.{Region as PlainRegion};
-ghost use Rattle.nef_ops.specs.Far.{axis_coordinate, HoldsSkeleton, IsPast, IsPastEnd, IsWithinEnd, AreHeld, IsFar, IsUniformIn, AreTold, IsTold, many_points};
+ghost use Rattle.nef_ops.specs.Far.{axis_coordinate, HoldsSkeleton, IsPast, IsPastEnd, IsWithinEnd, AreHeldBySpan, IsFar, IsUniformIn, AreTold, IsTold, many_points};
 
 use nef_cand::misses_frame;
 use nef_complex::{Complex, Span, carrier_spans};
@@ -25,22 +25,22 @@ enum Axis {
 
 /// Past which end of a span: below its low end or above its high end.
 #[derive(Clone, Copy)]
-enum Way {
+enum SpanEnd {
     Below,
     Above,
 }
 
 /// A side of a span: past it lie the points whose coordinate along `axis` is strictly below, or above, `end`.
 #[derive(Clone, Copy)]
-struct Side {
+struct SpanSide {
     axis: Axis,
-    way: Way,
+    way: SpanEnd,
     end: i64,
 }
 
 // The number of the point for this axis, which is its coordinate times its weight.
 fn coordinate(point: &Point, axis: Axis) -> i64
-    ensures coordinate { result ≡ coordinate_of (axis_coordinate axis) (place_of point.now) }
+    ensures coordinate { result ≡ coordinate_of (axis_coordinate axis) (point_of point.now) }
 {
     match axis {
         Axis::X => point.x(),
@@ -50,19 +50,19 @@ fn coordinate(point: &Point, axis: Axis) -> i64
 }
 
 // Whether n/w lies strictly past the end.
-fn is_past(way: Way, end: i64, n: i64, w: i64) -> bool
+fn is_past(way: SpanEnd, end: i64, n: i64, w: i64) -> bool
     ensures past { IsTrue result ↔ IsPastEnd way end n w }
 {
     match way {
-        Way::Below => (n as i128) < wide_product(end, w),
-        Way::Above => wide_product(end, w) < n as i128,
+        SpanEnd::Below => (n as i128) < wide_product(end, w),
+        SpanEnd::Above => wide_product(end, w) < n as i128,
     }
 }
 
-impl Side {
+impl SpanSide {
     // Whether the point lies strictly past the side.
     fn has(&self, point: &Point) -> bool
-        ensures past { IsTrue result ↔ IsPast self.now (place_of point.now) }
+        ensures past { IsTrue result ↔ IsPast self.now (point_of point.now) }
     {
         is_past(self.way, self.end, coordinate(point, self.axis), point.w())
     }
@@ -87,7 +87,7 @@ pub(crate) fn core_span(c: &Complex) -> Span
 /// The points of the open frame past a side of a span, and the set's label at these points, if the label is known.
 #[derive(Clone, Copy)]
 pub(crate) struct Region {
-    side: Side,
+    side: SpanSide,
     label: Option<Label>,
 }
 
@@ -95,16 +95,16 @@ pub(crate) struct Region {
 pub(crate) type Regions = [Region; 6];
 
 // The low end of a span along an axis, or the high end.
-fn end_of(span: &Span, axis: Axis, way: Way) -> i64
-    ensures end { (p : Place) → IsInSpan span.now p → IsWithinEnd way result (coordinate_of (axis_coordinate axis) p) (pos p.w) }
+fn end_of(span: &Span, axis: Axis, way: SpanEnd) -> i64
+    ensures end { (p : SpacePoint) → IsInSpan span.now p → IsWithinEnd way result (coordinate_of (axis_coordinate axis) p) (pos p.w) }
 {
     match (axis, way) {
-        (Axis::X, Way::Below) => span.x.low,
-        (Axis::X, Way::Above) => span.x.high,
-        (Axis::Y, Way::Below) => span.y.low,
-        (Axis::Y, Way::Above) => span.y.high,
-        (Axis::Z, Way::Below) => span.z.low,
-        (Axis::Z, Way::Above) => span.z.high,
+        (Axis::X, SpanEnd::Below) => span.x.low,
+        (Axis::X, SpanEnd::Above) => span.x.high,
+        (Axis::Y, SpanEnd::Below) => span.y.low,
+        (Axis::Y, SpanEnd::Above) => span.y.high,
+        (Axis::Z, SpanEnd::Below) => span.z.low,
+        (Axis::Z, SpanEnd::Above) => span.z.high,
     }
 }
 
@@ -113,19 +113,19 @@ fn end_of(span: &Span, axis: Axis, way: Way) -> i64
 fn region_past(
     c: &Complex,
     axis: Axis,
-    way: Way,
+    way: SpanEnd,
     core: &Span,
     other: &Span,
     points: &[Point],
 ) -> Region
     requires shows { (s : Set) × ShowsSet s c.now }
     requires core { HoldsSkeleton c.now core.now }
-    requires held { AreHeld c.now other.now points.now }
+    requires held { AreHeldBySpan c.now other.now points.now }
     ensures told { IsTold c.now result }
-    ensures none { IsNone result.label → (k : ℕ) (p : PlainPoint) → At points.now k p → IsFar result.side (place_of p) → ⊥ }
+    ensures none { IsNone result.label → (k : ℕ) (p : PlainPoint) → IsAt points.now k p → IsFar result.side (point_of p) → ⊥ }
 {
     let end = end_of(core, axis, way);
-    let side = Side { axis, way, end };
+    let side = SpanSide { axis, way, end };
     if !is_past(way, end, end_of(other, axis, way), 1) {
         return Region { side, label: None };
     }
@@ -144,9 +144,9 @@ fn region_past(
 impl Region {
     // The region's label, if the label is known and the point, which is a point of the open frame, lies in the region.
     fn label_at(&self, point: &Point) -> Option<Label>
-        requires framed { InFrame (place_of point.now) }
-        ensures told { (c : ShownComplex) → IsTold c self.now → IfSome result (IsUniformIn c (place_of point.now)) }
-        ensures none { IsNone result → IsFar self.now.side (place_of point.now) → IsNone self.now.label }
+        requires framed { InFrame (point_of point.now) }
+        ensures told { (c : ShownComplex) → IsTold c self.now → IfSome result (IsUniformIn c (point_of point.now)) }
+        ensures none { IsNone result → IsFar self.now.side (point_of point.now) → IsNone self.now.label }
     {
         if self.side.has(point) {
             self.label
@@ -158,7 +158,7 @@ impl Region {
 
 // The points that are looked at: all where there are many, and else none.
 fn asked_of(points: &[Point]) -> &[Point]
-    ensures held { (c : ShownComplex) (span : ShownSpan) → AreHeld c span points.now → AreHeld c span result.now }
+    ensures held { (c : ShownComplex) (span : ShownSpan) → AreHeldBySpan c span points.now → AreHeldBySpan c span result.now }
     ensures asked { (result.now ≡ points.now) ⊎ ((result.now ≡ []) × (length points.now < many_points)) }
 {
     if points.len() < MANY_POINTS {
@@ -173,25 +173,25 @@ fn asked_of(points: &[Point]) -> &[Point]
 pub(crate) fn regions_of(c: &Complex, core: &Span, other: &Span, points: &[Point]) -> Regions
     requires shows { (s : Set) × ShowsSet s c.now }
     requires core { HoldsSkeleton c.now core.now }
-    requires held { AreHeld c.now other.now points.now }
+    requires held { AreHeldBySpan c.now other.now points.now }
     ensures told { AreTold c.now result }
-    ensures many { many_points ≤ length points.now → (i k : ℕ) (r : PlainRegion) (p : PlainPoint) → At result i r → At points.now k p → IsFar r.side (place_of p) → IsNone r.label → ⊥ }
+    ensures many { many_points ≤ length points.now → (i k : ℕ) (r : PlainRegion) (p : PlainPoint) → IsAt result i r → IsAt points.now k p → IsFar r.side (point_of p) → IsNone r.label → ⊥ }
 {
     let asked = asked_of(points);
     [
-        region_past(c, Axis::X, Way::Below, core, other, asked),
-        region_past(c, Axis::X, Way::Above, core, other, asked),
-        region_past(c, Axis::Y, Way::Below, core, other, asked),
-        region_past(c, Axis::Y, Way::Above, core, other, asked),
-        region_past(c, Axis::Z, Way::Below, core, other, asked),
-        region_past(c, Axis::Z, Way::Above, core, other, asked),
+        region_past(c, Axis::X, SpanEnd::Below, core, other, asked),
+        region_past(c, Axis::X, SpanEnd::Above, core, other, asked),
+        region_past(c, Axis::Y, SpanEnd::Below, core, other, asked),
+        region_past(c, Axis::Y, SpanEnd::Above, core, other, asked),
+        region_past(c, Axis::Z, SpanEnd::Below, core, other, asked),
+        region_past(c, Axis::Z, SpanEnd::Above, core, other, asked),
     ]
 }
 
 /// The label of the set at the point and close to it, where a region that holds the point has a label.
 pub(crate) fn label_among(regions: &[Region], point: &Point) -> Option<Label>
-    ensures told { (c : ShownComplex) → AreTold c regions.now → IfSome result (IsUniformIn c (place_of point.now)) }
-    ensures none { IsNone result → (k : ℕ) (r : PlainRegion) → At regions.now k r → IsFar r.side (place_of point.now) → IsNone r.label }
+    ensures told { (c : ShownComplex) → AreTold c regions.now → IfSome result (IsUniformIn c (point_of point.now)) }
+    ensures none { IsNone result → (k : ℕ) (r : PlainRegion) → IsAt regions.now k r → IsFar r.side (point_of point.now) → IsNone r.label }
 {
     if !point.in_frame() {
         return None;

@@ -1,5 +1,5 @@
 -- Which expressions are alike: those of alike operands, and those that group the operands of a row in another way.
-use Rattle.nef_plan.proofs.Prelude.{◌≡◌, ℕ, refl, sym, ⊎_elim, List, ◌++◌, subst, append_assoc, ◌↔◌, HasLabel, SameSet, InFrame, Place, Form, Closure, Interior, Set, halves, Lies, Label, Out, Not, In, lies-left, lies-right, label_and, label_or, label_less, label_one_of, turned_set, AreAlike}
+use Rattle.nef_plan.proofs.Prelude.{◌≡◌, ℕ, refl, sym, ⊎_elim, List, ◌++◌, subst, append_assoc, ◌↔◌, HasLabel, SameSet, InFrame, SpacePoint, Form, Closure, Interior, Set, halves, Lies, Label, Out, Not, In, lies-left, lies-right, label_and, label_or, label_less, label_one_of, turned_set, AreAlike}
 use Rattle.nef_space.specs.Sets.{Holds}
 use Rattle.nef_space.proofs.Lists.{lies-append}
 use Rattle.law_near.proofs.Combine.{ByLabels, and-label, or-label, less-label, one_of-label}
@@ -25,7 +25,7 @@ alike-trans s t u a b = record {
 }
 
 -- ---- sets with one label at each point are the same
-one-label : (s t : Set) → ((p : Place) → (l : Label) × (m : Label) × HasLabel s p l × HasLabel t p m × (l ≡ m)) → SameSet s t
+one-label : (s t : Set) → ((p : SpacePoint) → (l : Label) × (m : Label) × HasLabel s p l × HasLabel t p m × (l ≡ m)) → SameSet s t
 one-label s t f p k =
     let (l, m, h, i, e) = f p in (
       λ j. subst (HasLabel t p) (label-one s p m k (subst (HasLabel s p) e h) j) i,
@@ -33,7 +33,7 @@ one-label s t f p k =
     )
 
 -- nothing is in the empty set, whose label tells the frame as that of any other set does
-empty-label : (a : Set) (p : Place) (l : Label) → HasLabel a p l → HasLabel Set.empty p (label_and l Not)
+empty-label : (a : Set) (p : SpacePoint) (l : Label) → HasLabel a p l → HasLabel Set.empty p (label_and l Not)
 unfolding Holds
 empty-label a p Out h = h
 empty-label a p Not h = (h.0, λ n. n)
@@ -86,19 +86,19 @@ pub less-alike : (a a' b b' : Set) → AreAlike a a' → AreAlike b b' → AreAl
 less-alike a a' b b' s t = record { same = same-node Set.less label_less less-label a a' b b' s.same t.same; planes = planes-both a a' b b' s t }
 
 -- ---- sets that hold at the same points of the frame are the same
-same-held : (s t : Set) → ((p : Place) → InFrame p → Holds s p ↔ Holds t p) → SameSet s t
+same-held : (s t : Set) → ((p : SpacePoint) → InFrame p → Holds s p ↔ Holds t p) → SameSet s t
 same-held s t h p Out = (λ i. i, λ i. i)
 same-held s t h p Not = (λ i. (i.0, λ k. i.1 ((h p i.0).1 k)), λ i. (i.0, λ k. i.1 ((h p i.0).0 k)))
 same-held s t h p In = (λ i. (i.0, (h p i.0).0 i.1), λ i. (i.0, (h p i.0).1 i.1))
 
 module _ (a c : Set) (f : AreAlike a c) where
-  held : (p : Place) → InFrame p → Holds a p ↔ Holds c p
+  held : (p : SpacePoint) → InFrame p → Holds a p ↔ Holds c p
   held p i = (λ k. ((f.same p In).0 (i, k)).1, λ k. ((f.same p In).1 (i, k)).1)
 
-  interior : (p : Place) → Interior (Holds a) p ↔ Interior (Holds c) p
+  interior : (p : SpacePoint) → Interior (Holds a) p ↔ Interior (Holds c) p
   interior p = (λ (n, some, h). (n, some, λ q i w. (held q i).0 (h q i w)), λ (n, some, h). (n, some, λ q i w. (held q i).1 (h q i w)))
 
-  closure : (p : Place) → Closure (Holds a) p ↔ Closure (Holds c) p
+  closure : (p : SpacePoint) → Closure (Holds a) p ↔ Closure (Holds c) p
   closure p = (
     λ h n some. let r = h n some in (r.0, r.1, r.2, (held r.0 r.1).0 r.3),
     λ h n some. let r = h n some in (r.0, r.1, r.2, (held r.0 r.1).1 r.3),

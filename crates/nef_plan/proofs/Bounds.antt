@@ -1,5 +1,5 @@
 -- What is known of the nodes, while it's told of one and the plan grows.
-use Rattle.nef_plan.proofs.Prelude.{◌≡◌, ◌∙◌, ℕ, ◌<◌, ap, refl, sym, subst, arith, ⊎_elim, List, ◌++◌, length, Option, None, Some, inl, inr, IfSome, slice_get, slice_set, cases_eq, slice_get_cases, slice_get_within, Set, node_set, Command, Drafts, Row, RowKind, Bound, No, Made, Deferred, ArePlanned, GoesOn, AddsOnly, HasGrown, IsBoundIn, IsFree, IsThere, Tells, combined, parts}
+use Rattle.nef_plan.proofs.Prelude.{◌≡◌, ◌∙◌, ℕ, ◌<◌, ap, refl, sym, subst, arith, ⊎_elim, List, ◌++◌, length, Option, None, Some, inl, inr, IfSome, slice_get, slice_set, cases_eq, slice_get_cases, slice_get_within, Set, node_set, Command, Drafts, Row, RowKind, Bound, No, Made, Deferred, ArePlanned, GoesOn, AddsOnly, HasGrown, IsBoundIn, IsFree, IsNodeKnown, Tells, combined, row_parts}
 use Rattle.std.specs.Prelude.{◌⊎◌}
 use Rattle.nef_core.proofs.Places.{get_set_here, get_set_other}
 use Rattle.nef_plan.proofs.Growth.{grown-trans, ready-grown}
@@ -9,7 +9,7 @@ use Rattle.nef_plan.proofs.Rows.{row-grown}
 tells-grown : (old new : Drafts) (l : List Command) (P : ℕ → Type 0) (k : ℕ) (b : Bound) → HasGrown old new l → AddsOnly old new P → (P k → ⊥) → Tells old k b → Tells new k b
 tells-grown old new l P k No h adds not tells = free-grown old new l P k h adds not tells
 tells-grown old new l P k Made h adds not tells = ready-grown old new l k h tells
-tells-grown old new l P k (Deferred row) h adds not tells = (free-grown old new l P k h adds not tells.0, row-grown old new l row.kind (parts row) k h tells.1)
+tells-grown old new l P k (Deferred row) h adds not tells = (free-grown old new l P k h adds not tells.0, row-grown old new l row.kind (row_parts row) k h tells.1)
 
 -- a plan that has grown, with something told of one node
 planned-set : (old new : Drafts) (l : List Command) (bounds : List Bound) (n : ℕ) (b : Bound) → ArePlanned old bounds → HasGrown old new l → AddsOnly old new (λ k. k ≡ n) → n < length bounds → Tells new n b → ArePlanned new (slice_set bounds n b)
@@ -27,10 +27,10 @@ planned-set old new l bounds n b are h adds within tells = record {
 planned-grown : (old new : Drafts) (l : List Command) (bounds : List Bound) → ArePlanned old bounds → HasGrown old new l → AddsOnly old new (λ k. ⊥) → ArePlanned new bounds
 planned-grown old new l bounds are h adds = record { steps = h.steps; told = λ k d at. tells-grown old new l (λ j. ⊥) k d h adds (λ none. none) (are.told k d at) }
 
-pub bound-here : (bounds : List Bound) (n : ℕ) (b : Bound) → n < length bounds → IsThere b → IsBoundIn (slice_set bounds n b) n
+pub bound-here : (bounds : List Bound) (n : ℕ) (b : Bound) → n < length bounds → IsNodeKnown b → IsBoundIn (slice_set bounds n b) n
 bound-here bounds n b within there = (b, get_set_here bounds n b within, there)
 
-pub bound-still : (bounds : List Bound) (n : ℕ) (b : Bound) → n < length bounds → IsThere b → (k : ℕ) → IsBoundIn bounds k → IsBoundIn (slice_set bounds n b) k
+pub bound-still : (bounds : List Bound) (n : ℕ) (b : Bound) → n < length bounds → IsNodeKnown b → (k : ℕ) → IsBoundIn bounds k → IsBoundIn (slice_set bounds n b) k
 bound-still bounds n b within there k (d, at, is) = elim (cases_eq k n) [
   | inl e ↦ subst (IsBoundIn (slice_set bounds n b)) (sym e) (bound-here bounds n b within there)
   | inr other ↦ (d, get_set_other bounds n k b other ∙ at, is)
@@ -49,7 +49,7 @@ bound-same bounds n b here k is = elim (bound-before bounds n b k is) [
   | inr e ↦ subst (IsBoundIn bounds) (sym e) here
 ]
 
-pub on-set : (old new : Drafts) (l : List Command) (bounds : List Bound) (n : ℕ) (b : Bound) → ArePlanned old bounds → HasGrown old new l → n < length bounds → IsThere b → Tells new n b → AddsOnly old new (λ k. k ≡ n) → GoesOn old bounds new (slice_set bounds n b) l
+pub on-set : (old new : Drafts) (l : List Command) (bounds : List Bound) (n : ℕ) (b : Bound) → ArePlanned old bounds → HasGrown old new l → n < length bounds → IsNodeKnown b → Tells new n b → AddsOnly old new (λ k. k ≡ n) → GoesOn old bounds new (slice_set bounds n b) l
 on-set old new l bounds n b are h within there tells adds = record {
   grown = h;
   still = bound-still bounds n b within there;

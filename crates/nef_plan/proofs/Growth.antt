@@ -1,5 +1,5 @@
 -- What stays where nodes and steps are added.
-use Rattle.nef_plan.proofs.Prelude.{◌≡◌, ◌∙◌, ◌⊎◌, ⊎_elim, ℕ, zero, suc, ◌<◌, ◌≤◌, refl, ap, sym, subst, arith, List, [], ◌∷◌, ◌++◌, length, Some, inl, inr, length-append, append-nil, append_assoc, Set, turned_set, Node, node_set, set_of, sets_after, NamesBelow, names-wider, slice_get-left, slice_get-seam, place-push, earlier-sets_stay, new-set, set_of-same, Command, IsWithin, Draft, Make, Turn, Ask, Drafts, AreAlike, IsReady, HasGrown, AreDrafts, HasMore, IsMade, IsMadeAs, IsRight, MayFollow, Makes, asked}
+use Rattle.nef_plan.proofs.Prelude.{◌≡◌, ◌∙◌, ◌⊎◌, ⊎_elim, ℕ, zero, suc, ◌<◌, ◌≤◌, refl, ap, sym, subst, arith, List, [], ◌∷◌, ◌++◌, length, Some, inl, inr, length-append, append-nil, append_assoc, Set, turned_set, Node, node_set, set_of, sets_after, NamesBelow, names-wider, slice_get-left, slice_get-seam, place-push, earlier-sets_stay, new-set, set_of-same, Command, SpeaksOfFirst, Draft, Make, Turn, Ask, Drafts, AreAlike, IsNodeReady, HasGrown, AreDrafts, HasMore, IsMade, IsMadeAs, IsRightDraft, MayFollow, Makes, asked}
 use Rattle.nef_script.specs.declared.script.Command.TheVariants as command
 use Rattle.nef_plan.proofs.Alike.{alike-refl}
 
@@ -20,7 +20,7 @@ set-more old new m h below = set_of-same (length old) (sets_after [] new) (sets_
 pub alike-along : (s s' t t' : Set) → s' ≡ s → t' ≡ t → AreAlike s t → AreAlike s' t'
 alike-along s s' t t' e f h = subst (λ (z : Set). AreAlike z t') (sym e) (subst (AreAlike s) (sym f) h)
 
-pub within-wider : (m n : ℕ) (c : Command) → m ≤ n → IsWithin m c → IsWithin n c
+pub within-wider : (m n : ℕ) (c : Command) → m ≤ n → SpeaksOfFirst m c → SpeaksOfFirst n c
 within-wider m n (command.Bind line k) l h = omega (arith, l, h)
 within-wider m n (command.Turn line k j t) l h = (omega (arith, l, h.0), omega (arith, l, h.1), h.2)
 within-wider m n (command.Has line k p) l h = omega (arith, l, h)
@@ -30,7 +30,7 @@ within-wider m n (command.Same line i j) l h = (omega (arith, l, h.0), omega (ar
 within-wider m n (command.Count line k) l h = omega (arith, l, h)
 within-wider m n (command.Print line k name) l h = omega (arith, l, h)
 
-pub right-more : (old new : List Node) (s : Draft) → HasMore old new → IsRight old s → IsRight new s
+pub right-more : (old new : List Node) (s : Draft) → HasMore old new → IsRightDraft old s → IsRightDraft new s
 right-more old new (Make n m) h r = record {
   within = omega (arith, r.within, h.as_many);
   operands = names-wider (length old) (length new) m h.as_many r.operands;
@@ -45,7 +45,7 @@ right-more old new (Turn n j t) h r = record {
 right-more old new (Ask c) h r = (r.0, within-wider (length old) (length new) c.now h.as_many r.1)
 
 -- the node whose set a step makes is there, and the step asks nothing
-pub makes-within : (nodes : List Node) (s : Draft) (k : ℕ) → IsRight nodes s → Makes s k → k < length nodes
+pub makes-within : (nodes : List Node) (s : Draft) (k : ℕ) → IsRightDraft nodes s → Makes s k → k < length nodes
 makes-within nodes (Make n m) k right is = subst (λ z. z < length nodes) (sym is) right.within
 makes-within nodes (Turn n j t) k right is = subst (λ z. z < length nodes) (sym is) right.within
 makes-within nodes (Ask c) k right is = absurd is
@@ -134,11 +134,11 @@ parted-last : {X : Type 0} (xs first front rest : List X) (y x : X) → front �
 parted-last xs [] front rest y x e f = (e ∙ append-nil xs, let g : y ∷ [] ≡ x ∷ rest = f in cc)
 parted-last xs (z ∷ first) front rest y x e f = absurd (let n = ap length f in let m = length-append (z ∷ first) (x ∷ rest) in omega (arith, n, m))
 
-pub steps-push : (nodes : List Node) (steps : List Draft) (s : Draft) → AreDrafts nodes steps → IsRight nodes s → MayFollow steps s → AreDrafts nodes (steps ++ s ∷ [])
+pub steps-push : (nodes : List Node) (steps : List Draft) (s : Draft) → AreDrafts nodes steps → IsRightDraft nodes s → MayFollow steps s → AreDrafts nodes (steps ++ s ∷ [])
 steps-push nodes steps s are is may = record {
   right = λ i d at. elim (place-push steps s i d at) [
     | inl o ↦ are.right i d o.1
-    | inr l ↦ subst (IsRight nodes) (sym l.1) is
+    | inr l ↦ subst (IsRightDraft nodes) (sym l.1) is
   ];
   follow = λ front rest d e. elim (parted steps (s ∷ []) front rest d e) [
     | inl l ↦ are.follow front l.0 d l.1
@@ -167,5 +167,5 @@ grown-trans a b c l m f g = record {
   asked = g.asked ∙ ap (λ (z : List Command). z ++ m) f.asked ∙ append_assoc (asked a.steps.items) l m;
 }
 
-pub ready-grown : (old new : Drafts) (l : List Command) (k : ℕ) → HasGrown old new l → IsReady old k → IsReady new k
+pub ready-grown : (old new : Drafts) (l : List Command) (k : ℕ) → HasGrown old new l → IsNodeReady old k → IsNodeReady new k
 ready-grown old new l k h is = record { within = let m = h.nodes.as_many in let w = is.within in omega arith; made = h.made k is.made }

@@ -1,15 +1,15 @@
 -- The steps of a plan are those of its drafts.
-use Rattle.nef_plan.proofs.Prelude.{◌≡◌, ◌∙◌, ℕ, ◌<◌, ◌≤◌, refl, ap, sym, subst, arith, cases_eq, cases_lt, List, ◌∷◌, ◌++◌, length, inl, inr, ⊎_elim, Option, None, Some, filter, All, IfSome, unwrap_or, All-filter, Node, node_set, Command, IsWithin, Draft, Step, AreAlike, AreDrafts, AreNeeded, AreTimely, HasMore, IsRight, DraftLooksAt, Makes, asked, task_over, tasks_in, tasks_over, value_of, AsksAbout, IsDue, first_asked, is_question, second_asked, AreEnds, AsksNamed, IsAnswered, IsPlanOf, IsTask, IsTimely, IsValue, IsValueOf, MakesValue, name_of, value_set}
+use Rattle.nef_plan.proofs.Prelude.{◌≡◌, ◌∙◌, ℕ, ◌<◌, ◌≤◌, refl, ap, sym, subst, arith, cases_eq, cases_lt, List, ◌∷◌, ◌++◌, length, inl, inr, ⊎_elim, Option, None, Some, filter, All, IfSome, unwrap_or, All-filter, Node, node_set, Command, SpeaksOfFirst, Draft, Step, AreAlike, AreDrafts, AreNeeded, AreTimely, HasMore, IsRightDraft, DraftLooksAt, Makes, asked, task_over, tasks_in, tasks_over, value_of, AsksAbout, IsDue, first_asked, is_question, second_asked, AreEndedAt, AsksNamed, IsAnswered, IsPlanOf, IsTask, IsTimely, IsValue, IsValueOf, MakesValue, name_of, value_set}
 use Rattle.std.proofs.Common.{slice_get, slice_index}
 use Rattle.nef_script.specs.declared.script.Command.TheVariants as command
 use Rattle.nef_plan.specs.declared.planner.Draft.TheVariants as draft
 use Rattle.nef_plan.proofs.Added.{all-at}
 use Rattle.nef_plan.proofs.Growth.{asked-append, makes-within}
 use Rattle.nef_plan.proofs.Valued.{asks-some, task-is, value-makes}
-use Rattle.nef_plan.proofs.Followed.{Follows, FollowsAt, IsHeld, asked-follows, asked-here, follows-each, follows-none, draft-there, looked-at, looks-held, looks-here, name-here, name_in, needed-names, new-here, right-here, set-here, task-here}
+use Rattle.nef_plan.proofs.Followed.{FollowsDrafts, FollowsAt, IsHeldByStep, asked-follows, asked-here, follows-each, follows-none, draft-there, looked-at, looks-held, looks-here, name-here, name_in, needed-names, new-here, right-here, set-here, task-here}
 
 -- what a command asks about are nodes of the script
-within-asked : (n : ℕ) (c : Command) → IsWithin n c → IfSome (first_asked c) (λ k. k < n) × IfSome (second_asked c) (λ k. k < n)
+within-asked : (n : ℕ) (c : Command) → SpeaksOfFirst n c → IfSome (first_asked c) (λ k. k < n) × IfSome (second_asked c) (λ k. k < n)
 within-asked n (command.Bind line i) h = (tt, tt)
 within-asked n (command.Turn line i j t) h = (tt, tt)
 within-asked n (command.Has line i p) h = (h, tt)
@@ -31,7 +31,7 @@ value-second : (given : List Node) (steps : List Step) (values : List ℕ) (o : 
 value-second given steps values None h = tt
 value-second given steps values (Some k) h = h k refl
 
-answered : (given nodes : List Node) (steps : List Step) (values : List ℕ) (n : ℕ) (drafts : List Draft) (d : Draft) (df dr : List Draft) → HasMore given nodes → IsRight nodes d → ((k : ℕ) → DraftLooksAt d k → IsHeld nodes drafts steps n (slice_index values k) k) → All (IsWithin (length given)) (asked (df ++ d ∷ dr))
+answered : (given nodes : List Node) (steps : List Step) (values : List ℕ) (n : ℕ) (drafts : List Draft) (d : Draft) (df dr : List Draft) → HasMore given nodes → IsRightDraft nodes d → ((k : ℕ) → DraftLooksAt d k → IsHeldByStep nodes drafts steps n (slice_index values k) k) → All (SpeaksOfFirst (length given)) (asked (df ++ d ∷ dr))
     → IsAnswered given steps (task_over values d)
 answered given nodes steps values n drafts (draft.Make i m) df dr more right held within = tt
 answered given nodes steps values n drafts (draft.Turn i j t) df dr more right held within = tt
@@ -41,7 +41,7 @@ answered given nodes steps values n drafts (draft.Ask c) df dr more right held w
 }
   where
     asked-in : IfSome (first_asked c.now) (λ k. k < length given) × IfSome (second_asked c.now) (λ k. k < length given)
-    asked-in = within-asked (length given) c.now (all-at (IsWithin (length given)) (asked df) (asked dr) c.now (subst (All (IsWithin (length given))) (asked-append df (draft.Ask c ∷ dr)) within))
+    asked-in = within-asked (length given) c.now (all-at (SpeaksOfFirst (length given)) (asked df) (asked dr) c.now (subst (All (SpeaksOfFirst (length given))) (asked-append df (draft.Ask c ∷ dr)) within))
 
     about : (k : ℕ) → k < length given → AsksAbout c.now k → AreAlike (value_set steps (slice_index values k)) (node_set given k)
     about k below asks = subst (AreAlike (value_set steps (slice_index values k))) (more.sets k below) (held k asks).set
@@ -55,7 +55,7 @@ name-second : (named : ℕ → ℕ) (values : List ℕ) (o : Option ℕ) → ((k
 name-second named values None h = refl
 name-second named values (Some k) h = ap Some (sym (h k refl))
 
-asks-named : (nodes : List Node) (named : ℕ → ℕ) (values : List ℕ) (d : Draft) → IsRight nodes d → ((k : ℕ) → DraftLooksAt d k → named (slice_index values k) ≡ k) → AsksNamed named (task_over values d)
+asks-named : (nodes : List Node) (named : ℕ → ℕ) (values : List ℕ) (d : Draft) → IsRightDraft nodes d → ((k : ℕ) → DraftLooksAt d k → named (slice_index values k) ≡ k) → AsksNamed named (task_over values d)
 asks-named nodes named values (draft.Make i m) right h = tt
 asks-named nodes named values (draft.Turn i j t) right h = tt
 asks-named nodes named values (draft.Ask c) right h = (
@@ -65,8 +65,8 @@ asks-named nodes named values (draft.Ask c) right h = (
 
 -- ---- the plan
 module _ (given nodes : List Node) (commands : List Command) (drafts : List Draft) (steps : List Step) (values : List ℕ) where
-  pub planned : All (IsWithin (length given)) commands → HasMore given nodes → AreDrafts nodes drafts → asked drafts ≡ filter is_question commands → AreTimely given commands drafts → AreNeeded drafts
-      → length nodes ≤ length values → tasks_in steps ≡ tasks_over values 0 drafts → AreEnds steps → IsPlanOf given commands steps
+  pub planned : All (SpeaksOfFirst (length given)) commands → HasMore given nodes → AreDrafts nodes drafts → asked drafts ≡ filter is_question commands → AreTimely given commands drafts → AreNeeded drafts
+      → length nodes ≤ length values → tasks_in steps ≡ tasks_over values 0 drafts → AreEndedAt steps → IsPlanOf given commands steps
   planned within more are asks timely needed table tasks ends = record {
     right = record {
       tasks = λ i s at. let o = each i s at in subst IsTask (sym (task-here nodes drafts steps are i s o)) (task-is nodes o.follows.values o.d (right-here nodes drafts steps are i s o));
@@ -78,7 +78,7 @@ module _ (given nodes : List Node) (commands : List Command) (drafts : List Draf
     answered = record {
       asked = asked-follows nodes drafts steps are drafts steps 0 follows ∙ asks;
       right = λ i s at. let o = each i s at in subst (IsAnswered given steps) (sym (task-here nodes drafts steps are i s o))
-          (answered given nodes steps o.follows.values i drafts o.d o.follows.df o.dr more (right-here nodes drafts steps are i s o) (looks-held nodes drafts steps are i s o) (subst (λ z. All (IsWithin (length given)) (asked z)) o.follows.drafts_are asked-within));
+          (answered given nodes steps o.follows.values i drafts o.d o.follows.df o.dr more (right-here nodes drafts steps are i s o) (looks-held nodes drafts steps are i s o) (subst (λ z. All (SpeaksOfFirst (length given)) (asked z)) o.follows.drafts_are asked-within));
     };
     all = nodes;
     named = name_in drafts;
@@ -110,7 +110,7 @@ module _ (given nodes : List Node) (commands : List Command) (drafts : List Draf
     needed = needed-names nodes drafts steps are drafts steps 0 follows needed;
   }
     where
-      follows : Follows nodes drafts steps 0 drafts steps
+      follows : FollowsDrafts nodes drafts steps 0 drafts steps
       follows = follows-none nodes drafts steps are values table tasks
 
       each : (i : ℕ) (s : Step) → slice_get steps i ≡ Some s → FollowsAt nodes drafts steps i s
@@ -128,5 +128,5 @@ module _ (given nodes : List Node) (commands : List Command) (drafts : List Draf
           let e : m ≡ n = sym (name-here nodes drafts steps are j s o m first) ∙ same ∙ name-here nodes drafts steps are k t p n second in
           new-here nodes drafts steps are k t p n second j o.d low (draft-there nodes drafts steps are j s o) (subst (Makes o.d) e first)
 
-      asked-within : All (IsWithin (length given)) (asked drafts)
-      asked-within = subst (All (IsWithin (length given))) (sym asks) (All-filter is_question (IsWithin (length given)) commands within)
+      asked-within : All (SpeaksOfFirst (length given)) (asked drafts)
+      asked-within = subst (All (SpeaksOfFirst (length given))) (sym asks) (All-filter is_question (SpeaksOfFirst (length given)) commands within)

@@ -1,5 +1,5 @@
 -- The steps of drafts make the sets of their nodes, and have what is known of the drafts.
-use Rattle.nef_plan.proofs.Prelude.{◌≡◌, ◌∙◌, ℕ, zero, suc, ◌+◌, ◌<◌, refl, ap, sym, subst, arith, List, [], ◌∷◌, ◌++◌, length, inl, inr, ⊎_elim, ◌⊎◌, Option, None, Some, true, false, append_assoc, length-append, unwrap_or, get_or-append, get_or-append_seam, cases_eq, get_or-set_same, get_or-set_other, Set, Node, IsOperand, Shape, Uses, operand, set_of, shape_of, Command, Draft, Step, AreAlike, IsRight, DraftLooksAt, Makes, asked, over, put, task_over, value_of, first_asked, is_question, second_asked, IsTask, LooksAtValue, MakesValue, asked_values, made_of, questions_of, value_set, values_after}
+use Rattle.nef_plan.proofs.Prelude.{◌≡◌, ◌∙◌, ℕ, zero, suc, ◌+◌, ◌<◌, refl, ap, sym, subst, arith, List, [], ◌∷◌, ◌++◌, length, inl, inr, ⊎_elim, ◌⊎◌, Option, None, Some, true, false, append_assoc, length-append, unwrap_or, get_or-append, get_or-append_seam, cases_eq, get_or-set_same, get_or-set_other, Set, Node, IsOperand, Shape, Uses, operand, set_of, shape_of, Command, Draft, Step, AreAlike, IsRightDraft, DraftLooksAt, Makes, asked, over, put_value, task_over, value_of, first_asked, is_question, second_asked, IsTask, LooksAtValue, MakesValue, asked_values, task_set, questions_of, value_set, values_after}
 use Rattle.std.proofs.Common.{slice_set, slice_index}
 use Rattle.nef_expr.specs.declared.nodes.Node.TheVariants as node
 use Rattle.nef_script.specs.declared.script.Command.TheVariants as command
@@ -9,11 +9,11 @@ use Rattle.nef_plan.proofs.Alike.{alike-refl, both-alike, border-alike, closed-a
 -- ---- values
 values-append : (ss : List Set) (front rest : List Step) → values_after ss (front ++ rest) ≡ values_after (values_after ss front) rest
 values-append ss [] rest = refl
-values-append ss (s ∷ front) rest = values-append (ss ++ made_of ss s.task ∷ []) front rest
+values-append ss (s ∷ front) rest = values-append (ss ++ task_set ss s.task ∷ []) front rest
 
 values-length : (ss : List Set) (steps : List Step) → length (values_after ss steps) ≡ length ss + length steps
 values-length ss [] = omega arith
-values-length ss (s ∷ steps) = let h = values-length (ss ++ made_of ss s.task ∷ []) steps in omega (arith, length-append {A = Set})
+values-length ss (s ∷ steps) = let h = values-length (ss ++ task_set ss s.task ∷ []) steps in omega (arith, length-append {A = Set})
 
 operand-left : (ss ts : List Set) (k : ℕ) → k < length ss → operand (ss ++ ts) k ≡ operand ss k
 operand-left ss ts k below = get_or-append ss ts Set.empty k below
@@ -24,7 +24,7 @@ operand-last ss s = get_or-append_seam ss s [] Set.empty
 values-stay : (ss : List Set) (steps : List Step) (k : ℕ) → k < length ss → operand (values_after ss steps) k ≡ operand ss k
 values-stay ss [] k below = refl
 values-stay ss (s ∷ steps) k below =
-    values-stay (ss ++ made_of ss s.task ∷ []) steps k (omega (arith, below, length-append {A = Set})) ∙ operand-left ss (made_of ss s.task ∷ []) k below
+    values-stay (ss ++ task_set ss s.task ∷ []) steps k (omega (arith, below, length-append {A = Set})) ∙ operand-left ss (task_set ss s.task ∷ []) k below
 
 -- an earlier value is that of the steps before
 pub value-before : (front rest : List Step) (k : ℕ) → k < length front → value_set (front ++ rest) k ≡ operand (values_after [] front) k
@@ -32,15 +32,15 @@ value-before front rest k below =
     let count = values-length [] front in
     ap (λ (ss : List Set). operand ss k) (values-append [] front rest) ∙ values-stay (values_after [] front) rest k (omega (arith, below, count))
 
-pub value-here : (front rest : List Step) (s : Step) → value_set (front ++ s ∷ rest) (length front) ≡ made_of (values_after [] front) s.task
+pub value-here : (front rest : List Step) (s : Step) → value_set (front ++ s ∷ rest) (length front) ≡ task_set (values_after [] front) s.task
 value-here front rest s =
     let ss = values_after [] front in
     let count : length front ≡ length ss = let c = values-length [] front in omega (arith, c) in
-    let more = length-append ss (made_of ss s.task ∷ []) in
+    let more = length-append ss (task_set ss s.task ∷ []) in
     ap (λ (z : List Set). operand z (length front)) (values-append [] front (s ∷ rest))
-    ∙ values-stay (ss ++ made_of ss s.task ∷ []) rest (length front) (omega (arith, count, more))
-    ∙ ap (operand (ss ++ made_of ss s.task ∷ [])) count
-    ∙ operand-last ss (made_of ss s.task)
+    ∙ values-stay (ss ++ task_set ss s.task ∷ []) rest (length front) (omega (arith, count, more))
+    ∙ ap (operand (ss ++ task_set ss s.task ∷ [])) count
+    ∙ operand-last ss (task_set ss s.task)
 
 -- ---- expressions over values
 pub over-alike : (f : ℕ → ℕ) (ss ts : List Set) (m : Node) → ((k : ℕ) → IsOperand k m → AreAlike (operand ts (f k)) (operand ss k)) → AreAlike (set_of ts (over f m)) (set_of ss m)
@@ -113,13 +113,13 @@ look-over values (draft.Ask c) k h = elim h [
   | inr e ↦ inr (ap (value_of values) e)
 ]
 
-pub looked-over : (nodes : List Node) (values : List ℕ) (d : Draft) (v : ℕ) → IsRight nodes d → LooksAtValue (task_over values d) v → (k : ℕ) × DraftLooksAt d k × (v ≡ slice_index values k)
+pub looked-over : (nodes : List Node) (values : List ℕ) (d : Draft) (v : ℕ) → IsRightDraft nodes d → LooksAtValue (task_over values d) v → (k : ℕ) × DraftLooksAt d k × (v ≡ slice_index values k)
 looked-over nodes values (draft.Make n m) v right h = with-uses (slice_index values) (shape_of m) v (subst (Uses v) (shape-over (slice_index values) m) h)
 looked-over nodes values (draft.Turn n j t) v right h = (j, refl, h)
 looked-over nodes values (draft.Ask c) v right (inl h) = let (k, e) = asks-some c.now right.0 in (k, inl e, h ∙ ap (λ z. unwrap_or (value_of values z) 0) e)
 looked-over nodes values (draft.Ask c) v right (inr h) = let (k, e, is) = value_of-some values (second_asked c.now) v h in (k, inr e, is)
 
-pub task-is : (nodes : List Node) (values : List ℕ) (d : Draft) → IsRight nodes d → IsTask (task_over values d)
+pub task-is : (nodes : List Node) (values : List ℕ) (d : Draft) → IsRightDraft nodes d → IsTask (task_over values d)
 task-is nodes values (draft.Make n m) right = tt
 task-is nodes values (draft.Turn n j t) right = right.turn
 task-is nodes values (draft.Ask c) right = right.0
@@ -144,12 +144,12 @@ makes-or-not (draft.Make n m) k = cases_eq k n
 makes-or-not (draft.Turn n j t) k = cases_eq k n
 makes-or-not (draft.Ask c) k = inr (λ h. h)
 
-pub put-here : (values : List ℕ) (d : Draft) (n k : ℕ) → k < length values → Makes d k → slice_index (put values d n) k ≡ n
+pub put-here : (values : List ℕ) (d : Draft) (n k : ℕ) → k < length values → Makes d k → slice_index (put_value values d n) k ≡ n
 put-here values (draft.Make i m) n k below makes = ap (slice_index (slice_set values i n)) makes ∙ get_or-set_same values i n 0 (omega (arith, below, makes))
 put-here values (draft.Turn i j t) n k below makes = ap (slice_index (slice_set values i n)) makes ∙ get_or-set_same values i n 0 (omega (arith, below, makes))
 put-here values (draft.Ask c) n k below makes = absurd makes
 
-pub put-other : (values : List ℕ) (d : Draft) (n k : ℕ) → (Makes d k → ⊥) → slice_index (put values d n) k ≡ slice_index values k
+pub put-other : (values : List ℕ) (d : Draft) (n k : ℕ) → (Makes d k → ⊥) → slice_index (put_value values d n) k ≡ slice_index values k
 put-other values (draft.Make i m) n k not = get_or-set_other values i k n 0 not
 put-other values (draft.Turn i j t) n k not = get_or-set_other values i k n 0 not
 put-other values (draft.Ask c) n k not = refl
@@ -159,7 +159,7 @@ set-length [] i x = refl
 set-length (y ∷ xs) zero x = refl
 set-length (y ∷ xs) (suc i) x = ap suc (set-length xs i x)
 
-pub put-length : (values : List ℕ) (d : Draft) (n : ℕ) → length (put values d n) ≡ length values
+pub put-length : (values : List ℕ) (d : Draft) (n : ℕ) → length (put_value values d n) ≡ length values
 put-length values (draft.Make i m) n = set-length values i n
 put-length values (draft.Turn i j t) n = set-length values i n
 put-length values (draft.Ask c) n = refl

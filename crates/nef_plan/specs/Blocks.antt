@@ -2,8 +2,8 @@
 use Rattle.std.specs.Prelude.{ℕ}
 
 -- a coordinate along an axis, as its type has it
-abbrev pub place_limit : ℕ
-place_limit = 32768
+abbrev pub axis_limit : ℕ
+axis_limit = 32768
 
 -- a coefficient's product with it
 abbrev pub term_limit : ℕ

@@ -4,7 +4,7 @@ use Rattle.law_turns.specs.Turned.{turned_set}
 use Rattle.nef_expr.specs.declared.nodes.Node.{Node}
 use Rattle.nef_expr.specs.Nodes.{node_set, set_of, sets_after, NamesBelow, IsOperand}
 use Rattle.nef_script.specs.declared.script.Command.{Command}
-use Rattle.nef_script.specs.Meaning.{IsWithin}
+use Rattle.nef_script.specs.Meaning.{SpeaksOfFirst}
 use Rattle.nef_plan.specs.declared.planner.Draft.{Draft}
 use Rattle.nef_plan.specs.declared.planner.Draft.TheVariants.{Make, Turn, Ask}
 use Rattle.nef_plan.specs.Alike.{AreAlike}
@@ -36,10 +36,10 @@ pub record IsTurnedFrom (nodes : List Node) (n j t : ℕ) : Type 0 where
   pub set : node_set nodes n ≡ turned_set t (node_set nodes j)
 
 -- the step makes what it says, or asks a question about nodes
-abbrev pub IsRight : List Node → Draft → Type 0
-IsRight nodes (Make n m) = IsMadeAs nodes n m
-IsRight nodes (Turn n j t) = IsTurnedFrom nodes n j t
-IsRight nodes (Ask c) = (is_question c.now ≡ true) × IsWithin (length nodes) c.now
+abbrev pub IsRightDraft : List Node → Draft → Type 0
+IsRightDraft nodes (Make n m) = IsMadeAs nodes n m
+IsRightDraft nodes (Turn n j t) = IsTurnedFrom nodes n j t
+IsRightDraft nodes (Ask c) = (is_question c.now ≡ true) × SpeaksOfFirst (length nodes) c.now
 
 -- some step makes the set of node k
 abbrev pub IsMade : List Draft → ℕ → Type 0
@@ -52,7 +52,7 @@ pub record MayFollow (steps : List Draft) (s : Draft) : Type 0 where
 
 -- each step is right, and may follow those before it: so no node's set is made twice
 pub record AreDrafts (nodes : List Node) (steps : List Draft) : Type 0 where
-  pub right : (i : ℕ) (s : Draft) → slice_get steps i ≡ Some s → IsRight nodes s
+  pub right : (i : ℕ) (s : Draft) → slice_get steps i ≡ Some s → IsRightDraft nodes s
   pub follow : (front rest : List Draft) (s : Draft) → steps ≡ front ++ s ∷ rest → MayFollow front s
 
 -- the questions of the steps, in order

@@ -4,7 +4,7 @@ use Rattle.std.specs.Option.{unwrap_or}
 use Rattle.nef_expr.specs.declared.nodes.Node.{Node}
 use Rattle.nef_expr.specs.declared.nodes.Node.TheVariants as node
 use Rattle.nef_expr.specs.Nodes.{NamesBelow}
-use Rattle.nef_script.specs.Meaning.{IsWithin}
+use Rattle.nef_script.specs.Meaning.{SpeaksOfFirst}
 use Rattle.nef_plan.specs.declared.planner.Draft.{Draft}
 use Rattle.nef_plan.specs.declared.planner.Draft.TheVariants as draft
 use Rattle.nef_plan.specs.declared.step.Step.{Step}
@@ -40,29 +40,29 @@ task_over values (draft.Turn n j t) = Turn (slice_index values j) t
 task_over values (draft.Ask c) = Ask c (unwrap_or (value_of values (first_asked c.now)) 0) (value_of values (second_asked c.now))
 
 -- the node that the draft makes has the value n
-abbrev pub put : List ℕ → Draft → ℕ → List ℕ
-put values (draft.Make k m) n = slice_set values k n
-put values (draft.Turn k j t) n = slice_set values k n
-put values (draft.Ask c) n = values
+abbrev pub put_value : List ℕ → Draft → ℕ → List ℕ
+put_value values (draft.Make k m) n = slice_set values k n
+put_value values (draft.Turn k j t) n = slice_set values k n
+put_value values (draft.Ask c) n = values
 
-abbrev pub put_all : List ℕ → ℕ → List Draft → List ℕ
-put_all values n [] = values
-put_all values n (d ∷ drafts) = put_all (put values d n) (n + 1) drafts
+abbrev pub put_values : List ℕ → ℕ → List Draft → List ℕ
+put_values values n [] = values
+put_values values n (d ∷ drafts) = put_values (put_value values d n) (n + 1) drafts
 
 -- the tasks of drafts whose numbers begin with n
 abbrev pub tasks_over : List ℕ → ℕ → List Draft → List Task
 tasks_over values n [] = []
-tasks_over values n (d ∷ drafts) = task_over values d ∷ tasks_over (put values d n) (n + 1) drafts
+tasks_over values n (d ∷ drafts) = task_over values d ∷ tasks_over (put_value values d n) (n + 1) drafts
 
 abbrev pub tasks_in : List Step → List Task
 tasks_in [] = []
 tasks_in (s ∷ steps) = s.task ∷ tasks_in steps
 
 -- the nodes of the draft are among the first n
-abbrev pub IsAmong : ℕ → Draft → Type 0
-IsAmong n (draft.Make k m) = (k < n) × NamesBelow n m
-IsAmong n (draft.Turn k j t) = (k < n) × (j < n)
-IsAmong n (draft.Ask c) = IsWithin n c.now
+abbrev pub IsDraftBelow : ℕ → Draft → Type 0
+IsDraftBelow n (draft.Make k m) = (k < n) × NamesBelow n m
+IsDraftBelow n (draft.Turn k j t) = (k < n) × (j < n)
+IsDraftBelow n (draft.Ask c) = SpeaksOfFirst n c.now
 
 -- each task looks at values with numbers below n
 abbrev pub LookBelow : ℕ → List Task → Type 0

@@ -4,11 +4,11 @@ use Rattle.nef_expr.specs.declared.nodes.Node.{Node}
 use Rattle.nef_script.specs.declared.script.Command.{Command}
 use Rattle.nef_script.specs.declared.script.Command.TheVariants as command
 use Rattle.nef_script.specs.Commands.{TurnsRight, AreBoundBefore, Binds}
-use Rattle.nef_script.specs.Meaning.{IsWithin}
+use Rattle.nef_script.specs.Meaning.{SpeaksOfFirst}
 
 -- what is known of the commands of a script that isn't refused: each is within the nodes, turns what it says, and looks at nodes that earlier ones bind
 pub record AreWorkable (nodes : List Node) (commands : List Command) : Type 0 where
-  pub within : All (IsWithin (length nodes)) commands
+  pub within : All (SpeaksOfFirst (length nodes)) commands
   pub turned : All (TurnsRight nodes) commands
   pub bound_before : AreBoundBefore nodes commands
 

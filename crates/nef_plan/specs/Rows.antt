@@ -40,10 +40,10 @@ spare Exclusive = 1
 spare (Difference from) = 0
 
 -- the set of the row whose parts are joined to this one
-abbrev pub ended : List Node → RowKind → Set → Set
-ended nodes Union s = s
-ended nodes Exclusive s = s
-ended nodes (Difference from) s = Set.less (node_set nodes from) s
+abbrev pub row_ended : List Node → RowKind → Set → Set
+row_ended nodes Union s = s
+row_ended nodes Exclusive s = s
+row_ended nodes (Difference from) s = Set.less (node_set nodes from) s
 
 -- the parts joined one after the other, behind the set s
 abbrev pub joined_after : List Node → RowKind → Set → List ℕ → Set
@@ -51,10 +51,10 @@ joined_after nodes kind s [] = s
 joined_after nodes kind s (p ∷ ps) = joined_after nodes kind (joined kind s (node_set nodes p)) ps
 
 abbrev pub row_set : List Node → RowKind → List ℕ → Set
-row_set nodes kind parts = ended nodes kind (joined_after nodes kind Set.empty parts)
+row_set nodes kind parts = row_ended nodes kind (joined_after nodes kind Set.empty parts)
 
 -- the node is there, and a step makes its set
-pub record IsReady (plan : Drafts) (k : ℕ) : Type 0 where
+pub record IsNodeReady (plan : Drafts) (k : ℕ) : Type 0 where
   pub within : k < length plan.nodes
   pub made : IsMade plan.steps.items k
 
@@ -70,26 +70,26 @@ BeginsWith Exclusive k = Unit {0}
 BeginsWith (Difference from) k = k ≡ from
 
 -- the nodes of a row with these parts are ready
-pub record AreReady (plan : Drafts) (kind : RowKind) (parts : List ℕ) : Type 0 where
-  pub from : (k : ℕ) → kind ≡ Difference k → IsReady plan k
-  pub each : (i : ℕ) (p : ℕ) → slice_get parts i ≡ Some p → IsReady plan p
+pub record PartsAreReady (plan : Drafts) (kind : RowKind) (parts : List ℕ) : Type 0 where
+  pub from : (k : ℕ) → kind ≡ Difference k → IsNodeReady plan k
+  pub each : (i : ℕ) (p : ℕ) → slice_get parts i ≡ Some p → IsNodeReady plan p
 
 -- the row with these parts makes the set of node k, of sets that are ready
-pub record MakesSet (plan : Drafts) (kind : RowKind) (parts : List ℕ) (k : ℕ) : Type 0 where
+pub record RowMakesSet (plan : Drafts) (kind : RowKind) (parts : List ℕ) (k : ℕ) : Type 0 where
   pub within : k < length plan.nodes
-  pub ready : AreReady plan kind parts
+  pub ready : PartsAreReady plan kind parts
   pub set : AreAlike (row_set plan.nodes kind parts) (node_set plan.nodes k)
 
-abbrev pub parts : Row → List ℕ
-parts row = row.others.items ++ row.last ∷ []
+abbrev pub row_parts : Row → List ℕ
+row_parts row = row.others.items ++ row.last ∷ []
 
 abbrev pub IsRowOf : Drafts → Row → ℕ → Type 0
-IsRowOf plan row k = MakesSet plan row.kind (parts row) k
+IsRowOf plan row k = RowMakesSet plan row.kind (row_parts row) k
 
 -- what is told of node k
 abbrev pub Tells : Drafts → ℕ → Bound → Type 0
 Tells plan k No = IsFree plan k
-Tells plan k Made = IsReady plan k
+Tells plan k Made = IsNodeReady plan k
 Tells plan k (Deferred row) = IsFree plan k × IsRowOf plan row k
 
 -- the steps are right, and so is what is told of each node
@@ -98,14 +98,14 @@ pub record ArePlanned (plan : Drafts) (bounds : List Bound) : Type 0 where
   pub told : (k : ℕ) (b : Bound) → slice_get bounds k ≡ Some b → Tells plan k b
 
 -- a name is bound to the node of which this is known
-abbrev pub IsThere : Bound → Type 0
-IsThere No = ⊥
-IsThere Made = Unit {0}
-IsThere (Deferred row) = Unit {0}
+abbrev pub IsNodeKnown : Bound → Type 0
+IsNodeKnown No = ⊥
+IsNodeKnown Made = Unit {0}
+IsNodeKnown (Deferred row) = Unit {0}
 
 -- node k is bound
 abbrev pub IsBoundIn : List Bound → ℕ → Type 0
-IsBoundIn bounds k = (b : Bound) × (slice_get bounds k ≡ Some b) × IsThere b
+IsBoundIn bounds k = (b : Bound) × (slice_get bounds k ≡ Some b) × IsNodeKnown b
 
 -- the later plan has nodes and steps more, which are right, and of which these are questions
 pub record HasGrown (old new : Drafts) (questions : List Command) : Type 0 where

@@ -13,15 +13,15 @@ use Rattle.nef_plan.specs.Drafts.{HasMore}
 use Rattle.nef_plan.specs.Questions.{IsDue, first_asked, is_question, second_asked}
 
 -- the set that the task makes, where ss are the values of earlier steps; the number of a question stands for no value, and has the empty set in its place
-abbrev pub made_of : List Set → Task → Set
-made_of ss (Make m) = set_of ss m
-made_of ss (Turn j t) = turned_set t (operand ss j)
-made_of ss (Ask c i second) = Set.empty
+abbrev pub task_set : List Set → Task → Set
+task_set ss (Make m) = set_of ss m
+task_set ss (Turn j t) = turned_set t (operand ss j)
+task_set ss (Ask c i second) = Set.empty
 
 -- the values of all steps, first to last, after those of ss
 abbrev pub values_after : List Set → List Step → List Set
 values_after ss [] = ss
-values_after ss (s ∷ steps) = values_after (ss ++ made_of ss s.task ∷ []) steps
+values_after ss (s ∷ steps) = values_after (ss ++ task_set ss s.task ∷ []) steps
 
 -- value k
 abbrev pub value_set : List Step → ℕ → Set
@@ -79,17 +79,17 @@ pub record AreSteps (steps : List Step) : Type 0 where
   pub made_before : (i : ℕ) (s : Step) → slice_get steps i ≡ Some s → (k : ℕ) → LooksAtValue s.task k → (d : Step) × (k < i) × (slice_get steps k ≡ Some d) × MakesValue d.task
 
 -- no step with a number of at least n looks at the value, if there is one
-abbrev pub Ends : List Step → ℕ → Option ℕ → Type 0
-Ends steps n value = (k : ℕ) → value ≡ Some k → IsAwaited steps n k → ⊥
+abbrev pub NoneLooksFrom : List Step → ℕ → Option ℕ → Type 0
+NoneLooksFrom steps n value = (k : ℕ) → value ≡ Some k → IsAwaited steps n k → ⊥
 
 -- the step with the number i says of each value that it looks at or makes whether no later step looks at it
 pub record IsEndedAt (steps : List Step) (i : ℕ) (s : Step) : Type 0 where
-  pub first : (s.ends_first ≡ true) ↔ Ends steps (i + 1) (first_value s.task)
-  pub second : (s.ends_second ≡ true) ↔ Ends steps (i + 1) (second_value s.task)
-  pub made : (s.ends_made ≡ true) ↔ Ends steps (i + 1) (Some i)
+  pub first : (s.ends_first ≡ true) ↔ NoneLooksFrom steps (i + 1) (first_value s.task)
+  pub second : (s.ends_second ≡ true) ↔ NoneLooksFrom steps (i + 1) (second_value s.task)
+  pub made : (s.ends_made ≡ true) ↔ NoneLooksFrom steps (i + 1) (Some i)
 
-abbrev pub AreEnds : List Step → Type 0
-AreEnds steps = (i : ℕ) (s : Step) → slice_get steps i ≡ Some s → IsEndedAt steps i s
+abbrev pub AreEndedAt : List Step → Type 0
+AreEndedAt steps = (i : ℕ) (s : Step) → slice_get steps i ≡ Some s → IsEndedAt steps i s
 
 -- the questions of the steps, in order
 abbrev pub questions_of : Task → List Command
@@ -161,7 +161,7 @@ AsksNamed named (Ask c i second) = (first_asked c.now ≡ Some (named i)) × (se
 -- the steps ask the script's questions, each about the values that its nodes name; and each value that they make is the set of the node that is its name, one of the script's or of more behind them and no other value's, and is made neither before its line's turn nor before it's needed
 pub record IsPlanOf (nodes : List Node) (commands : List Command) (steps : List Step) : Type 0 where
   pub right : AreSteps steps
-  pub ends : AreEnds steps
+  pub ends : AreEndedAt steps
   pub answered : AreAnswered nodes commands steps
   pub all : List Node
   pub named : ℕ → ℕ

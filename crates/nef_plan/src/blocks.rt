@@ -5,7 +5,7 @@
 //! is worked by such a guess is right whatever is guessed.
 
 ghost use Rattle.std.specs.Prelude.{◌≡◌, ◌<◌, ◌≤◌};
-ghost use Rattle.nef_plan.specs.Prelude.{ℕ, All, IfOk, OnOk, length, nat_abs, normal_limit, offset_limit, vec_len, NamesBelow, place_limit, term_limit};
+ghost use Rattle.nef_plan.specs.Prelude.{ℕ, All, IfOk, OnOk, length, nat_abs, normal_limit, offset_limit, vec_len, NamesBelow, axis_limit, term_limit};
 
 use crate::OutOfMemory;
 use nef_expr::{Node, Nodes};

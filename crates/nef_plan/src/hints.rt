@@ -8,7 +8,7 @@
 //! that is little beside what its making cost: so it has to be made of half-spaces for this row alone.
 
 ghost use Rattle.std.specs.Prelude.{◌≡◌, ◌<◌, ◌≤◌};
-ghost use Rattle.nef_plan.specs.Prelude.{ℕ, All, IfOk, IfSome, OnOk, length, vec_len, IsWithin};
+ghost use Rattle.nef_plan.specs.Prelude.{ℕ, All, IfOk, IfSome, OnOk, length, vec_len, SpeaksOfFirst};
 
 use crate::OutOfMemory;
 use crate::blocks::{Block, no_three_meet};
@@ -238,7 +238,7 @@ fn first_hints(alloc: Global, count: usize) -> Result<Vec<Hint>, OutOfMemory>
 
 /// A hint for each node of the script.
 pub(crate) fn hints_of(alloc: Global, script: &Script) -> Result<Vec<Hint>, OutOfMemory>
-    requires within { All (IsWithin (length script.now.nodes)) script.now.commands }
+    requires within { All (SpeaksOfFirst (length script.now.nodes)) script.now.commands }
     ensures count { IfOk result (λ v. vec_len v ≡ length script.now.nodes) }
 {
     let nodes = &script.nodes;

@@ -2,7 +2,7 @@
 //! is made of, and its block.
 
 ghost use Rattle.std.specs.Prelude.{◌≡◌, ◌<◌};
-ghost use Rattle.nef_plan.specs.Prelude.{ℕ, All, IfOk, IfSome, length, vec_len, NamesBelow, IsWithin};
+ghost use Rattle.nef_plan.specs.Prelude.{ℕ, All, IfOk, IfSome, length, vec_len, NamesBelow, SpeaksOfFirst};
 
 use crate::OutOfMemory;
 use crate::blocks::{Block, blocks_of};
@@ -118,7 +118,7 @@ fn note_made(notes: &mut [Note], node: usize, made: &Node)
 
 // Notes what a line says.
 fn note_command(notes: &mut [Note], nodes: &Nodes, command: &Command)
-    requires within { IsWithin (length nodes.now) command.now }
+    requires within { SpeaksOfFirst (length nodes.now) command.now }
     requires count { length notes.old ≡ length nodes.now }
 {
     match command {
@@ -162,7 +162,7 @@ fn note_own(notes: &mut [Note], nodes: &Nodes)
 
 /// A note for each node of the script.
 pub(crate) fn notes_of(alloc: Global, script: &Script) -> Result<Vec<Note>, OutOfMemory>
-    requires within { All (IsWithin (length script.now.nodes)) script.now.commands }
+    requires within { All (SpeaksOfFirst (length script.now.nodes)) script.now.commands }
     ensures count { IfOk result (λ v. vec_len v ≡ length script.now.nodes) }
 {
     let nodes = &script.nodes;

@@ -1,6 +1,6 @@
 //! The steps of drafts: what makes the sets of nodes makes values.
 
-ghost use Rattle.nef_plan.specs.Prelude.{slice_index, ℕ, IfOk, IfSome, List, Some, true, length, vec_len, NamesBelow, AreDrafts, AreLastUses, AreUses, IsAmong, IsLastAt, IsUsedBy, LookBelow, over, put, task_over, tasks_in, tasks_over, value_of as value_there, AreEnds, LooksAtValue};
+ghost use Rattle.nef_plan.specs.Prelude.{slice_index, ℕ, IfOk, IfSome, List, Some, true, length, vec_len, NamesBelow, AreDrafts, AreLastUses, AreUses, IsDraftBelow, IsLastAt, IsUsedBy, LookBelow, over, put_value, task_over, tasks_in, tasks_over, value_of as value_there, AreEndedAt, LooksAtValue};
 ghost use Rattle.std.specs.Prelude.{◌≡◌, ◌↔◌, ◌<◌, ◌≤◌, ◌⊎◌};
 
 use crate::OutOfMemory;
@@ -44,7 +44,7 @@ fn value_of(values: &[usize], node: Option<usize>) -> Option<usize>
 
 // The task of the draft, over the values of nodes. A question is about one node at least.
 fn task_of<'a>(values: &[usize], draft: &Draft<'a>) -> Task<'a>
-    requires among { IsAmong (length values.now) draft.now }
+    requires among { IsDraftBelow (length values.now) draft.now }
     ensures task { result ≡ task_over values.now draft.now }
 {
     match *draft {
@@ -66,8 +66,8 @@ fn task_of<'a>(values: &[usize], draft: &Draft<'a>) -> Task<'a>
 
 // The node that the draft makes has this value from now on.
 fn put_value(values: &mut [usize], draft: &Draft, number: usize)
-    requires among { IsAmong (length values.old) draft.now }
-    ensures put { values.new ≡ put values.old draft.now number }
+    requires among { IsDraftBelow (length values.old) draft.now }
+    ensures put { values.new ≡ put_value values.old draft.now number }
     ensures length { length values.new ≡ length values.old }
 {
     match *draft {
@@ -158,7 +158,7 @@ fn step_of<'a>(task: Task<'a>, uses: &[usize], now: usize) -> Step<'a>
 pub(crate) fn ended<'a>(alloc: Global, tasks: &[Task<'a>]) -> Result<Vec<Step<'a>>, OutOfMemory>
     requires below { LookBelow (length tasks.now) tasks.now }
     ensures tasks { IfOk result (λ v. tasks_in v.items ≡ tasks.now) }
-    ensures ends { IfOk result (λ v. AreEnds v.items) }
+    ensures ends { IfOk result (λ v. AreEndedAt v.items) }
 {
     let found = last_uses(alloc, tasks)?;
     let uses = found.as_slice();

@@ -1,7 +1,7 @@
 //! Drafts of steps, and those that make the sets of nodes.
 
 ghost use Rattle.std.specs.Prelude.{◌≡◌, ◌<◌, ◌≤◌, ◌∷◌, ◌++◌, ◌⊎◌};
-ghost use Rattle.nef_plan.specs.Prelude.{ℕ, IfOk, IfSome, OnOk, length, Some, true, [], node_set, set_of, sets_after, IsOperand, AreReady, ArePlanned, GoesOn, AddsOnly, HasGrown, IsBoundIn, IsFree, IsReady, IsRowOf, AreOfOneKind, BeginsWith, combined, joined, parts, spare, IsWithin, AreDrafts, IsMade, IsRight, DraftLooksAt, Makes, MayFollow, asked, AsksAbout, is_question, Drafts as State};
+ghost use Rattle.nef_plan.specs.Prelude.{ℕ, IfOk, IfSome, OnOk, length, Some, true, [], node_set, set_of, sets_after, IsOperand, PartsAreReady, ArePlanned, GoesOn, AddsOnly, HasGrown, IsBoundIn, IsFree, IsNodeReady, IsRowOf, AreOfOneKind, BeginsWith, combined, joined, row_parts, spare, SpeaksOfFirst, AreDrafts, IsMade, IsRightDraft, DraftLooksAt, Makes, MayFollow, asked, AsksAbout, is_question, Drafts as State};
 
 use crate::OutOfMemory;
 use crate::hints::Hint;
@@ -35,7 +35,7 @@ pub(crate) struct Drafts<'a> {
 // Adds a step behind those that make what it looks at.
 fn add_step<'a>(plan: &mut Drafts<'a>, step: Draft<'a>) -> Result<(), OutOfMemory>
     requires steps { AreDrafts plan.old.nodes plan.old.steps.items }
-    requires right { IsRight plan.old.nodes step }
+    requires right { IsRightDraft plan.old.nodes step }
     requires follows { MayFollow plan.old.steps.items step }
     ensures grown { OnOk result (HasGrown plan.old plan.new (asked (step.entry ∷ []))) }
     ensures nodes { plan.new.nodes ≡ plan.old.nodes }
@@ -54,10 +54,10 @@ fn joined_part(
     second: usize,
 ) -> Result<usize, OutOfMemory>
     requires steps { AreDrafts plan.old.nodes plan.old.steps.items }
-    requires first { IsReady plan.old first }
-    requires second { IsReady plan.old second }
+    requires first { IsNodeReady plan.old first }
+    requires second { IsNodeReady plan.old second }
     ensures grown { IfOk result (λ p. HasGrown plan.old plan.new []) }
-    ensures ready { IfOk result (λ p. IsReady plan.new p) }
+    ensures ready { IfOk result (λ p. IsNodeReady plan.new p) }
     ensures added { IfOk result (λ p. AddsOnly plan.old plan.new (λ k. ⊥)) }
     ensures set { IfOk result (λ p. node_set plan.new.nodes p ≡ joined kind (node_set plan.old.nodes first) (node_set plan.old.nodes second)) }
 {
@@ -70,9 +70,9 @@ fn joined_part(
 // Joins the last two parts of the row, if there are two.
 fn join_last(plan: &mut Drafts, row: &mut Row) -> Result<(), OutOfMemory>
     requires steps { AreDrafts plan.old.nodes plan.old.steps.items }
-    requires ready { AreReady plan.old row.old.kind (parts row.old) }
+    requires ready { PartsAreReady plan.old row.old.kind (row_parts row.old) }
     ensures grown { OnOk result (HasGrown plan.old plan.new []) }
-    ensures ready { OnOk result (AreReady plan.new row.new.kind (parts row.new)) }
+    ensures ready { OnOk result (PartsAreReady plan.new row.new.kind (row_parts row.new)) }
     ensures added { OnOk result (AddsOnly plan.old plan.new (λ k. ⊥)) }
     ensures kind { OnOk result (row.new.kind ≡ row.old.kind) }
     ensures row { OnOk result ((k : ℕ) → IsRowOf plan.old row.old k → IsRowOf plan.new row.new k) }
@@ -87,7 +87,7 @@ fn join_last(plan: &mut Drafts, row: &mut Row) -> Result<(), OutOfMemory>
 // Joins last parts of the row, until no more than so many others are left.
 fn join_parts(plan: &mut Drafts, row: &mut Row, others: usize) -> Result<(), OutOfMemory>
     requires steps { AreDrafts plan.old.nodes plan.old.steps.items }
-    requires ready { AreReady plan.old row.old.kind (parts row.old) }
+    requires ready { PartsAreReady plan.old row.old.kind (row_parts row.old) }
     ensures grown { OnOk result (HasGrown plan.old plan.new []) }
     ensures added { OnOk result (AddsOnly plan.old plan.new (λ k. ⊥)) }
     ensures kind { OnOk result (row.new.kind ≡ row.old.kind) }
@@ -107,7 +107,7 @@ fn finish(plan: &mut Drafts, row: &mut Row, node: usize) -> Result<(), OutOfMemo
     requires row { IsRowOf plan.old row.old node }
     ensures grown { OnOk result (HasGrown plan.old plan.new []) }
     ensures added { OnOk result (AddsOnly plan.old plan.new (λ k. k ≡ node)) }
-    ensures ready { OnOk result (IsReady plan.new node) }
+    ensures ready { OnOk result (IsNodeReady plan.new node) }
 {
     let spare = row.spare();
     join_parts(plan, row, spare)?;
@@ -121,7 +121,7 @@ fn demand(plan: &mut Drafts, bounds: &mut [Bound], wanted: Option<usize>) -> Res
     requires bound { IfSome wanted (IsBoundIn bounds.old) }
     ensures goes_on { OnOk result (GoesOn plan.old bounds.old plan.new bounds.new []) }
     ensures only { OnOk result ((k : ℕ) → IsBoundIn bounds.new k → IsBoundIn bounds.old k) }
-    ensures ready { OnOk result (IfSome wanted (IsReady plan.new)) }
+    ensures ready { OnOk result (IfSome wanted (IsNodeReady plan.new)) }
 {
     let Some(node) = wanted else {
         return Ok(());
@@ -155,7 +155,7 @@ pub(crate) fn add_question<'a>(
     requires planned { ArePlanned plan.old bounds.old }
     requires asks { (k : ℕ) → AsksAbout command.now k → IsBoundIn bounds.old k }
     requires question { is_question command.now ≡ true }
-    requires within { IsWithin (length plan.old.nodes) command.now }
+    requires within { SpeaksOfFirst (length plan.old.nodes) command.now }
     ensures goes_on { OnOk result (GoesOn plan.old bounds.old plan.new bounds.new (command.entry.now ∷ [])) }
     ensures only { OnOk result ((k : ℕ) → IsBoundIn bounds.new k → IsBoundIn bounds.old k) }
 {
@@ -255,7 +255,7 @@ pub(crate) fn bind_made<'a>(
 ) -> Result<(), OutOfMemory>
     requires planned { ArePlanned plan.old bounds.old }
     requires looks { (k : ℕ) → DraftLooksAt step k → IsBoundIn bounds.old k }
-    requires right { IsRight plan.old.nodes step }
+    requires right { IsRightDraft plan.old.nodes step }
     requires makes { Makes step node }
     requires node { node < length bounds.old }
     requires unbound { IsBoundIn bounds.old node → ⊥ }

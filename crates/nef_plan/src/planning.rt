@@ -1,7 +1,7 @@
 //! The plan of a script.
 
 ghost use Rattle.std.specs.Prelude.{◌≡◌, ◌↔◌, ◌⊎◌, ◌<◌, ◌∷◌};
-ghost use Rattle.nef_plan.specs.Prelude.{ℕ, true, Some, IfOk, IfSome, OnOk, filter, length, vec_len, slice_get, [], Binds, TurnsRight, IsWithin, ArePlanned, GoesOn, IsBoundIn, AreNeeded, AreDrafts, AreTimely, HasMore, IsAmong, DraftLooksAt, asked, AreWorkable, AsksAbout, first_asked, is_question, second_asked, IsPlanOf};
+ghost use Rattle.nef_plan.specs.Prelude.{ℕ, true, Some, IfOk, IfSome, OnOk, filter, length, vec_len, slice_get, [], Binds, TurnsRight, SpeaksOfFirst, ArePlanned, GoesOn, IsBoundIn, AreNeeded, AreDrafts, AreTimely, HasMore, IsDraftBelow, DraftLooksAt, asked, AreWorkable, AsksAbout, first_asked, is_question, second_asked, IsPlanOf};
 ghost use Rattle.nef_script.specs.Commands.{LooksAt};
 ghost use Rattle.nef_plan.specs.declared.row.Bound.TheVariants as bound;
 
@@ -52,7 +52,7 @@ pub(crate) fn asked_nodes(command: &Command) -> (Option<usize>, Option<usize>)
     ensures first { result.0 ≡ first_asked command.now }
     ensures second { result.1 ≡ second_asked command.now }
     ensures asked { (k : ℕ) → AsksAbout command.now k ↔ ((result.0 ≡ Some k) ⊎ (result.1 ≡ Some k)) }
-    ensures within { (n : ℕ) → IsWithin n command.now → IfSome result.0 (λ k. k < n) × IfSome result.1 (λ k. k < n) }
+    ensures within { (n : ℕ) → SpeaksOfFirst n command.now → IfSome result.0 (λ k. k < n) × IfSome result.1 (λ k. k < n) }
 {
     match command {
         Command::Bind { .. } | Command::Turn { .. } => (None, None),
@@ -68,7 +68,7 @@ pub(crate) fn asked_nodes(command: &Command) -> (Option<usize>, Option<usize>)
 /// The nodes whose sets the step looks at: those of which it makes another, or those that it asks about.
 pub(crate) fn looked_at(step: &Draft) -> (Option<usize>, Option<usize>)
     ensures looked_at { (k : ℕ) → DraftLooksAt step.now k ↔ ((result.0 ≡ Some k) ⊎ (result.1 ≡ Some k)) }
-    ensures within { (n : ℕ) → IsAmong n step.now → IfSome result.0 (λ k. k < n) × IfSome result.1 (λ k. k < n) }
+    ensures within { (n : ℕ) → IsDraftBelow n step.now → IfSome result.0 (λ k. k < n) × IfSome result.1 (λ k. k < n) }
 {
     match step {
         Draft::Make { made, .. } => made.operands(),
@@ -86,7 +86,7 @@ fn add_command<'a>(
     nodes: &Nodes,
     command: &'a Command,
 ) -> Result<(), OutOfMemory>
-    requires within { IsWithin (length nodes.now) command.now }
+    requires within { SpeaksOfFirst (length nodes.now) command.now }
     requires turned { TurnsRight nodes.now command.now }
     requires looks { (k : ℕ) → LooksAt nodes.now command.now k → IsBoundIn bounds.old k }
     requires planned { ArePlanned plan.old bounds.old }

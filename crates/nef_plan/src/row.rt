@@ -1,7 +1,7 @@
 //! Rows of operations of one kind, of which each has the set of the one before as its first operand.
 
 ghost use Rattle.std.specs.Prelude.{◌≡◌, ◌⊎◌, ◌<◌, ◌≤◌, ◌∷◌, ◌++◌};
-ghost use Rattle.nef_plan.specs.Prelude.{ℕ, true, IfOk, OnOk, List, length, [], Set, node_set, set_of, operand, IsOperand, NamesBelow, AreOfOneKind, BeginsWith, AreReady, IsReady, IsRowOf, combined, joined, parts, spare, IsMadeAs, IsMade, Drafts as State};
+ghost use Rattle.nef_plan.specs.Prelude.{ℕ, true, IfOk, OnOk, List, length, [], Set, node_set, set_of, operand, IsOperand, NamesBelow, AreOfOneKind, BeginsWith, PartsAreReady, IsNodeReady, IsRowOf, combined, joined, row_parts, spare, IsMadeAs, IsMade, Drafts as State};
 
 use crate::OutOfMemory;
 use nef_expr::Node;
@@ -73,7 +73,7 @@ impl Row {
         second: usize,
     ) -> Result<Row, OutOfMemory>
         requires begins { BeginsWith kind first }
-        ensures row { IfOk result (λ r. (plan : State) (k : ℕ) → k < length plan.nodes → IsReady plan first → IsReady plan second → node_set plan.nodes k ≡ combined kind (node_set plan.nodes first) (node_set plan.nodes second) → IsRowOf plan r k) }
+        ensures row { IfOk result (λ r. (plan : State) (k : ℕ) → k < length plan.nodes → IsNodeReady plan first → IsNodeReady plan second → node_set plan.nodes k ≡ combined kind (node_set plan.nodes first) (node_set plan.nodes second) → IsRowOf plan r k) }
     {
         let mut others = Vec::new(alloc);
         match kind {
@@ -125,7 +125,7 @@ impl Row {
     pub(crate) fn ending(&self) -> Node
         requires few { length self.now.others.items ≤ spare self.now.kind }
         ensures made { (plan : State) (k : ℕ) → IsRowOf plan self.now k → IsMadeAs plan.nodes k result }
-        ensures operands { (plan : State) (k : ℕ) → AreReady plan self.now.kind (parts self.now) → IsOperand k result → IsMade plan.steps.items k }
+        ensures operands { (plan : State) (k : ℕ) → PartsAreReady plan self.now.kind (row_parts self.now) → IsOperand k result → IsMade plan.steps.items k }
     {
         let last = self.last;
         match self.kind {

@@ -1,5 +1,5 @@
 -- A direction along the axis of a plane, or along its second direction, is as small as that: it is in lowest terms, so its numbers divide those of the other.
-use Rattle.nef_plane.proofs.Prelude.{◌≡◌, ℕ, ◌<◌, ◌≤◌, ℤ, pos, negsuc, neg_ℤ, ◌*ℤ◌, ◌<ℤ◌, ◌-ℤ◌, nat_abs, List, [], ◌∷◌, arith, refl, sym, ap, ◌∙◌, subst, inl, inr, ⊎_elim, ints, le_of_dvd, ◌∣◌, ring, at, num, Poly, ◌⊕◌, ◌⊖◌, ◌⊗◌, given, none, follows, by_order, nought-or, normal_limit, IsLowest, Place, normal_of, Vector, dot, opposite, plane_axis, plane_dir, IsAtMost, SameDirection, form_of, vector_of, ray_limit, plane_dir_limit, Dir, Plane, pair_small, dir-size, times-nought, IsAlongAxis, IsAlongDir, IsWithinDirection}
+use Rattle.nef_plane.proofs.Prelude.{◌≡◌, ℕ, ◌<◌, ◌≤◌, ℤ, pos, negsuc, neg_ℤ, ◌*ℤ◌, ◌<ℤ◌, ◌-ℤ◌, nat_abs, List, [], ◌∷◌, arith, refl, sym, ap, ◌∙◌, subst, inl, inr, ⊎_elim, ints, le_of_dvd, ◌∣◌, ring, at, num, Poly, ◌⊕◌, ◌⊖◌, ◌⊗◌, given, none, follows, by_order, nought-or, normal_limit, IsLowest, SpacePoint, normal_of, Vector, dot, opposite, plane_axis, plane_dir, IsAtMost, SameDirection, form_of, vector_of, ray_limit, plane_dir_limit, Dir, Plane, pair_small, dir-size, times-nought, IsAlongAxis, IsAlongDir, IsWithinDirection}
 use Rattle.nef_geo.proofs.Cramer.{difference}
 use Rattle.nef_geo.proofs.Euclid.{divides_same}
 use Rattle.law_complex.specs.Complexes.{Complex}
@@ -90,6 +90,6 @@ dir-small h d = let a = plane_dir (normal_of (form_of h)) in
     (λ (s : SameDirection (vector_of d) (opposite a)). along-small d (opposite a) plane_dir_limit s (turned a plane_dir_limit (let z = dir-size h in z.each)))
 
 -- so every ray within the plane has the numbers of a ray from a vertex
-pub within-small : (C : Complex) (p : Place) (h : Plane) (d : Dir) → IsWithinDirection C (form_of h) p (vector_of d) → IsAtMost ray_limit (vector_of d)
+pub within-small : (C : Complex) (p : SpacePoint) (h : Plane) (d : Dir) → IsWithinDirection C (form_of h) p (vector_of d) → IsAtMost ray_limit (vector_of d)
 within-small C p h d (inl a) = let s = axis-small h d a in record { of_x = omega (arith, s.of_x); of_y = omega (arith, s.of_y); of_z = omega (arith, s.of_z) }
 within-small C p h d (inr (v, a)) = let s = dir-small h d a in record { of_x = omega (arith, s.of_x); of_y = omega (arith, s.of_y); of_z = omega (arith, s.of_z) }

@@ -1,14 +1,14 @@
 -- What a meeting and a comparison answer.
-use Rattle.nef_plane.proofs.Prelude.{◌≡◌, pos, Option, Some, None, List, refl, sym, ◌∙◌, inl, inr, subst, MatchOption, IsNone, IfSome, Place, form_at, Vector, form_of, far_place, FarHit, Plane, same-itself, HoldsBoth, Encounter, far_reach_of, IsParallelToAxis, sweep_form, AreOpposite, IsHitThrough, NoneCrosses, IsMet, AllHold, IsNearer, IsNotPast}
+use Rattle.nef_plane.proofs.Prelude.{◌≡◌, pos, Option, Some, None, List, refl, sym, ◌∙◌, inl, inr, subst, MatchOption, IsNone, IfSome, SpacePoint, form_at, Vector, form_of, far_point, FarHit, Plane, same-itself, HoldsBoth, Encounter, far_reach_of, IsParallelToAxis, sweep_form, AreOpposite, IsHitThrough, NoneCrosses, IsMetBetween, AllHold, IsNearer, IsNotPast}
 use Rattle.nef_plane.proofs.Meeting.{met-some, met-all}
 
-pub met-answers : (o : Option FarHit) (gs : List Plane) (h : Plane) (p : Place) (d : Vector) → IsParallelToAxis (form_of h) d → form_at (form_of h) p ≡ pos 0 → (a b : Place) → HoldsBoth (form_of h) a b
-    → AreOpposite (sweep_form (form_of h) p) a b → MatchOption o (NoneCrosses gs p d a b) (λ q. IsHitThrough p d a b (far_reach_of q)) → IfSome o (λ q. IsMet (form_of h) p d a b (far_place q))
+pub met-answers : (o : Option FarHit) (gs : List Plane) (h : Plane) (p : SpacePoint) (d : Vector) → IsParallelToAxis (form_of h) d → form_at (form_of h) p ≡ pos 0 → (a b : SpacePoint) → HoldsBoth (form_of h) a b
+    → AreOpposite (sweep_form (form_of h) p) a b → MatchOption o (NoneCrosses gs p d a b) (λ q. IsHitThrough p d a b (far_reach_of q)) → IfSome o (λ q. IsMetBetween (form_of h) p d a b (far_point q))
 met-answers None gs h p d A on a b H s m = tt
-met-answers (Some q) gs h p d A on a b H s m = met-some h p d A on a b (form_of m.plane) (far_place q) H s m.holds m.crosses
+met-answers (Some q) gs h p d A on a b H s m = met-some h p d A on a b (form_of m.plane) (far_point q) H s m.holds m.crosses
 
-pub none-answers : (o : Option FarHit) (gs : List Plane) (h : Plane) (p : Place) (d : Vector) → IsParallelToAxis (form_of h) d → form_at (form_of h) p ≡ pos 0 → (a b : Place)
-    → MatchOption o (NoneCrosses gs p d a b) (λ q. IsHitThrough p d a b (far_reach_of q)) → IsNone o → (y : Place) → IsMet (form_of h) p d a b y → AllHold gs d a b
+pub none-answers : (o : Option FarHit) (gs : List Plane) (h : Plane) (p : SpacePoint) (d : Vector) → IsParallelToAxis (form_of h) d → form_at (form_of h) p ≡ pos 0 → (a b : SpacePoint)
+    → MatchOption o (NoneCrosses gs p d a b) (λ q. IsHitThrough p d a b (far_reach_of q)) → IsNone o → (y : SpacePoint) → IsMetBetween (form_of h) p d a b y → AllHold gs d a b
 none-answers None gs h p d A on a b m n y M = met-all h p d A on a b gs y M m
 none-answers (Some q) gs h p d A on a b m n y M = cc
 

@@ -1,5 +1,5 @@
 -- A coordinate that hardly changes along a direction changes by less than one within the frame.
-use Rattle.nef_plane.proofs.Prelude.{◌≡◌, ℕ, ◌+◌, ◌*◌, ◌<◌, ◌≤◌, ℤ, pos, neg_ℤ, ◌-ℤ◌, ◌*ℤ◌, ◌<ℤ◌, nat_abs, arith, true, ◌⊎◌, ◌↔◌, ⊎_elim, sym, ap, ◌∙◌, subst, w64, cond, ◌&&◌, List, length, [], ◌∷◌, refl, mul-pos, mul-le-mul_left, mul-le-mul_right, int_eq, cases_lt, Decides-int_eq, ints, unsigned_abs-mul, load, wrap, exact_of, abs_minus, abs_times, ring, at, num, ◌⊕◌, ◌⊖◌, ◌⊗◌, half_side, Place, Form, form, form_at, toward, InClosedFrame, IsAhead, Vector, vector, dot, form_of, ray_limit, Plane, through-at, through-slope, is-at_within, Vertex, StaysClose, IsFirst, IsPast, shifted_form, IsSwept, sweep_axis, sweep_form}
+use Rattle.nef_plane.proofs.Prelude.{◌≡◌, ℕ, ◌+◌, ◌*◌, ◌<◌, ◌≤◌, ℤ, pos, neg_ℤ, ◌-ℤ◌, ◌*ℤ◌, ◌<ℤ◌, nat_abs, arith, true, ◌⊎◌, ◌↔◌, ⊎_elim, sym, ap, ◌∙◌, subst, w64, cond, ◌&&◌, List, length, [], ◌∷◌, refl, mul-pos, mul-le-mul_left, mul-le-mul_right, int_eq, cases_lt, Decides-int_eq, ints, unsigned_abs-mul, load, wrap, exact_of, abs_minus, abs_times, ring, at, num, ◌⊕◌, ◌⊖◌, ◌⊗◌, half_side, SpacePoint, Form, form, form_at, toward, InClosedFrame, IsAhead, Vector, vector, dot, form_of, ray_limit, Plane, through-at, through-slope, is-at_within, Vertex, StaysClose, IsCourseFirst, IsCoursePast, shifted_form, IsSwept, sweep_axis, sweep_form}
 use Rattle.nef_geo.proofs.Cramer.{difference}
 use mir.Val.{to_z, of_z}
 use Rattle.nef_plane.proofs.Sweep.{first-swept}
@@ -27,7 +27,7 @@ apart x y v w i j =
     let h = abs_minus (y *ℤ pos v) (x *ℤ pos w) (half_side * w * v) (half_side * v * w) f g in
     omega (arith, h)
 
-module _ (p q : Place) (i : InClosedFrame p) (j : InClosedFrame q) (d : Vector) (a : IsAhead p d q) where
+module _ (p q : SpacePoint) (i : InClosedFrame p) (j : InClosedFrame q) (d : Vector) (a : IsAhead p d q) where
   abbrev t : Vector
   t = toward p q
 
@@ -70,7 +70,7 @@ outweighed t x y n k e f i j r u =
     exact x y e l = exact_of (ray_limit ∷ []) (x ∷ []) (wrap w64 (load 0)) (subst (λ r. nat_abs r ≤ ray_limit) (sym e) l, tt) tt ∙ e
 
 -- ---- lines beside a point
-pub shifted-at : (h : Form) (p : Place) (z : ℤ) (q : Place) → form_at (shifted_form h p z) q ≡ dot (sweep_axis h) (toward p q) -ℤ z *ℤ (pos p.w *ℤ pos q.w)
+pub shifted-at : (h : Form) (p : SpacePoint) (z : ℤ) (q : SpacePoint) → form_at (shifted_form h p z) q ≡ dot (sweep_axis h) (toward p q) -ℤ z *ℤ (pos p.w *ℤ pos q.w)
 shifted-at h p z q =
     let k = sweep_form h p in
     subst (λ (r : ℤ). form_at (shifted_form h p z) q ≡ r -ℤ z *ℤ (pos p.w *ℤ pos q.w)) (through-at (sweep_axis h) p q)
@@ -78,10 +78,10 @@ shifted-at h p z q =
     (at 0 ⊗ at 6 ⊕ at 1 ⊗ at 7 ⊕ at 2 ⊗ at 8 ⊕ (at 3 ⊖ at 4 ⊗ at 5) ⊗ at 9)
     (at 0 ⊗ at 6 ⊕ at 1 ⊗ at 7 ⊕ at 2 ⊗ at 8 ⊕ at 3 ⊗ at 9 ⊖ at 4 ⊗ (at 5 ⊗ at 9)) tt)
 
-pub shifted-swept : (h : Form) (p : Place) (z : ℤ) → IsSwept h (shifted_form h p z)
+pub shifted-swept : (h : Form) (p : SpacePoint) (z : ℤ) → IsSwept h (shifted_form h p z)
 shifted-swept h p z = (pos p.w, (let m = p.proper in omega (arith, ints)), through-slope (sweep_axis h) p)
 
-module _ (vs : List Vertex) (h : Form) (p : Place) (d : Vector) where
+module _ (vs : List Vertex) (h : Form) (p : SpacePoint) (d : Vector) where
   -- all that the ray meets comes within one of its start
   module _ (z : ℤ) (close : StaysClose (sweep_axis h) d) (i : InClosedFrame p) where
     beyond : (x y : ℤ) (m : ℕ) → x ≡ y -ℤ z *ℤ (pos m) → z ≡ neg_ℤ (pos 1) → nat_abs y < m → pos 0 <ℤ x
@@ -90,24 +90,24 @@ module _ (vs : List Vertex) (h : Form) (p : Place) (d : Vector) where
     short : (x y : ℤ) (m : ℕ) → x ≡ y -ℤ z *ℤ (pos m) → z ≡ pos 1 → nat_abs y < m → x <ℤ pos 0
     short x y m e f l = let g : z *ℤ pos m ≡ pos 1 *ℤ pos m = ap (λ r. r *ℤ pos m) f in omega (arith, ints)
 
-    pub ahead-beyond : z ≡ neg_ℤ (pos 1) → (q : Place) → InClosedFrame q → IsAhead p d q → pos 0 <ℤ form_at (shifted_form h p z) q
+    pub ahead-beyond : z ≡ neg_ℤ (pos 1) → (q : SpacePoint) → InClosedFrame q → IsAhead p d q → pos 0 <ℤ form_at (shifted_form h p z) q
     ahead-beyond f q j a = beyond (form_at (shifted_form h p z) q) (dot (sweep_axis h) (toward p q)) (p.w * q.w) (shifted-at h p z q) f (close p q i j a)
 
-    pub ahead-short : z ≡ pos 1 → (q : Place) → InClosedFrame q → IsAhead p d q → form_at (shifted_form h p z) q <ℤ pos 0
+    pub ahead-short : z ≡ pos 1 → (q : SpacePoint) → InClosedFrame q → IsAhead p d q → form_at (shifted_form h p z) q <ℤ pos 0
     ahead-short f q j a = short (form_at (shifted_form h p z) q) (dot (sweep_axis h) (toward p q)) (p.w * q.w) (shifted-at h p z q) f (close p q i j a)
 
   -- where nothing is known, all numbers are within
-  whole : (z : ℤ) (q : Place) → form_at (form (pos 0) (pos 0) (pos 0) z) q ≡ z *ℤ pos q.w
+  whole : (z : ℤ) (q : SpacePoint) → form_at (form (pos 0) (pos 0) (pos 0) z) q ≡ z *ℤ pos q.w
   whole z q = ring (z ∷ q.x ∷ q.y ∷ q.z ∷ pos q.w ∷ []) (num (pos 0) ⊗ at 1 ⊕ num (pos 0) ⊗ at 2 ⊕ num (pos 0) ⊗ at 3 ⊕ at 0 ⊗ at 4) (at 0 ⊗ at 4) tt
 
-  pub first-all : (n : ℕ) → n ≡ 0 → IsFirst vs h p d n
+  pub first-all : (n : ℕ) → n ≡ 0 → IsCourseFirst vs h p d n
   first-all n e = (
     form (pos 0) (pos 0) (pos 0) (pos 1),
     λ q j a. let m = q.proper in let f = whole (pos 1) q in omega (arith, ints),
     λ j v l. absurd (omega (arith, e, l)),
   )
 
-  pub past-all : (n : ℕ) → n ≡ length vs → IsPast vs h p d n
+  pub past-all : (n : ℕ) → n ≡ length vs → IsCoursePast vs h p d n
   past-all n e = (
     form (pos 0) (pos 0) (pos 0) (neg_ℤ (pos 1)),
     λ q j a. let m = q.proper in let f = whole (neg_ℤ (pos 1)) q in omega (arith, ints),

@@ -1,11 +1,11 @@
 -- Not all carriers that hold a vertex are along one direction, and those that hold an edge only where the edge is; some carrier holds it.
-use Rattle.nef_plane.proofs.Prelude.{◌≡◌, ℕ, pos, sym, ◌∙◌, subst, Lies, nought-is, Flat, Place, Form, form_at, slope, normal_of, toward, IsBetween, Set, Vector, cross, IsZero, IsDirection, form_of, Plane, carriers, EdgeSupport, start, start-between, edge-support, At, at-map, HasEnds, Shows, SamePlane, edge-points, plane-turned, plane-point, plane-slope, Complex, complex_of, HoldsBoth, through-both, along-cross, AllHold, dot-comm, cross-turned, parallel-both, triple-in_plane}
+use Rattle.nef_plane.proofs.Prelude.{◌≡◌, ℕ, pos, sym, ◌∙◌, subst, Lies, nought-is, Flat, SpacePoint, Form, form_at, slope, normal_of, toward, IsBetween, Set, Vector, cross, IsZero, IsDirection, form_of, Plane, carriers, EdgeSupport, start, start-between, edge-support, IsAt, at-map, HasEnds, Shows, SamePlane, edge-points, plane-turned, plane-point, plane-slope, Complex, complex_of, HoldsBoth, through-both, along-cross, AllHold, dot-comm, cross-turned, parallel-both, triple-in_plane}
 use Rattle.law_near.proofs.Meets.{vertex-meets}
 use Rattle.law_complex.specs.Complexes.{Vertex, Edge}
 use Rattle.law_complex.proofs.Edges.{edge-way}
 
 -- the program's carrier of a plane of the set
-carrier-of : (s : Set) (c : Complex) → Shows s (complex_of c) → (f : Form) → Lies (carriers s) f → (i : ℕ) × (g : Plane) × At c.carriers i g × SamePlane (form_of g) f
+carrier-of : (s : Set) (c : Complex) → Shows s (complex_of c) → (f : Form) → Lies (carriers s) f → (i : ℕ) × (g : Plane) × IsAt c.carriers i g × SamePlane (form_of g) f
 carrier-of s c S f l =
     let r = S.carriers.all f l in
     let g = at-map form_of c.carriers r.0 r.1 r.2 in
@@ -13,14 +13,14 @@ carrier-of s c S f l =
 
 module _ (s : Set) (c : Complex) (S : Shows s (complex_of c)) (d : Vector) where
   -- where all planes that hold two points are along d, so is each carrier of the set that holds them
-  held : (a b : Place) → AllHold c.carriers d a b → (f : Form) → Lies (carriers s) f → HoldsBoth f a b → slope f d ≡ pos 0
+  held : (a b : SpacePoint) → AllHold c.carriers d a b → (f : Form) → Lies (carriers s) f → HoldsBoth f a b → slope f d ≡ pos 0
   held a b H f l (x, y) =
       let r = carrier-of s c S f l in
       let back = plane-turned (form_of r.1) f r.3 in
       plane-slope (form_of r.1) f d r.3 (H r.0 r.1 r.2 (plane-point f (form_of r.1) a back x, plane-point f (form_of r.1) b back y))
 
   -- the planes that hold a vertex aren't all along one direction
-  pub vertex-crossed : IsDirection d → (k : ℕ) (v : Vertex) → At (complex_of c).vertices k v → AllHold c.carriers d v.point v.point → ⊥
+  pub vertex-crossed : IsDirection d → (k : ℕ) (v : Vertex) → IsAt (complex_of c).vertices k v → AllHold c.carriers d v.point v.point → ⊥
   vertex-crossed some k v a H =
       let m = vertex-meets s v.point (S.vertices k v a) in
       let z = (λ (f : Form) (l : Lies (carriers s) f) (e : form_at f v.point ≡ pos 0). dot-comm d (normal_of f) ∙ held v.point v.point H f l (e, e)) in
@@ -29,11 +29,11 @@ module _ (s : Set) (c : Complex) (S : Shows s (complex_of c)) (d : Vector) where
       (z m.second m.second_in (nought-is (form_at m.second v.point) m.second_at))
       (z m.third m.third_in (nought-is (form_at m.third v.point) m.third_at)))
 
-module _ (s : Set) (c : Complex) (S : Shows s (complex_of c)) (k : ℕ) (e : Edge) (v w : Vertex) (a : At (complex_of c).edges k e) (H : HasEnds (complex_of c) e v w) (apart : IsDirection (toward v.point w.point)) where
+module _ (s : Set) (c : Complex) (S : Shows s (complex_of c)) (k : ℕ) (e : Edge) (v w : Vertex) (a : IsAt (complex_of c).edges k e) (H : HasEnds (complex_of c) e v w) (apart : IsDirection (toward v.point w.point)) where
   abbrev t : Vector
   t = toward v.point w.point
 
-  abbrev y : Place
+  abbrev y : SpacePoint
   y = start 1 v.point w.point
 
   inside : IsBetween v.point y w.point
@@ -56,7 +56,7 @@ module _ (s : Set) (c : Complex) (S : Shows s (complex_of c)) (k : ℕ) (e : Edg
       parallel-both x t d E.independent (cross-turned t x (along-cross (normal_of E.first) (normal_of E.second) t z.0 z.1)) (cross-turned d x (along-cross (normal_of E.first) (normal_of E.second) d f g))
 
   -- some carrier holds it
-  pub edge-carried : (i : ℕ) × (g : Plane) × At c.carriers i g × HoldsBoth (form_of g) v.point w.point
+  pub edge-carried : (i : ℕ) × (g : Plane) × IsAt c.carriers i g × HoldsBoth (form_of g) v.point w.point
   edge-carried =
       let E = support in
       let z = (E.flat_in t).0 along in

@@ -1,5 +1,5 @@
 -- What holds of vertices and of edges, said of either by its ends.
-use Rattle.nef_plane.proofs.Prelude.{◌≡◌, ℕ, List, sym, refl, subst, IsAt, Form, Set, place_of, Plane, Shows, is-at_one, is-at_some, Vertex, Edge, Complex, PlaneMeet, AtVertex, AtEdge, complex_of, AreHolders, HoldsBoth, low-within, high-within, got-at, HasMeet, MeetLiesIn, AreEnds, HasEndsAt}
+use Rattle.nef_plane.proofs.Prelude.{◌≡◌, ℕ, List, sym, refl, subst, IsAt, Form, Set, point_of, Plane, Shows, is-at_one, is-at_some, Vertex, Edge, Complex, PlaneMeet, AtVertex, AtEdge, complex_of, AreHolders, HoldsBoth, low-within, high-within, got-at, HasMeet, MeetLiesIn, AreEnds, HasEndsAt}
 use Rattle.nef_plane.proofs.Listed.{held-vertex, held-edge}
 
 module _ (c : Complex) where
@@ -14,13 +14,13 @@ module _ (c : Complex) where
       (λ k a b. subst (λ (w : Vertex). Q (AtVertex k) u w) (is-at_one c.vertices k u v a b) (f k u a)) (λ k e l a b. g k e u v l a b) m i j E a b
 
   -- where it lies in the plane, both ends lie on it
-  pub ends-held : (h : Form) (m : PlaneMeet) (u v : Vertex) → HasEndsAt c m u v → MeetLiesIn c h m → HoldsBoth h (place_of u.point) (place_of v.point)
-  ends-held h = by-ends (λ m u v. MeetLiesIn c h m → HoldsBoth h (place_of u.point) (place_of v.point))
+  pub ends-held : (h : Form) (m : PlaneMeet) (u v : Vertex) → HasEndsAt c m u v → MeetLiesIn c h m → HoldsBoth h (point_of u.point) (point_of v.point)
+  ends-held h = by-ends (λ m u v. MeetLiesIn c h m → HoldsBoth h (point_of u.point) (point_of v.point))
       (λ k v l o. let e = held-vertex c.vertices h k v l o in (e, e)) (λ k e u v l i j. held-edge c.vertices c.edges h k e u v l i j)
 
   -- where both ends lie on the plane, it lies there
-  pub ends-lie : (h : Form) (m : PlaneMeet) (u v : Vertex) → HasEndsAt c m u v → HoldsBoth h (place_of u.point) (place_of v.point) → MeetLiesIn c h m
-  ends-lie h = by-ends (λ m u v. HoldsBoth h (place_of u.point) (place_of v.point) → MeetLiesIn c h m)
+  pub ends-lie : (h : Form) (m : PlaneMeet) (u v : Vertex) → HasEndsAt c m u v → HoldsBoth h (point_of u.point) (point_of v.point) → MeetLiesIn c h m
+  ends-lie h = by-ends (λ m u v. HoldsBoth h (point_of u.point) (point_of v.point) → MeetLiesIn c h m)
       (λ k v l o. (v, l, o.0)) (λ k e u v l i j o. (e, l, (u, i, o.0), (v, j, o.1)))
 
   -- there are ends, and the carriers listed are those that hold both
@@ -34,6 +34,6 @@ module _ (c : Complex) where
         let v = is-at_some c.vertices e.0.high (high-within s c S k e.0 a) in
         (u.0, v.0, (e.0.low, e.0.high, (e.0, e.1, refl, refl), u.1, v.1))
 
-    pub has-holders : (m : PlaneMeet) → HasMeet c m → (gs : List Plane) (ns : List ℕ) → gs ≡ c.carriers → ((u v : Vertex) → HasEndsAt c m u v → AreHolders c.carriers (place_of u.point) (place_of v.point) ns)
-        → (u : Vertex) × (v : Vertex) × HasEndsAt c m u v × AreHolders gs (place_of u.point) (place_of v.point) ns
-    has-holders m l gs ns e H = let (u, v, E) = has-ends m l in (u, v, E, subst (λ (hs : List Plane). AreHolders hs (place_of u.point) (place_of v.point) ns) (sym e) (H u v E))
+    pub has-holders : (m : PlaneMeet) → HasMeet c m → (gs : List Plane) (ns : List ℕ) → gs ≡ c.carriers → ((u v : Vertex) → HasEndsAt c m u v → AreHolders c.carriers (point_of u.point) (point_of v.point) ns)
+        → (u : Vertex) × (v : Vertex) × HasEndsAt c m u v × AreHolders gs (point_of u.point) (point_of v.point) ns
+    has-holders m l gs ns e H = let (u, v, E) = has-ends m l in (u, v, E, subst (λ (hs : List Plane). AreHolders hs (point_of u.point) (point_of v.point) ns) (sym e) (H u v E))

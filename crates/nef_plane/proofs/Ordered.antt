@@ -1,11 +1,11 @@
 -- The vertices of a plane stand in order of the coordinate that the plane's axis keeps, and a ray from one of them meets what lies on one side of it.
-use Rattle.nef_plane.proofs.Prelude.{◌≡◌, ℕ, ◌≤◌, pos, ◌-ℤ◌, ◌*ℤ◌, ◌<ℤ◌, ◌≤ℤ◌, arith, Bool, true, false, ◌&&◌, inl, inr, ⊎_elim, refl, sym, ap, ◌∙◌, subst, cond, [], ◌∷◌, eq-or-lt_of_le, int_eq, Decides-int_eq, ints, sign, by_order, mul_pos, mul_neg, mul_nonneg, sign-plus, sign-minus, plus-is, minus-is, ring, at, num, ◌⊖◌, ◌⊗◌, Place, Form, form_at, slope, toward, SamePlace, IsAhead, IsBetween, IsPlaceBelow, Set, Vector, vector, dot, form_of, place_of, Plane, slope-toward, place-toward, slope-same, At, at-one, map-at, Shows, through-at, through-slope, plane-way, same-itself, Vertex, Complex, vertex_of, complex_of, times-pos, times-nought, IsSwept, sweep_axis, sweep_form, dot-zero}
+use Rattle.nef_plane.proofs.Prelude.{◌≡◌, ℕ, ◌≤◌, pos, ◌-ℤ◌, ◌*ℤ◌, ◌<ℤ◌, ◌≤ℤ◌, arith, Bool, true, false, ◌&&◌, inl, inr, ⊎_elim, refl, sym, ap, ◌∙◌, subst, cond, [], ◌∷◌, eq-or-lt_of_le, int_eq, Decides-int_eq, ints, sign, by_order, mul_pos, mul_neg, mul_nonneg, sign-plus, sign-minus, plus-is, minus-is, ring, at, num, ◌⊖◌, ◌⊗◌, SpacePoint, Form, form_at, slope, toward, SamePoint, IsAhead, IsBetween, IsPointBelow, Set, Vector, vector, dot, form_of, point_of, Plane, slope-toward, point-toward, slope-same, IsAt, at-one, map-at, Shows, through-at, through-slope, plane-way, same-itself, Vertex, Complex, vertex_of, complex_of, times-pos, times-nought, IsSwept, sweep_axis, sweep_form, dot-zero}
 
-weight : (r : Place) → pos 0 <ℤ pos r.w
+weight : (r : SpacePoint) → pos 0 <ℤ pos r.w
 weight r = let m = r.proper in omega (arith, ints)
 
 -- ---- points strictly between two others
-module _ (k : Form) (a q b : Place) (w : IsBetween a q b) where
+module _ (k : Form) (a q b : SpacePoint) (w : IsBetween a q b) where
   -- aren't past both
   pub between-at_most : form_at k a ≤ℤ pos 0 → form_at k b ≤ℤ pos 0 → form_at k q ≤ℤ pos 0
   between-at_most i j = by_order (form_at k q) (pos 0) (λ l. omega (arith, ints)) (λ l. omega (arith, ints))
@@ -36,7 +36,7 @@ module _ (k : Form) (a q b : Place) (w : IsBetween a q b) where
       (λ l. omega (arith, ints)) (λ l. omega (arith, ints))
 
 -- ---- the sweep coordinate
-module _ (h : Plane) (p : Place) where
+module _ (h : Plane) (p : SpacePoint) where
   abbrev e : Vector
   e = sweep_axis (form_of h)
 
@@ -44,9 +44,9 @@ module _ (h : Plane) (p : Place) where
   k = sweep_form (form_of h) p
 
   pub start-level : form_at k p ≡ pos 0
-  start-level = through-at e p p ∙ dot-zero e (toward p p) (place-toward p p (same-itself p))
+  start-level = through-at e p p ∙ dot-zero e (toward p p) (point-toward p p (same-itself p))
 
-  module _ (d : Vector) (q : Place) (w : IsAhead p d q) where
+  module _ (d : Vector) (q : SpacePoint) (w : IsAhead p d q) where
     way : sign (slope k (toward p q)) ≡ sign (slope k d)
     way = slope-same k (toward p q) d w
 
@@ -73,26 +73,26 @@ module _ (h : Plane) (p : Place) where
         (λ x. absurd (let y = mul_pos (pos p.w) (form_at k q) (weight p) x in omega (arith, ints)))
 
 -- the form of a line changes with that coordinate
-pub swept : (h : Form) (p : Place) → IsSwept h (sweep_form h p)
+pub swept : (h : Form) (p : SpacePoint) → IsSwept h (sweep_form h p)
 swept h p = (pos p.w, weight p, through-slope (sweep_axis h) p)
 
 -- ---- vertices of a plane
-module _ (s : Set) (c : Complex) (S : Shows s (complex_of c)) (h : Plane) (k : Form) (K : IsSwept (form_of h) k) (i j : ℕ) (u v : Vertex) (a : At c.vertices i u) (b : At c.vertices j v)
-    (on_u : form_at (form_of h) (place_of u.point) ≡ pos 0) (on_v : form_at (form_of h) (place_of v.point) ≡ pos 0) (l : i ≤ j) where
-  abbrev U : Place
-  U = place_of u.point
+module _ (s : Set) (c : Complex) (S : Shows s (complex_of c)) (h : Plane) (k : Form) (K : IsSwept (form_of h) k) (i j : ℕ) (u v : Vertex) (a : IsAt c.vertices i u) (b : IsAt c.vertices j v)
+    (on_u : form_at (form_of h) (point_of u.point) ≡ pos 0) (on_v : form_at (form_of h) (point_of v.point) ≡ pos 0) (l : i ≤ j) where
+  abbrev U : SpacePoint
+  U = point_of u.point
 
-  abbrev V : Place
-  V = place_of v.point
+  abbrev V : SpacePoint
+  V = point_of v.point
 
   abbrev t : Vector
   t = toward U V
 
-  below-x : IsPlaceBelow U V → pos 0 ≤ℤ t.x
+  below-x : IsPointBelow U V → pos 0 ≤ℤ t.x
   below-x (inl m) = omega (arith, ints)
   below-x (inr (m, n)) = omega (arith, ints)
 
-  below-y : IsPlaceBelow U V → t.x ≡ pos 0 → pos 0 ≤ℤ t.y
+  below-y : IsPointBelow U V → t.x ≡ pos 0 → pos 0 ≤ℤ t.y
   below-y (inl m) z = absurd (omega (arith, ints))
   below-y (inr (m, inl n)) z = omega (arith, ints)
   below-y (inr (m, inr (n, o))) z = omega (arith, ints)
@@ -107,17 +107,17 @@ module _ (s : Set) (c : Complex) (S : Shows s (complex_of c)) (h : Plane) (k : F
       let some : pos 0 <ℤ h.a = by_order h.a (pos 0) (λ m. absurd (let o = n.first in omega (arith, ints))) (λ m. absurd (let o = n.third m g in omega (arith, ints))) (λ m. m) in
       times-nought h.a t.x some (omega (arith, ints))
 
-  in-order : IsPlaceBelow U V → (x y : Bool) → int_eq h.c (pos 0) ≡ x → int_eq h.b (pos 0) ≡ y → pos 0 ≤ℤ dot (cond (x && y) (vector (pos 0) (pos 1) (pos 0)) (vector (pos 1) (pos 0) (pos 0))) t
+  in-order : IsPointBelow U V → (x y : Bool) → int_eq h.c (pos 0) ≡ x → int_eq h.b (pos 0) ≡ y → pos 0 ≤ℤ dot (cond (x && y) (vector (pos 0) (pos 1) (pos 0)) (vector (pos 1) (pos 0) (pos 0))) t
   in-order m true true f g = let z = below-y m (upright ((Decides-int_eq h.c (pos 0)).0 f) ((Decides-int_eq h.b (pos 0)).0 g)) in omega (arith, ints)
   in-order m true false f g = let z = below-x m in omega (arith, ints)
   in-order m false y f g = let z = below-x m in omega (arith, ints)
 
   same-zero : u ≡ v → pos 0 ≤ℤ dot (sweep_axis (form_of h)) t
-  same-zero o = let z = dot-zero (sweep_axis (form_of h)) t (place-toward U V (subst (λ (r : Vertex). SamePlace U (place_of r.point)) o (same-itself U))) in omega (arith, ints)
+  same-zero o = let z = dot-zero (sweep_axis (form_of h)) t (point-toward U V (subst (λ (r : Vertex). SamePoint U (point_of r.point)) o (same-itself U))) in omega (arith, ints)
 
   pub sweep-order : pos 0 ≤ℤ dot (sweep_axis (form_of h)) t
   sweep-order = ⊎_elim
-      (λ o. same-zero (at-one c.vertices j u v (subst (λ n. At c.vertices n u) o a) b))
+      (λ o. same-zero (at-one c.vertices j u v (subst (λ n. IsAt c.vertices n u) o a) b))
       (λ o. in-order (S.ordered i j (vertex_of u) (vertex_of v) o (map-at vertex_of c.vertices i u a) (map-at vertex_of c.vertices j v b)) (int_eq h.c (pos 0)) (int_eq h.b (pos 0)) refl refl)
       (eq-or-lt_of_le {n = i} {m = j} l)
 

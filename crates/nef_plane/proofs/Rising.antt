@@ -1,8 +1,8 @@
 -- Edges of a plane by the numbers of their ends.
-use Rattle.nef_plane.proofs.Prelude.{ℕ, ◌<◌, ◌≤◌, List, arith, refl, IsAt, Form, Set, is-at_within, map-at, at-from_get, Shows, Edge, Complex, AtEdge, edge_of, complex_of, AreWithin, EdgeLiesIn, AreNumbersWith, EndBelow, AreEnds}
+use Rattle.nef_plane.proofs.Prelude.{ℕ, ◌<◌, ◌≤◌, List, arith, refl, IsAt, Form, Set, is-at_within, map-at, at-from_get, Shows, Edge, Complex, AtEdge, edge_of, complex_of, AreNumbersOf, EdgeLiesIn, AreNumbersWith, EndBelow, AreEnds}
 
 -- the listed edges of a plane are edges
-pub edges-within : (c : Complex) (h : Form) (ns : List ℕ) → AreNumbersWith (EdgeLiesIn c.vertices c.edges h) ns → AreWithin c.edges ns
+pub edges-within : (c : Complex) (h : Form) (ns : List ℕ) → AreNumbersWith (EdgeLiesIn c.vertices c.edges h) ns → AreNumbersOf c.edges ns
 edges-within c h ns N i k a = let L = N.each i k a in is-at_within c.edges k L.0 L.1
 
 module _ (s : Set) (c : Complex) (S : Shows s (complex_of c)) (h : Form) where

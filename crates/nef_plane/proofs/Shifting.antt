@@ -1,5 +1,5 @@
 -- The side of a line beside a point on which another point lies, by one coordinate.
-use Rattle.nef_plane.proofs.Prelude.{◌≡◌, ℤ, pos, ◌-ℤ◌, ◌*ℤ◌, nat_abs, ◌≤◌, w64, Bool, true, false, cond, ◌&&◌, sym, ap, ◌∙◌, [], ◌∷◌, int_eq, load, wrap, exact_of, Place, form_at, toward, Vector, vector, dot, form_of, place_of, sign_of, Sign, Plane, Point, shifted_form, pos-abs}
+use Rattle.nef_plane.proofs.Prelude.{◌≡◌, ℤ, pos, ◌-ℤ◌, ◌*ℤ◌, nat_abs, ◌≤◌, w64, Bool, true, false, cond, ◌&&◌, sym, ap, ◌∙◌, [], ◌∷◌, int_eq, load, wrap, exact_of, SpacePoint, form_at, toward, Vector, vector, dot, form_of, point_of, sign_of, Sign, Plane, Point, shifted_form, pos-abs}
 use mir.Val.{to_z, of_z}
 use Rattle.nef_plane.proofs.Close.{first-product, second-product, second-swept, shifted-at}
 use Rattle.nef_plane.proofs.Sweep.{exact-of, exact-weight, first-swept}
@@ -11,11 +11,11 @@ numbers-same x v y w b x' v' y' w' b' e f g h i =
 
 module _ (h : Plane) (p a : Point) (z : ℤ) (small : nat_abs z ≤ 1) (r : Sign) (x w y v : ℤ)
     (sign : r ≡ sign_of (to_z w64 (of_z w64 x) *ℤ to_z w64 (of_z w64 v) -ℤ to_z w64 (of_z w64 y) *ℤ to_z w64 (of_z w64 w) -ℤ to_z w64 (of_z w64 z) *ℤ (to_z w64 (of_z w64 v) *ℤ to_z w64 (of_z w64 w)))) (weight_is : w ≡ a.w) (start_is : v ≡ p.w) where
-  abbrev P : Place
-  P = place_of p
+  abbrev P : SpacePoint
+  P = point_of p
 
-  abbrev Q : Place
-  Q = place_of a
+  abbrev Q : SpacePoint
+  Q = point_of a
 
   abbrev axis : Bool → Vector
   axis b = cond b (vector (pos 0) (pos 1) (pos 0)) (vector (pos 1) (pos 0) (pos 0))

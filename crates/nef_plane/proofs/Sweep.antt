@@ -1,5 +1,5 @@
 -- The side of the ray's line on which a point lies, by one coordinate.
-use Rattle.nef_plane.proofs.Prelude.{◌≡◌, ℤ, pos, ◌-ℤ◌, ◌*ℤ◌, nat_abs, ◌≤◌, w64, Bool, true, false, cond, ◌&&◌, sym, ap, ◌∙◌, refl, subst, [], ◌∷◌, int_eq, Decides-int_eq, load, wrap, exact_of, ring, at, num, ◌⊕◌, ◌⊖◌, ◌⊗◌, direction_limit, point_limit, weight_limit, Place, form_at, plane_through, toward, Vector, vector, dot, form_of, vector_of, place_of, hit_place, sign_of, hit_limit, hit_weight_limit, Sign, Dir, Hit, Plane, Point, through-at, sweep_axis, sweep_form, pos-abs}
+use Rattle.nef_plane.proofs.Prelude.{◌≡◌, ℤ, pos, ◌-ℤ◌, ◌*ℤ◌, nat_abs, ◌≤◌, w64, Bool, true, false, cond, ◌&&◌, sym, ap, ◌∙◌, refl, subst, [], ◌∷◌, int_eq, Decides-int_eq, load, wrap, exact_of, ring, at, num, ◌⊕◌, ◌⊖◌, ◌⊗◌, direction_limit, point_limit, weight_limit, SpacePoint, form_at, plane_through, toward, Vector, vector, dot, form_of, vector_of, point_of, hit_point, sign_of, hit_limit, hit_weight_limit, Sign, Dir, Hit, Plane, Point, through-at, sweep_axis, sweep_form, pos-abs}
 use mir.Syntax.{w128}
 use mir.Val.{to_z, of_z}
 
@@ -30,11 +30,11 @@ first-swept h n = by (int_eq h.c (pos 0)) (int_eq h.b (pos 0)) refl refl
 
 module _ (h : Plane) (p : Hit) (a : Point) (r : Sign) (x w y v : ℤ)
     (sign : r ≡ sign_of (to_z w64 (of_z w64 x) *ℤ to_z w128 (of_z w128 v) -ℤ to_z w128 (of_z w128 y) *ℤ to_z w64 (of_z w64 w))) (weight_is : w ≡ a.w) (start_is : v ≡ p.w) where
-  abbrev P : Place
-  P = hit_place p
+  abbrev P : SpacePoint
+  P = hit_point p
 
-  abbrev Q : Place
-  Q = place_of a
+  abbrev Q : SpacePoint
+  Q = point_of a
 
   abbrev axis : Bool → Vector
   axis b = cond b (vector (pos 0) (pos 1) (pos 0)) (vector (pos 1) (pos 0) (pos 0))

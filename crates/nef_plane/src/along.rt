@@ -1,11 +1,11 @@
 //! What a ray from a vertex, or a ray within a plane, first meets: a vertex, or an edge in the plane.
 
 ghost use Rattle.std.specs.Prelude.{◌≡◌, ◌<◌, ◌↔◌};
-ghost use Rattle.nef_complex.specs.Prelude.{length, pos, IsTrue, IsNone, IfSome, Place, slope, IsAhead, form_at, Set, IsAtMost, form_of, vector_of, place_of, hit_place, ray_limit, upright_limit, upright_weight_limit, PlaneMeet as PlainMeet, Meets, IsFirstInPlane, IsVertexPoint, complex_of, meet_of, ShowsSet, AreWithin, AreHolders, IsPlaceAtMost};
+ghost use Rattle.nef_complex.specs.Prelude.{length, pos, IsTrue, IsNone, IfSome, SpacePoint, slope, IsAhead, form_at, Set, IsAtMost, form_of, vector_of, point_of, hit_point, ray_limit, upright_limit, upright_weight_limit, PlaneMeet as PlainMeet, Meets, IsFirstInPlane, IsVertexPoint, complex_of, meet_of, ShowsSet, AreNumbersOf, AreHolders, IsPointAtMost};
 ghost use Rattle.nef_plane.specs.Asked.{AreItems};
 ghost use Rattle.nef_plane.specs.Courses.{IsCourse, IsExcluding};
 ghost use Rattle.nef_plane.specs.Ends.{IsVertexOrLies};
-ghost use Rattle.nef_plane.specs.Meets.{HasNoSvertex, FromVertex, HoldsRay, IsHitThrough, AllHold, IsWithin, reach_of, IsWithinDirection, IsAlongAxis, IsOffEdges};
+ghost use Rattle.nef_plane.specs.Meets.{HasNoSvertex, FromVertex, HoldsRay, IsHitThrough, AllHold, IsBetweenOrAt, reach_of, IsWithinDirection, IsAlongAxis, IsOffEdges};
 
 use crate::course::{Course, VertexRay, may_pass};
 use crate::first::{Met, PlaneRay, met_of_all, nearest_met};
@@ -22,16 +22,16 @@ fn is_along(g: &Plane, d: &Dir) -> bool
 
 // Whether the plane holds the ray.
 fn is_held(ray: &VertexRay) -> bool
-    ensures holds { IsTrue result ↔ HoldsRay (form_of ray.now.plane.now) (place_of ray.now.start.now) (vector_of ray.now.direction.now) }
+    ensures holds { IsTrue result ↔ HoldsRay (form_of ray.now.plane.now) (point_of ray.now.start.now) (vector_of ray.now.direction.now) }
 {
     side(ray.plane, ray.start) == Sign::Zero && is_along(ray.plane, ray.direction)
 }
 
 // Where the ray crosses the first of the carriers that hold two points, which are listed, that isn't along the ray.
 fn crossed_at(carriers: &[Plane], holders: &[usize], ray: &VertexRay) -> Option<Hit>
-    requires within { AreWithin carriers.now holders.now }
-    ensures through { (a b : Place) → AreHolders carriers.now a b holders.now → IfSome result (λ q. IsHitThrough (place_of ray.now.start.now) (vector_of ray.now.direction.now) a b (reach_of q)) }
-    ensures none { (a b : Place) → AreHolders carriers.now a b holders.now → IsNone result → (y : Place) → IsAhead (place_of ray.now.start.now) (vector_of ray.now.direction.now) y → IsWithin a b y → AllHold carriers.now (vector_of ray.now.direction.now) a b }
+    requires within { AreNumbersOf carriers.now holders.now }
+    ensures through { (a b : SpacePoint) → AreHolders carriers.now a b holders.now → IfSome result (λ q. IsHitThrough (point_of ray.now.start.now) (vector_of ray.now.direction.now) a b (reach_of q)) }
+    ensures none { (a b : SpacePoint) → AreHolders carriers.now a b holders.now → IsNone result → (y : SpacePoint) → IsAhead (point_of ray.now.start.now) (vector_of ray.now.direction.now) y → IsBetweenOrAt a b y → AllHold carriers.now (vector_of ray.now.direction.now) a b }
 {
     for number in holders {
         let g = &carriers[*number];
@@ -47,11 +47,11 @@ impl PlaneRay for VertexRay<'_> {
 
     ghost plane = { λ r. form_of r.plane.now };
 
-    ghost start = { λ r. place_of r.start.now };
+    ghost start = { λ r. point_of r.start.now };
 
     ghost way = { λ r. vector_of r.direction.now };
 
-    ghost has_course = { λ r c x. IsCourse c.vertices (form_of r.plane.now) r.start.now (vector_of r.direction.now) x × IsExcluding c (form_of r.plane.now) (place_of r.start.now) (vector_of r.direction.now) x };
+    ghost has_course = { λ r c x. IsCourse c.vertices (form_of r.plane.now) r.start.now (vector_of r.direction.now) x × IsExcluding c (form_of r.plane.now) (point_of r.start.now) (vector_of r.direction.now) x };
 
     ghost tells = { λ r c m. IsVertexOrLies c (form_of r.plane.now) m };
 
@@ -109,7 +109,7 @@ pub fn first_along_dir(
     requires small { IsAtMost ray_limit (vector_of d.now) }
     requires no_svertex { FromVertex (complex_of c.now) vertex (λ p. HasNoSvertex (complex_of c.now) p (vector_of d.now)) }
     ensures some { IfSome result (λ m. FromVertex (complex_of c.now) vertex (λ p. IsFirstInPlane (complex_of c.now) (form_of h.now) p (vector_of d.now) (meet_of m))) }
-    ensures none { IsNone result → FromVertex (complex_of c.now) vertex (λ p. (m : PlainMeet) (q : Place) → IsAhead p (vector_of d.now) q → Meets (complex_of c.now) (form_of h.now) m q → ⊥) }
+    ensures none { IsNone result → FromVertex (complex_of c.now) vertex (λ p. (m : PlainMeet) (q : SpacePoint) → IsAhead p (vector_of d.now) q → Meets (complex_of c.now) (form_of h.now) m q → ⊥) }
 {
     let ray = VertexRay {
         plane: h,
@@ -139,8 +139,8 @@ fn is_along_axis(h: &Plane, d: &Dir) -> bool
 // The number of the vertex at the point, where the direction is neither the plane's axis nor its opposite.
 fn vertex_off_axis(c: &Complex, h: &Plane, p: &Hit, d: &Dir) -> Option<usize>
     requires shows { (s : Set) × ShowsSet s c.now }
-    requires direction { IsWithinDirection (complex_of c.now) (form_of h.now) (hit_place p.now) (vector_of d.now) }
-    ensures some { IfSome result (λ k. (k < length c.now.vertices) × IsVertexPoint (complex_of c.now) k (hit_place p.now)) }
+    requires direction { IsWithinDirection (complex_of c.now) (form_of h.now) (hit_point p.now) (vector_of d.now) }
+    ensures some { IfSome result (λ k. (k < length c.now.vertices) × IsVertexPoint (complex_of c.now) k (hit_point p.now)) }
     ensures none { IsNone result → IsAlongAxis (form_of h.now) (vector_of d.now) }
 {
     if is_along_axis(h, d) {
@@ -161,13 +161,13 @@ fn vertex_off_axis(c: &Complex, h: &Plane, p: &Hit, d: &Dir) -> Option<usize>
 /// taken.
 pub fn first_in_plane(c: &Complex, h: &Plane, p: &Hit, d: &Dir) -> Option<PlaneMeet>
     requires shows { (s : Set) × ShowsSet s c.now }
-    requires on { form_at (form_of h.now) (hit_place p.now) ≡ pos 0 }
-    requires off { IsOffEdges (complex_of c.now) (form_of h.now) (hit_place p.now) }
-    requires numbers { IsPlaceAtMost upright_limit upright_weight_limit (hit_place p.now) }
-    requires direction { IsWithinDirection (complex_of c.now) (form_of h.now) (hit_place p.now) (vector_of d.now) }
-    requires no_svertex { HasNoSvertex (complex_of c.now) (hit_place p.now) (vector_of d.now) }
-    ensures some { IfSome result (λ m. IsFirstInPlane (complex_of c.now) (form_of h.now) (hit_place p.now) (vector_of d.now) (meet_of m)) }
-    ensures none { IsNone result → (m : PlainMeet) (q : Place) → IsAhead (hit_place p.now) (vector_of d.now) q → Meets (complex_of c.now) (form_of h.now) m q → ⊥ }
+    requires on { form_at (form_of h.now) (hit_point p.now) ≡ pos 0 }
+    requires off { IsOffEdges (complex_of c.now) (form_of h.now) (hit_point p.now) }
+    requires numbers { IsPointAtMost upright_limit upright_weight_limit (hit_point p.now) }
+    requires direction { IsWithinDirection (complex_of c.now) (form_of h.now) (hit_point p.now) (vector_of d.now) }
+    requires no_svertex { HasNoSvertex (complex_of c.now) (hit_point p.now) (vector_of d.now) }
+    ensures some { IfSome result (λ m. IsFirstInPlane (complex_of c.now) (form_of h.now) (hit_point p.now) (vector_of d.now) (meet_of m)) }
+    ensures none { IsNone result → (m : PlainMeet) (q : SpacePoint) → IsAhead (hit_point p.now) (vector_of d.now) q → Meets (complex_of c.now) (form_of h.now) m q → ⊥ }
 {
     let items = plane_items(c, h);
     match vertex_off_axis(c, h, p, d) {

@@ -3,8 +3,8 @@
 //! where this plane parts the edge's ends or holds both.
 
 ghost use Rattle.std.specs.Prelude.{◌≡◌, ◌*◌, ◌<◌, ◌≤◌, ◌-ℤ◌, ◌*ℤ◌, ◌↔◌, ◌⊎◌, ◌+ℤ◌};
-ghost use Rattle.nef_complex.specs.Prelude.{nat_abs, IsTrue, IfSome, half_side, point_limit, weight_limit, Set, dot, IsAtMost, form_of, vector_of, place_of, sign_of, ray_limit, ShowsSet, LiesOn, AreNumbersWith, MatchOption, form_at};
-ghost use Rattle.nef_plane.specs.Courses.{StartsAt, IsCourse, IsPassed, StaysClose, IsBeside, shifted_form};
+ghost use Rattle.nef_complex.specs.Prelude.{nat_abs, IsTrue, IfSome, half_side, point_limit, weight_limit, Set, dot, IsAtMost, form_of, vector_of, point_of, sign_of, ray_limit, ShowsSet, LiesOn, AreNumbersWith, MatchOption, form_at};
+ghost use Rattle.nef_plane.specs.Courses.{StartsAt, IsCourse, IsCoursePassed, StaysClose, IsCourseBeside, shifted_form};
 ghost use Rattle.nef_plane.specs.Meets.{sweep_axis, HoldsRay, AreOpposite};
 ghost use Rattle.nef_plane.specs.Parting.{product_limit, ray_form, IsAcrossRay};
 
@@ -24,7 +24,7 @@ fn product_with(n: &Dir, a: &Point) -> i128
 fn side_through(n: &Dir, p: &Point, base: i128, a: &Point) -> Sign
     requires base { base ≡ n.now.x *ℤ p.now.x +ℤ n.now.y *ℤ p.now.y +ℤ n.now.z *ℤ p.now.z }
     requires small { nat_abs base ≤ product_limit }
-    ensures side { result ≡ sign_of (form_at (ray_form n.now p.now) (place_of a.now)) }
+    ensures side { result ≡ sign_of (form_at (ray_form n.now p.now) (point_of a.now)) }
 {
     let here = product_with(n, a) * p.w() as i128;
     let there = base * a.w() as i128;
@@ -33,7 +33,7 @@ fn side_through(n: &Dir, p: &Point, base: i128, a: &Point) -> Sign
 
 // Whether the plane through p with normal n parts the points a and b or holds both.
 fn are_parted(n: &Dir, p: &Point, a: &Point, b: &Point) -> bool
-    ensures opposite { IsTrue result ↔ AreOpposite (ray_form n.now p.now) (place_of a.now) (place_of b.now) }
+    ensures opposite { IsTrue result ↔ AreOpposite (ray_form n.now p.now) (point_of a.now) (point_of b.now) }
 {
     let base = product_with(n, p);
     side_through(n, p, base, a) == side_through(n, p, base, b).opposite()
@@ -55,7 +55,7 @@ fn normal_beside(h: &Plane, d: &Dir) -> Option<Dir>
 /// Whether a ray from p may pass between the points a and b, or through both if they are one point. The plane through p
 /// with the normal, if there is one, holds the ray; a ray with both points strictly on one side doesn't pass.
 pub(crate) fn may_pass(normal: &Option<Dir>, p: &Point, a: &Point, b: &Point) -> bool
-    ensures beside { (IsTrue result → ⊥) → MatchOption normal.now ⊥ (λ n. AreOpposite (ray_form n p.now) (place_of a.now) (place_of b.now) → ⊥) }
+    ensures beside { (IsTrue result → ⊥) → MatchOption normal.now ⊥ (λ n. AreOpposite (ray_form n p.now) (point_of a.now) (point_of b.now) → ⊥) }
 {
     match normal {
         Some(n) => are_parted(n, p, a, b),
@@ -137,7 +137,7 @@ struct Shifted<'a> {
 }
 
 impl Line for Shifted<'_> {
-    ghost form = { λ x. shifted_form (form_of x.plane.now) (place_of x.point.now) x.by };
+    ghost form = { λ x. shifted_form (form_of x.plane.now) (point_of x.point.now) x.by };
 
     fn across(&self, a: &Point) -> Sign {
         let p = self.point;
@@ -162,7 +162,7 @@ fn number_beside(
     requires shows { (s : Set) × ShowsSet s c.now }
     requires small { nat_abs by ≤ 1 }
     requires listed { AreNumbersWith (LiesOn c.now.vertices (form_of ray.now.plane.now)) numbers.now }
-    ensures beside { IsBeside c.now.vertices (form_of ray.now.plane.now) (place_of ray.now.start.now) (vector_of ray.now.direction.now) by on_counts result ⊎ (result ≡ otherwise) }
+    ensures beside { IsCourseBeside c.now.vertices (form_of ray.now.plane.now) (point_of ray.now.start.now) (vector_of ray.now.direction.now) by on_counts result ⊎ (result ≡ otherwise) }
 {
     if !stays_close(ray.plane, ray.direction) {
         return otherwise;
@@ -182,7 +182,7 @@ impl Course {
     pub(crate) fn of(c: &Complex, ray: &VertexRay, start: usize, numbers: &[usize]) -> Course
         requires shows { (s : Set) × ShowsSet s c.now }
         requires start { StartsAt c.now.vertices start ray.now.start.now }
-        requires holds { HoldsRay (form_of ray.now.plane.now) (place_of ray.now.start.now) (vector_of ray.now.direction.now) }
+        requires holds { HoldsRay (form_of ray.now.plane.now) (point_of ray.now.start.now) (vector_of ray.now.direction.now) }
         requires listed { AreNumbersWith (LiesOn c.now.vertices (form_of ray.now.plane.now)) numbers.now }
         ensures course { IsCourse c.now.vertices (form_of ray.now.plane.now) ray.now.start.now (vector_of ray.now.direction.now) result }
     {
@@ -209,7 +209,7 @@ impl Course {
 
     // Whether the ray may meet what lies between the vertices with these numbers, where `low` isn't above `high`.
     pub(crate) fn may_reach(&self, low: usize, high: usize) -> bool
-        ensures passed { (IsTrue result → ⊥) → IsPassed self.now low high }
+        ensures passed { (IsTrue result → ⊥) → IsCoursePassed self.now low high }
     {
         low < self.past && self.first <= high
     }

@@ -1,7 +1,7 @@
 //! What a ray first meets of a plane's vertices and edges, or of all.
 
 ghost use Rattle.std.specs.Prelude.{◌≡◌, ◌<◌, ◌≤◌};
-ghost use Rattle.nef_complex.specs.Prelude.{ℕ, length, IsTrue, IfSome, Place, Form, SamePlace, IsAhead, Set, Vector, IsDirection, complex_of, ShowsSet, AreNumbersWith, LiesOn, IsAt, MatchOrdering, PlaneMeet as PlainMeet, IsInSpan, AreAlone};
+ghost use Rattle.nef_complex.specs.Prelude.{ℕ, length, IsTrue, IfSome, SpacePoint, Form, SamePoint, IsAhead, Set, Vector, IsDirection, complex_of, ShowsSet, AreNumbersWith, LiesOn, IsAt, MatchOrdering, PlaneMeet as PlainMeet, IsInSpan, AreAlone};
 ghost use Rattle.nef_complex.specs.declared.complex.Complex.{Complex as ComplexValue};
 ghost use Rattle.nef_complex.specs.declared.complex.PlaneMeet.{PlaneMeet as PlaneMeetValue};
 ghost use Rattle.nef_plane.specs.declared.course.Course.{Course as CourseValue};
@@ -9,7 +9,7 @@ ghost use Rattle.nef_plane.specs.Asked.{meet_at, count_in, AreItems};
 ghost use Rattle.nef_plane.specs.Courses.{IsExcluding};
 ghost use Rattle.nef_plane.specs.Ends.{HasMeet, MeetLiesIn};
 ghost use Rattle.nef_plane.specs.Windows.{IsOutside, IsWindowTo};
-ghost use Rattle.nef_plane.specs.Meets.{AtMeet, AtSome, AtSomeVertex, AtSomeEdge, AtVertexOrEdge, IsMissed, IsNearest, met_of, Reach, reach_of, far_reach_of, IsReachedAt, IsReachedMet, IsNearer};
+ghost use Rattle.nef_plane.specs.Meets.{AtMeet, AtSome, AtSomeVertex, AtSomeEdge, AtVertexOrEdge, IsMissed, IsNearest, met_of, Reach, reach_of, far_reach_of, IsReachedAt, IsReachedEncounter, IsNearer};
 
 use crate::course::Course;
 use crate::window::{may_lie_within, span_up_to};
@@ -30,7 +30,7 @@ pub(crate) trait Stepped: Copy + Drop {
 
     // Which of two hits of one ray is nearer to the ray's start.
     fn order(&self, other: &Self) -> Ordering
-        ensures along { (p : Place) (d : Vector) → IsDirection d → IsReachedAt p d (reach self.now) → IsReachedAt p d (reach other.now) → MatchOrdering result (IsAhead (reach self.now).place d (reach other.now).place) (SamePlace (reach self.now).place (reach other.now).place) (IsAhead (reach other.now).place d (reach self.now).place) };
+        ensures along { (p : SpacePoint) (d : Vector) → IsDirection d → IsReachedAt p d (reach self.now) → IsReachedAt p d (reach other.now) → MatchOrdering result (IsAhead (reach self.now).place d (reach other.now).place) (SamePoint (reach self.now).place (reach other.now).place) (IsAhead (reach other.now).place d (reach self.now).place) };
 }
 
 impl Stepped for Hit {
@@ -51,7 +51,7 @@ impl Stepped for FarHit {
 
 // The nearer of two things that a ray meets; the first one where both are met at one point.
 fn nearer<H: Stepped>(one: Option<Met<H>>, other: Option<Met<H>>) -> Option<Met<H>>
-    ensures nearer { (p : Place) (d : Vector) → IsDirection d → IfSome one (λ x. IsReachedMet p d (met_of H.reach x)) → IfSome other (λ x. IsReachedMet p d (met_of H.reach x)) → IsNearer (met_of H.reach) d one other result }
+    ensures nearer { (p : SpacePoint) (d : Vector) → IsDirection d → IfSome one (λ x. IsReachedEncounter p d (met_of H.reach x)) → IfSome other (λ x. IsReachedEncounter p d (met_of H.reach x)) → IsNearer (met_of H.reach) d one other result }
 {
     match (one, other) {
         (Some(x), Some(y)) => match x.at.order(&y.at) {
@@ -71,7 +71,7 @@ pub(crate) trait PlaneRay {
 
     ghost plane: { Self → Form };
 
-    ghost start: { Self → Place };
+    ghost start: { Self → SpacePoint };
 
     ghost way: { Self → Vector };
 
@@ -115,19 +115,19 @@ pub(crate) trait PlaneRay {
 
 // What is asked, all vertices or all edges: what a ray may meet, without its number.
 #[derive(Clone, Copy)]
-enum Kind {
+enum MeetKind {
     Vertex,
     Edge,
 }
 
-impl Kind {
+impl MeetKind {
     // The vertex or edge with this number.
     fn at(self, number: usize) -> PlaneMeet
         ensures at { result ≡ meet_at self number }
     {
         match self {
-            Kind::Vertex => PlaneMeet::AtVertex(number),
-            Kind::Edge => PlaneMeet::AtEdge(number),
+            MeetKind::Vertex => PlaneMeet::AtVertex(number),
+            MeetKind::Edge => PlaneMeet::AtEdge(number),
         }
     }
 }
@@ -209,7 +209,7 @@ fn may_meet_within<R: PlaneRay>(
     requires alone { AreAlone c.now.vertices spans.now }
     requires lies { MeetLiesIn c.now (R.plane ray.now) meet }
     ensures told { IsTrue result → R.tells ray.now c.now meet }
-    ensures outside { (IsTrue result → ⊥) → (n : PlainMeet) (q : Place) → IsAhead (R.start ray.now) (R.way ray.now) q → AtMeet (complex_of c.now) (R.plane ray.now) (R.way ray.now) meet n q → IsOutside window.now q }
+    ensures outside { (IsTrue result → ⊥) → (n : PlainMeet) (q : SpacePoint) → IsAhead (R.start ray.now) (R.way ray.now) q → AtMeet (complex_of c.now) (R.plane ray.now) (R.way ray.now) meet n q → IsOutside window.now q }
 {
     may_lie_within(c, spans, window, meet) && ray.may_meet(c, course, meet)
 }
@@ -268,7 +268,12 @@ pub(crate) fn nearest_met<R: PlaneRay>(
 
 // What the ray first meets of all `count` vertices, or of all `count` edges that lie in the plane and aren't along the
 // ray, where no list names the plane's items.
-fn nearest_of_all<R: PlaneRay>(ray: &R, c: &Complex, kind: Kind, count: usize) -> Option<Met<R::At>>
+fn nearest_of_all<R: PlaneRay>(
+    ray: &R,
+    c: &Complex,
+    kind: MeetKind,
+    count: usize,
+) -> Option<Met<R::At>>
     requires shows { (s : Set) × ShowsSet s c.now }
     requires count { count ≡ count_in c.now kind }
     ensures nearest { IsNearest (met_of R.At.reach) (R.start ray.now) (R.way ray.now) (AtSome (complex_of c.now) (R.plane ray.now) (R.way ray.now) kind) result }
@@ -288,7 +293,7 @@ pub(crate) fn met_of_all<R: PlaneRay>(ray: &R, c: &Complex) -> Option<Met<R::At>
     requires shows { (s : Set) × ShowsSet s c.now }
     ensures nearest { IsNearest (met_of R.At.reach) (R.start ray.now) (R.way ray.now) (AtVertexOrEdge (complex_of c.now) (R.plane ray.now) (R.way ray.now)) result }
 {
-    let vertex = nearest_of_all(ray, c, Kind::Vertex, c.vertices.len());
-    let edge = nearest_of_all(ray, c, Kind::Edge, c.edges.len());
+    let vertex = nearest_of_all(ray, c, MeetKind::Vertex, c.vertices.len());
+    let edge = nearest_of_all(ray, c, MeetKind::Edge, c.edges.len());
     nearer(vertex, edge)
 }

@@ -5,7 +5,7 @@
 //! carriers of a vertex meet in the vertex alone, and at least two carriers of an edge meet in its line.
 
 ghost use Rattle.std.specs.Prelude.{◌<◌, ◌↔◌};
-ghost use Rattle.nef_complex.specs.Prelude.{length, IsTrue, IsAt, Place, Set, form_of, place_of, hit_place, IsVertexPoint, IsEdgePoint, complex_of, ShowsSet, AreWithin, AreHolders};
+ghost use Rattle.nef_complex.specs.Prelude.{length, IsTrue, IsAt, SpacePoint, Set, form_of, point_of, hit_point, IsVertexPoint, IsEdgePoint, complex_of, ShowsSet, AreNumbersOf, AreHolders};
 ghost use Rattle.nef_index.specs.declared.skeleton.Edge.{Edge};
 ghost use Rattle.nef_complex.specs.declared.complex.Vertex.{Vertex};
 ghost use Rattle.nef_plane.specs.Amid.{AllSideWith, AllThrough};
@@ -36,7 +36,7 @@ pub(crate) fn ends_of(c: &Complex, meet: PlaneMeet) -> (usize, usize)
 pub(crate) fn holders_of(c: &Complex, meet: PlaneMeet) -> &[usize]
     requires shows { (s : Set) × ShowsSet s c.now }
     requires within { HasMeet c.now meet }
-    ensures holders { (u v : Vertex) → HasEndsAt c.now meet u v → AreHolders c.now.carriers (place_of u.point) (place_of v.point) result.now }
+    ensures holders { (u v : Vertex) → HasEndsAt c.now meet u v → AreHolders c.now.carriers (point_of u.point) (point_of v.point) result.now }
 {
     match meet {
         PlaneMeet::AtVertex(number) => vertex_holders(c, number),
@@ -58,8 +58,8 @@ pub(crate) fn lies_in(c: &Complex, h: &Plane, meet: PlaneMeet) -> bool
 
 // Whether q lies on b's side of each carrier that holds some point, which are listed, or on the carrier where b does.
 fn sides_with(carriers: &[Plane], holders: &[usize], b: &Point, q: &Hit) -> bool
-    requires within { AreWithin carriers.now holders.now }
-    ensures sides { (a : Place) → AreHolders carriers.now a a holders.now → (IsTrue result ↔ AllSideWith carriers.now a (place_of b.now) (hit_place q.now)) }
+    requires within { AreNumbersOf carriers.now holders.now }
+    ensures sides { (a : SpacePoint) → AreHolders carriers.now a a holders.now → (IsTrue result ↔ AllSideWith carriers.now a (point_of b.now) (hit_point q.now)) }
 {
     for number in holders {
         let h = &carriers[*number];
@@ -72,8 +72,8 @@ fn sides_with(carriers: &[Plane], holders: &[usize], b: &Point, q: &Hit) -> bool
 
 // Whether each listed carrier holds the hit. The list has the carriers that hold two points.
 fn are_through(carriers: &[Plane], holders: &[usize], q: &Hit) -> bool
-    requires within { AreWithin carriers.now holders.now }
-    ensures through { (a b : Place) → AreHolders carriers.now a b holders.now → (IsTrue result ↔ AllThrough carriers.now a b (hit_place q.now)) }
+    requires within { AreNumbersOf carriers.now holders.now }
+    ensures through { (a b : SpacePoint) → AreHolders carriers.now a b holders.now → (IsTrue result ↔ AllThrough carriers.now a b (hit_point q.now)) }
 {
     for number in holders {
         if hit_side(&carriers[*number], q) != Sign::Zero {
@@ -87,7 +87,7 @@ fn are_through(carriers: &[Plane], holders: &[usize], q: &Hit) -> bool
 pub fn is_in_line(c: &Complex, number: usize, q: &Hit) -> bool
     requires shows { (s : Set) × ShowsSet s c.now }
     requires within { number < length c.now.edges }
-    ensures line { (e : Edge) (u v : Vertex) → IsAt c.now.edges number e → IsAt c.now.vertices e.low u → IsAt c.now.vertices e.high v → (IsTrue result ↔ AllThrough c.now.carriers (place_of u.point) (place_of v.point) (hit_place q.now)) }
+    ensures line { (e : Edge) (u v : Vertex) → IsAt c.now.edges number e → IsAt c.now.vertices e.low u → IsAt c.now.vertices e.high v → (IsTrue result ↔ AllThrough c.now.carriers (point_of u.point) (point_of v.point) (hit_point q.now)) }
 {
     are_through(c.carriers.as_slice(), edge_holders(c, number), q)
 }
@@ -96,7 +96,7 @@ pub fn is_in_line(c: &Complex, number: usize, q: &Hit) -> bool
 pub fn is_at_vertex(c: &Complex, number: usize, q: &Hit) -> bool
     requires shows { (s : Set) × ShowsSet s c.now }
     requires within { number < length c.now.vertices }
-    ensures at { IsTrue result ↔ IsVertexPoint (complex_of c.now) number (hit_place q.now) }
+    ensures at { IsTrue result ↔ IsVertexPoint (complex_of c.now) number (hit_point q.now) }
 {
     let point = &c.vertices.at(number).point;
     sides_with(c.carriers.as_slice(), vertex_holders(c, number), point, q)
@@ -108,7 +108,7 @@ pub fn is_at_vertex(c: &Complex, number: usize, q: &Hit) -> bool
 pub fn is_on_edge(c: &Complex, number: usize, q: &Hit) -> bool
     requires shows { (s : Set) × ShowsSet s c.now }
     requires within { number < length c.now.edges }
-    ensures on { IsTrue result ↔ IsEdgePoint (complex_of c.now) number (hit_place q.now) }
+    ensures on { IsTrue result ↔ IsEdgePoint (complex_of c.now) number (hit_point q.now) }
 {
     if !is_in_line(c, number, q) {
         return false;
@@ -126,7 +126,7 @@ pub fn is_on_edge(c: &Complex, number: usize, q: &Hit) -> bool
 pub(crate) fn is_at(c: &Complex, meet: PlaneMeet, q: &Hit) -> bool
     requires shows { (s : Set) × ShowsSet s c.now }
     requires within { HasMeet c.now meet }
-    ensures at { IsTrue result ↔ IsMeetPoint (complex_of c.now) meet (hit_place q.now) }
+    ensures at { IsTrue result ↔ IsMeetPoint (complex_of c.now) meet (hit_point q.now) }
 {
     match meet {
         PlaneMeet::AtVertex(number) => is_at_vertex(c, number, q),

@@ -2,11 +2,11 @@
 //! sides. Vertices stand in order of the coordinate that is constant along the axis.
 
 ghost use Rattle.std.specs.Prelude.{◌≡◌, ◌<◌, ◌≤◌, ◌*ℤ◌, ◌-ℤ◌, ◌↔◌};
-ghost use Rattle.nef_complex.specs.Prelude.{pos, nat_abs, IsTrue, IsNone, IfSome, MatchOption, normal_limit, point_limit, weight_limit, Place, form_at, IsAhead, Form, Set, IsAtMost, IsPlaceAtMost, form_of, vector_of, place_of, hit_place, sign_of, upright_limit, upright_weight_limit, ratio_limit, PlaneMeet as PlainMeet, Meets, IsFirstInPlane, complex_of, meet_of, ShowsSet, LiesOn, AreNumbersWith, AreWithin, AreHolders};
+ghost use Rattle.nef_complex.specs.Prelude.{pos, nat_abs, IsTrue, IsNone, IfSome, MatchOption, normal_limit, point_limit, weight_limit, SpacePoint, form_at, IsAhead, Form, Set, IsAtMost, IsPointAtMost, form_of, vector_of, point_of, hit_point, sign_of, upright_limit, upright_weight_limit, ratio_limit, PlaneMeet as PlainMeet, Meets, IsFirstInPlane, complex_of, meet_of, ShowsSet, LiesOn, AreNumbersWith, AreNumbersOf, AreHolders};
 ghost use Rattle.nef_plane.specs.Asked.{AreItems};
 ghost use Rattle.nef_plane.specs.Courses.{IsExcluding};
 ghost use Rattle.nef_plane.specs.Ends.{MeetLiesIn};
-ghost use Rattle.nef_plane.specs.Levels.{IsLevel, IsUnparted, IsShort, AreShortBelow, AreFarFrom, IsSwept};
+ghost use Rattle.nef_plane.specs.Levels.{IsLevel, IsUnparted, IsBeforePlane, AreShortBelow, AreFarFrom, IsSwept};
 ghost use Rattle.nef_plane.specs.Meets.{IsAlongAxis, IsParallelToAxis, sweep_form, HasNoSvertex, IsOffEdges, AreOpposite, IsHitThrough, NoneCrosses, far_reach_of};
 
 use crate::course::Course;
@@ -23,12 +23,12 @@ pub(crate) trait Line {
 
     // The side of the line on which a point of the plane lies.
     fn across(&self, a: &Point) -> Sign
-        ensures across { result ≡ sign_of (form_at (form self.now) (place_of a.now)) };
+        ensures across { result ≡ sign_of (form_at (form self.now) (point_of a.now)) };
 }
 
 // Whether a point of the plane lies before the line or, if `on_counts`, on the line.
 fn is_short<L: Line>(line: &L, on_counts: bool, a: &Point) -> bool
-    ensures short { IsTrue result ↔ IsShort on_counts (form_at (L.form line.now) (place_of a.now)) }
+    ensures short { IsTrue result ↔ IsBeforePlane on_counts (form_at (L.form line.now) (point_of a.now)) }
 {
     match line.across(a) {
         Sign::Minus => true,
@@ -74,8 +74,8 @@ struct AxisRay<'a> {
     plane: &'a Plane,
     start: &'a Hit,
     direction: &'a Dir,
-    ghost on: { form_at (form_of plane.now) (hit_place start.now) ≡ pos 0 },
-    ghost numbers: { IsPlaceAtMost upright_limit upright_weight_limit (hit_place start.now) },
+    ghost on: { form_at (form_of plane.now) (hit_point start.now) ≡ pos 0 },
+    ghost numbers: { IsPointAtMost upright_limit upright_weight_limit (hit_point start.now) },
     ghost axis: { IsParallelToAxis (form_of plane.now) (vector_of direction.now) },
     ghost small: { IsAtMost normal_limit (vector_of direction.now) },
 }
@@ -93,7 +93,7 @@ fn ratio_sign(x: i64, w: i64, y: i128, v: i128) -> Sign
 }
 
 impl Line for AxisRay<'_> {
-    ghost form = { λ r. sweep_form (form_of r.plane.now) (hit_place r.start.now) };
+    ghost form = { λ r. sweep_form (form_of r.plane.now) (hit_point r.start.now) };
 
     fn across(&self, a: &Point) -> Sign {
         let p = self.start;
@@ -119,8 +119,8 @@ fn may_part(course: &Course, low: usize, high: usize) -> bool
 
 // Where the ray crosses the first of the carriers that hold two points, which are listed, that it crosses at all.
 fn hit_through(carriers: &[Plane], holders: &[usize], ray: &AxisRay) -> Option<FarHit>
-    requires within { AreWithin carriers.now holders.now }
-    ensures hit { (a b : Place) → AreHolders carriers.now a b holders.now → MatchOption result (NoneCrosses carriers.now (hit_place ray.now.start.now) (vector_of ray.now.direction.now) a b) (λ q. IsHitThrough (hit_place ray.now.start.now) (vector_of ray.now.direction.now) a b (far_reach_of q)) }
+    requires within { AreNumbersOf carriers.now holders.now }
+    ensures hit { (a b : SpacePoint) → AreHolders carriers.now a b holders.now → MatchOption result (NoneCrosses carriers.now (hit_point ray.now.start.now) (vector_of ray.now.direction.now) a b) (λ q. IsHitThrough (hit_point ray.now.start.now) (vector_of ray.now.direction.now) a b (far_reach_of q)) }
 {
     for number in holders {
         if let Some(q) = far_hit(ray.start, ray.direction, &carriers[*number]) {
@@ -132,7 +132,7 @@ fn hit_through(carriers: &[Plane], holders: &[usize], ray: &AxisRay) -> Option<F
 
 // Whether the points lie on different sides of the ray's line, or both on the line.
 fn are_parted(ray: &AxisRay, a: &Point, b: &Point) -> bool
-    ensures opposite { IsTrue result ↔ AreOpposite (sweep_form (form_of ray.now.plane.now) (hit_place ray.now.start.now)) (place_of a.now) (place_of b.now) }
+    ensures opposite { IsTrue result ↔ AreOpposite (sweep_form (form_of ray.now.plane.now) (hit_point ray.now.start.now)) (point_of a.now) (point_of b.now) }
 {
     ray.across(a) == ray.across(b).opposite()
 }
@@ -142,11 +142,11 @@ impl PlaneRay for AxisRay<'_> {
 
     ghost plane = { λ r. form_of r.plane.now };
 
-    ghost start = { λ r. hit_place r.start.now };
+    ghost start = { λ r. hit_point r.start.now };
 
     ghost way = { λ r. vector_of r.direction.now };
 
-    ghost has_course = { λ r c x. IsLevel c.vertices (form_of r.plane.now) (hit_place r.start.now) x × IsExcluding c (form_of r.plane.now) (hit_place r.start.now) (vector_of r.direction.now) x };
+    ghost has_course = { λ r c x. IsLevel c.vertices (form_of r.plane.now) (hit_point r.start.now) x × IsExcluding c (form_of r.plane.now) (hit_point r.start.now) (vector_of r.direction.now) x };
 
     ghost tells = { λ r c m. MeetLiesIn c (form_of r.plane.now) m };
 
@@ -194,13 +194,13 @@ pub fn first_along_axis(
 ) -> Option<PlaneMeet>
     requires shows { (s : Set) × ShowsSet s c.now }
     requires items { IfSome items (AreItems c.now (form_of h.now)) }
-    requires on { form_at (form_of h.now) (hit_place p.now) ≡ pos 0 }
-    requires off { IsOffEdges (complex_of c.now) (form_of h.now) (hit_place p.now) }
-    requires numbers { IsPlaceAtMost upright_limit upright_weight_limit (hit_place p.now) }
+    requires on { form_at (form_of h.now) (hit_point p.now) ≡ pos 0 }
+    requires off { IsOffEdges (complex_of c.now) (form_of h.now) (hit_point p.now) }
+    requires numbers { IsPointAtMost upright_limit upright_weight_limit (hit_point p.now) }
     requires direction { IsAlongAxis (form_of h.now) (vector_of d.now) }
-    requires no_svertex { HasNoSvertex (complex_of c.now) (hit_place p.now) (vector_of d.now) }
-    ensures some { IfSome result (λ m. IsFirstInPlane (complex_of c.now) (form_of h.now) (hit_place p.now) (vector_of d.now) (meet_of m)) }
-    ensures none { IsNone result → (m : PlainMeet) (q : Place) → IsAhead (hit_place p.now) (vector_of d.now) q → Meets (complex_of c.now) (form_of h.now) m q → ⊥ }
+    requires no_svertex { HasNoSvertex (complex_of c.now) (hit_point p.now) (vector_of d.now) }
+    ensures some { IfSome result (λ m. IsFirstInPlane (complex_of c.now) (form_of h.now) (hit_point p.now) (vector_of d.now) (meet_of m)) }
+    ensures none { IsNone result → (m : PlainMeet) (q : SpacePoint) → IsAhead (hit_point p.now) (vector_of d.now) q → Meets (complex_of c.now) (form_of h.now) m q → ⊥ }
 {
     let ray = AxisRay {
         plane: h,

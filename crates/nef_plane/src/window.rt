@@ -2,8 +2,8 @@
 //! far. The ray meets an edge no sooner if the edge's span has no point in common with the window.
 
 ghost use Rattle.std.specs.Prelude.{◌<ℤ◌, ◌≤ℤ◌, ◌*ℤ◌};
-ghost use Rattle.nef_complex.specs.Prelude.{pos, IsTrue, IfSome, Place, Set, hit_place, complex_of, ShowsSet, IsInSpan, AreAlone};
-ghost use Rattle.nef_space.specs.Place.{IsBetween};
+ghost use Rattle.nef_complex.specs.Prelude.{pos, IsTrue, IfSome, SpacePoint, Set, hit_point, complex_of, ShowsSet, IsInSpan, AreAlone};
+ghost use Rattle.nef_space.specs.Points.{IsBetween};
 ghost use Rattle.nef_plane.specs.Ends.{HasMeet};
 ghost use Rattle.nef_plane.specs.Meets.{IsMeetPoint};
 ghost use Rattle.nef_plane.specs.Windows.{IsOutside};
@@ -25,7 +25,7 @@ fn bounds_of(x: i128, w: i128) -> Option<Bounds>
 
 // A span of the hit. `None` says that its coordinates don't fit 64 bits.
 pub(crate) fn hit_span(q: &Hit) -> Option<Span>
-    ensures hit { IfSome result (λ s. IsInSpan s (hit_place q.now)) }
+    ensures hit { IfSome result (λ s. IsInSpan s (hit_point q.now)) }
 {
     let x = bounds_of(q.x(), q.w())?;
     let y = bounds_of(q.y(), q.w())?;
@@ -38,7 +38,7 @@ fn meet_span(c: &Complex, spans: &[Span], meet: PlaneMeet) -> Span
     requires shows { (s : Set) × ShowsSet s c.now }
     requires alone { AreAlone c.now.vertices spans.now }
     requires within { HasMeet c.now meet }
-    ensures meet { (y : Place) → IsMeetPoint (complex_of c.now) meet y → IsInSpan result y }
+    ensures meet { (y : SpacePoint) → IsMeetPoint (complex_of c.now) meet y → IsInSpan result y }
 {
     let (low, high) = ends_of(c, meet);
     spans[low].with_span(&spans[high])
@@ -54,7 +54,7 @@ pub(crate) fn may_lie_within(
     requires shows { (s : Set) × ShowsSet s c.now }
     requires alone { AreAlone c.now.vertices spans.now }
     requires within { HasMeet c.now meet }
-    ensures outside { (IsTrue result → ⊥) → (y : Place) → IsMeetPoint (complex_of c.now) meet y → IsOutside window.now y }
+    ensures outside { (IsTrue result → ⊥) → (y : SpacePoint) → IsMeetPoint (complex_of c.now) meet y → IsOutside window.now y }
 {
     match window {
         Some(span) => may_meet(span, &meet_span(c, spans, meet)),
@@ -67,7 +67,7 @@ pub(crate) fn span_up_to(c: &Complex, spans: &[Span], from: &Span, meet: PlaneMe
     requires shows { (s : Set) × ShowsSet s c.now }
     requires alone { AreAlone c.now.vertices spans.now }
     requires within { HasMeet c.now meet }
-    ensures between { (p y q : Place) → IsInSpan from.now p → IsMeetPoint (complex_of c.now) meet q → IsBetween p y q → IsInSpan result y }
+    ensures between { (p y q : SpacePoint) → IsInSpan from.now p → IsMeetPoint (complex_of c.now) meet q → IsBetween p y q → IsInSpan result y }
 {
     from.with_span(&meet_span(c, spans, meet))
 }

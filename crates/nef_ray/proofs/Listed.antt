@@ -1,20 +1,20 @@
 -- The planes that a ray crosses, listed one after another, sorted, and gone through.
-use Rattle.nef_ray.proofs.Prelude.{◌≡◌, ℕ, ◌+◌, ◌<◌, List, [], ◌∷◌, ◌++◌, length, get_or, subst, refl, All, IsPermutation, All-contains, Contains-append_left, Contains-push, Contains, Contains-permutation, Place, IsCrossing, form_of, vector_of, place_of, Plane, At, contains-at, at-contains, read-at, next-all, Crossed, RayStart, IsListed, AreAllCrossed}
+use Rattle.nef_ray.proofs.Prelude.{◌≡◌, ℕ, ◌+◌, ◌<◌, List, [], ◌∷◌, ◌++◌, length, get_or, subst, refl, All, IsPermutation, All-contains, Contains-append_left, Contains-push, Contains, Contains-permutation, SpacePoint, IsCrossing, form_of, vector_of, point_of, Plane, IsAt, contains-at, at-contains, read-at, next-all, Crossed, RayStart, IsCrossedPlane, AreAllCrossed}
 use Rattle.nef_edges.proofs.Places.{at-some}
 
 -- a plane that the ray crosses is among those crossed
 abbrev pub CrossedListed : RayStart → List Crossed → Plane → Type 0
-CrossedListed ray xs h = (y : Place) → IsCrossing (place_of ray.from) (vector_of ray.along) (form_of h) y → IsListed xs h
+CrossedListed ray xs h = (y : SpacePoint) → IsCrossing (point_of ray.from) (vector_of ray.along) (form_of h) y → IsCrossedPlane xs h
 
 -- each of the first n planes is
 abbrev pub AreFirstCrossed : List Plane → RayStart → ℕ → List Crossed → Type 0
-AreFirstCrossed hs ray n xs = (k : ℕ) (h : Plane) → k < n → At hs k h → CrossedListed ray xs h
+AreFirstCrossed hs ray n xs = (k : ℕ) (h : Plane) → k < n → IsAt hs k h → CrossedListed ray xs h
 
 -- one more is listed
-pub listed-more : (xs : List Crossed) (x : Crossed) (h : Plane) → IsListed xs h → IsListed (xs ++ x ∷ []) h
+pub listed-more : (xs : List Crossed) (x : Crossed) (h : Plane) → IsCrossedPlane xs h → IsCrossedPlane (xs ++ x ∷ []) h
 listed-more xs x h (z, i, e) = (z, Contains-append_left xs (x ∷ []) z i, e)
 
-pub listed-last : (xs : List Crossed) (x : Crossed) → IsListed (xs ++ x ∷ []) x.plane
+pub listed-last : (xs : List Crossed) (x : Crossed) → IsCrossedPlane (xs ++ x ∷ []) x.plane
 listed-last xs x = (x, Contains-push xs x, refl)
 
 -- a sort keeps them
@@ -22,12 +22,12 @@ pub sorted-kept : (hs : List Plane) (ray : RayStart) (xs zs : List Crossed) → 
 sorted-kept hs ray xs zs moved A k h a y X = let l = A k h a y X in (l.0, Contains-permutation xs zs l.0 moved l.1, l.2)
 
 -- what holds of all those listed holds of all that are crossed
-pub each-listed : (P : Plane → Type 0) (xs : List Crossed) → ((k : ℕ) (x : Crossed) → At xs k x → P x.plane) → (h : Plane) → IsListed xs h → P h
+pub each-listed : (P : Plane → Type 0) (xs : List Crossed) → ((k : ℕ) (x : Crossed) → IsAt xs k x → P x.plane) → (h : Plane) → IsCrossedPlane xs h → P h
 each-listed P xs f h (x, i, e) = let a = contains-at xs x i in subst P e (f a.0 x a.1)
 
 -- what holds of the first elements read and of the next holds of all these
 pub next-read : {X : Type 0} (P : X → Type 0) (xs : List X) (n : ℕ) (x : X) → n < length xs → x ≡ get_or xs n x
-    → ((k : ℕ) (y : X) → k < n → At xs k y → P y) → P x → (k : ℕ) (y : X) → k < n + 1 → At xs k y → P y
+    → ((k : ℕ) (y : X) → k < n → IsAt xs k y → P y) → P x → (k : ℕ) (y : X) → k < n + 1 → IsAt xs k y → P y
 next-read P xs n x l e = next-all P xs n x (at-some xs n x (read-at xs n x l e))
 
 -- what holds of all elements holds of the one read

@@ -1,5 +1,5 @@
 -- The order of crossings by their steps.
-use Rattle.nef_ray.proofs.Prelude.{◌≡◌, ℤ, ◌*ℤ◌, ◌≤ℤ◌, ◌<ℤ◌, true, false, Ordering, Less, Equal, Greater, arith, ap, refl, ints, IsStrictWeakOrder, int_ranks, MatchOrdering, int_cmp, is_lt, fraction-le-trans, Place, SamePlace, IsAhead, Vector, IsDirection, IsReached, hit_place, never-same, never-both, Crossed, crossed_lt}
+use Rattle.nef_ray.proofs.Prelude.{◌≡◌, ℤ, ◌*ℤ◌, ◌≤ℤ◌, ◌<ℤ◌, true, false, Ordering, Less, Equal, Greater, arith, ap, refl, ints, IsStrictWeakOrder, int_ranks, MatchOrdering, int_cmp, is_lt, fraction-le-trans, SpacePoint, SamePoint, IsAhead, Vector, IsDirection, IsReached, hit_point, never-same, never-both, Crossed, crossed_lt}
 use Rattle.std.specs.Cmp.{int_cmp_is}
 use Rattle.nef_geo.proofs.Along.{along-ray}
 
@@ -39,13 +39,13 @@ pub answers-step : (x y : Crossed) (o : Ordering) → MatchOrdering o (first x y
 answers-step x y o h = ap is_lt (int_cmp_is (first x y) (first y x) o h)
 
 -- where the step of y isn't the smaller one, y doesn't lie before x
-pub not-ahead : (p : Place) (d : Vector) → IsDirection d → (x y : Crossed) → IsReached p d x.at.num x.at.den x.at.den_sign (hit_place x.at) → IsReached p d y.at.num y.at.den y.at.den_sign (hit_place y.at) → crossed_lt y x ≡ false
-    → IsAhead (hit_place y.at) d (hit_place x.at) → ⊥
+pub not-ahead : (p : SpacePoint) (d : Vector) → IsDirection d → (x y : Crossed) → IsReached p d x.at.num x.at.den x.at.den_sign (hit_point x.at) → IsReached p d y.at.num y.at.den y.at.den_sign (hit_point y.at) → crossed_lt y x ≡ false
+    → IsAhead (hit_point y.at) d (hit_point x.at) → ⊥
 not-ahead p d some x y r t e a =
     let o = int_cmp (first y x) (first x y) in
-    by o (along-ray p d y.at.num y.at.den (hit_place y.at) x.at.num x.at.den (hit_place x.at) o some y.at.den_sign x.at.den_sign t r (int_ranks (first y x) (first x y))) e
+    by o (along-ray p d y.at.num y.at.den (hit_point y.at) x.at.num x.at.den (hit_point x.at) o some y.at.den_sign x.at.den_sign t r (int_ranks (first y x) (first x y))) e
   where
-    by : (o : Ordering) → MatchOrdering o (IsAhead (hit_place y.at) d (hit_place x.at)) (SamePlace (hit_place y.at) (hit_place x.at)) (IsAhead (hit_place x.at) d (hit_place y.at)) → is_lt o ≡ false → ⊥
+    by : (o : Ordering) → MatchOrdering o (IsAhead (hit_point y.at) d (hit_point x.at)) (SamePoint (hit_point y.at) (hit_point x.at)) (IsAhead (hit_point x.at) d (hit_point y.at)) → is_lt o ≡ false → ⊥
     by Less h e = cc
-    by Equal h e = never-same (hit_place y.at) (hit_place x.at) d a h
-    by Greater h e = never-both (hit_place y.at) (hit_place x.at) d a h
+    by Equal h e = never-same (hit_point y.at) (hit_point x.at) d a h
+    by Greater h e = never-both (hit_point y.at) (hit_point x.at) d a h

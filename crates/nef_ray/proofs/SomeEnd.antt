@@ -1,10 +1,10 @@
 -- A ray from a point of the frame has an end, since the label is another where the ray has left the frame.
-use Rattle.nef_ray.proofs.Prelude.{◌⊎◌, inl, inr, ⊎_elim, Bool, true, false, subst, HasLabel, Germ, Place, InFrame, toward, IsAhead, IsBetween, Set, Vector, IsDirection, Label, between-same, reach_all, carriers, FirstChange, between-turned, between-inner, label-along_ray, label_of, germ_of, label-decided, start, start-close, start-between, beyond, halfway, halfway-between, halfway-outside, leads-somewhere, first-change, label-toward, no-germ_out, Label-cells, signs-same, same-place_sym, Germ-same, between-rest, between-outer, between-start, between-cases, same-itself, between-ahead, IsRayEnd, RayHasEnd, SameDirection-turned, SameDirection-trans}
+use Rattle.nef_ray.proofs.Prelude.{◌⊎◌, inl, inr, ⊎_elim, Bool, true, false, subst, HasLabel, Germ, SpacePoint, InFrame, toward, IsAhead, IsBetween, Set, Vector, IsDirection, Label, between-same, reach_all, carriers, FirstChange, between-turned, between-inner, label-along_ray, label_of, germ_of, label-decided, start, start-close, start-between, beyond, halfway, halfway-between, halfway-outside, leads-somewhere, first-change, label-toward, no-germ_out, Label-cells, signs-same, same-point_sym, Germ-same, between-rest, between-outer, between-start, between-cases, same-itself, between-ahead, IsRayEnd, RayHasEnd, SameDirection-turned, SameDirection-trans}
 use Rattle.nef_ray.proofs.Along.{beyond-ahead, label-outside}
 
-module _ (s : Set) (p : Place) (d : Vector) (inside : InFrame p) (some : IsDirection d) where
+module _ (s : Set) (p : SpacePoint) (d : Vector) (inside : InFrame p) (some : IsDirection d) where
   abbrev End : Type 0
-  End = (q : Place) × (after : Bool) × (l : Label) × IsRayEnd s p d q after l
+  End = (q : SpacePoint) × (after : Bool) × (l : Label) × IsRayEnd s p d q after l
 
   -- the label just after p
   abbrev before : Label
@@ -14,10 +14,10 @@ module _ (s : Set) (p : Place) (d : Vector) (inside : InFrame p) (some : IsDirec
   germ = (germ_of s p d).1
 
   -- a point of the ray that lies beyond the frame, and one close to p
-  abbrev far : Place
+  abbrev far : SpacePoint
   far = beyond p d
 
-  abbrev close : Place
+  abbrev close : SpacePoint
   close = start (reach_all (carriers s) p) p far
 
   far-ahead : IsAhead p d far
@@ -27,10 +27,10 @@ module _ (s : Set) (p : Place) (d : Vector) (inside : InFrame p) (some : IsDirec
   close-between = start-between (reach_all (carriers s) p) p far (leads-somewhere p d some)
 
   -- what lies on the way is ahead of p, and the rest of the way goes on along d
-  ahead : (x : Place) → IsBetween p x far → IsAhead p d x
+  ahead : (x : SpacePoint) → IsBetween p x far → IsAhead p d x
   ahead x b = between-ahead p x far d b far-ahead
 
-  onward : (x : Place) → IsBetween p x far → IsAhead x d far
+  onward : (x : SpacePoint) → IsBetween p x far → IsAhead x d far
   onward x b = SameDirection-trans (toward x far) (toward p x) d (SameDirection-turned (toward p x) (toward x far) b) (ahead x b)
 
   close-label : HasLabel s close before
@@ -38,14 +38,14 @@ module _ (s : Set) (p : Place) (d : Vector) (inside : InFrame p) (some : IsDirec
       (Germ-same s p p d (toward p close) before (same-itself p) (SameDirection-turned (toward p close) d (ahead close close-between)) germ)
 
   -- a point of the way has the label where it has it on the way from the close point
-  label-before : (r : Place) → IsBetween p r far → (IsBetween close r far → HasLabel s r before) → HasLabel s r before
+  label-before : (r : SpacePoint) → IsBetween p r far → (IsBetween close r far → HasLabel s r before) → HasLabel s r before
   label-before r b f = ⊎_elim
       (λ c. (label-along_ray s p close r (start-close (reach_all (carriers s) p) p far) c before).0 close-label)
-      (λ o. ⊎_elim (λ e. Label-cells s before close r (signs-same (carriers s) close r (same-place_sym r close e)) close-label) (λ c. f c) o)
+      (λ o. ⊎_elim (λ e. Label-cells s before close r (signs-same (carriers s) close r (same-point_sym r close e)) close-label) (λ c. f c) o)
       (between-cases p close far r close-between b)
 
   -- it doesn't stay all the way
-  leaves : ((r : Place) → IsBetween close r far → HasLabel s r before) → End
+  leaves : ((r : SpacePoint) → IsBetween close r far → HasLabel s r before) → End
   leaves all =
       let h = label-before (halfway p d) (halfway-between p d (leads-somewhere p d some)) (all (halfway p d)) in
       absurd (no-germ_out s p d inside (subst (Germ s p d) (label-outside s (halfway p d) before (halfway-outside p d some) h) germ))
@@ -56,14 +56,14 @@ module _ (s : Set) (p : Place) (d : Vector) (inside : InFrame p) (some : IsDirec
     where
       between : IsBetween p c.at_place far
       between = ⊎_elim
-          (λ e. between-same p close far p c.at_place far (same-itself p) (same-place_sym c.at_place close e) (same-itself far) close-between)
+          (λ e. between-same p close far p c.at_place far (same-itself p) (same-point_sym c.at_place close e) (same-itself far) close-between)
           (λ b. between-outer p close c.at_place far close-between b) c.on_segment
 
-      same : (r : Place) → IsBetween p r c.at_place → HasLabel s r before
+      same : (r : SpacePoint) → IsBetween p r c.at_place → HasLabel s r before
       same r b = label-before r (between-inner p c.at_place far r between b)
           (λ k. c.stands_before r (between-rest p close r c.at_place (between-turned r p close (between-rest far r close p (between-turned close far r k) (between-turned p far close close-between))) b))
 
-      by : ((HasLabel s c.at_place before → ⊥) × IsBetween close c.at_place far) ⊎ (HasLabel s c.at_place before × ((y : Place) × IsBetween c.at_place y far × ((r : Place) → IsBetween c.at_place r y → HasLabel s r before → ⊥))) → End
+      by : ((HasLabel s c.at_place before → ⊥) × IsBetween close c.at_place far) ⊎ (HasLabel s c.at_place before × ((y : SpacePoint) × IsBetween c.at_place y far × ((r : SpacePoint) → IsBetween c.at_place r y → HasLabel s r before → ⊥))) → End
       by (inl (n, b)) =
           let l = label_of s c.at_place in (
             c.at_place,

@@ -5,5 +5,5 @@ use Rattle.std.specs.Prelude.{ℕ, ◌*◌, ◌^◌}
 abbrev pub start_form_limit : ℕ
 start_form_limit = 2 ^ 34
 
-abbrev pub ray_slope_limit : ℕ
-ray_slope_limit = 3 * 2 ^ 21
+abbrev pub asked_slope_limit : ℕ
+asked_slope_limit = 3 * 2 ^ 21

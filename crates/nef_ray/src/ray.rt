@@ -1,9 +1,9 @@
 //! The end of a ray: the carriers that the ray crosses are asked in the order of the crossings.
 
-ghost use Rattle.nef_complex.specs.Prelude.{IfOk, All, ray_direction_limit, ray_point_limit, ray_weight_limit, InFrame, Set, IsAtMost, IsPlaceAtMost, vector_of, place_of, ShowsSet};
+ghost use Rattle.nef_complex.specs.Prelude.{IfOk, All, ray_direction_limit, ray_point_limit, ray_weight_limit, InFrame, Set, IsAtMost, IsPointAtMost, vector_of, point_of, ShowsSet};
 ghost use Rattle.std.specs.Prelude.{IsSortedBy};
 ghost use Rattle.nef_ray.specs.Ends.{IsRayEnd, OneRayEnd, RayHasEnd};
-ghost use Rattle.nef_ray.specs.Changes.{IsSmall, IsHitOf, AreAllCrossed, crossed_lt};
+ghost use Rattle.nef_ray.specs.Changes.{IsSmallRayStart, IsHitOf, AreAllCrossed, crossed_lt};
 
 use crate::OutOfMemory;
 use crate::change::{change_on, label_after};
@@ -34,10 +34,10 @@ pub(crate) struct RayStart {
 /// wanted and not found.
 pub fn ray_end(alloc: Global, c: &Complex, p: &Point, d: &Dir) -> Result<RayEnd, OutOfMemory>
     requires shows { (s : Set) × ShowsSet s c.now }
-    requires framed { InFrame (place_of p.now) }
-    requires p_small { IsPlaceAtMost ray_point_limit ray_weight_limit (place_of p.now) }
+    requires framed { InFrame (point_of p.now) }
+    requires p_small { IsPointAtMost ray_point_limit ray_weight_limit (point_of p.now) }
     requires d_small { IsAtMost ray_direction_limit (vector_of d.now) }
-    ensures end { IfOk result (λ e. (s : Set) → ShowsSet s c.now → IsRayEnd s (place_of p.now) (vector_of d.now) (place_of e.point) e.after e.label) }
+    ensures end { IfOk result (λ e. (s : Set) → ShowsSet s c.now → IsRayEnd s (point_of p.now) (vector_of d.now) (point_of e.point) e.after e.label) }
 {
     let ray = RayStart {
         from: *p,
@@ -69,7 +69,7 @@ pub(crate) struct Crossed {
 
 // The carriers that the ray crosses, the nearest first.
 fn sorted_crossed(alloc: Global, c: &Complex, ray: &RayStart) -> Result<Vec<Crossed>, OutOfMemory>
-    requires small { IsSmall ray.now }
+    requires small { IsSmallRayStart ray.now }
     ensures hits { IfOk result (λ v. All (IsHitOf ray.now) v.items) }
     ensures all { IfOk result (λ v. AreAllCrossed c.now.carriers ray.now v.items) }
     ensures sorted { IfOk result (λ v. IsSortedBy crossed_lt v.items) }

@@ -1,5 +1,5 @@
 -- The maps at the sides and the corners of the frame, from what their makers promise.
-use Rattle.nef_result.proofs.Prelude.{◌≡◌, ℕ, zero, suc, ◌+◌, ◌-◌, ◌<◌, ℤ, pos, ◌*ℤ◌, ◌<ℤ◌, arith, refl, sym, ◌∙◌, ap, ◌↔◌, Bool, true, false, cond, subst, List, [], ◌∷◌, ◌++◌, map, take, Some, w64, to_z, of_z, ints, sign, IsAt, Form, SamePlace, Vector, dot, IsDirection, Label, Out, place_at, place_of, form_of, Plane, Point, ByOp, by_side, MapLabel, op_label, And, map_of, IsSphereMap, IsLeastMap, SphereMap, x_axis, y_axis, z_axis, end_at, ends, IsCornerPlace, at_wall, IsWall, IsCornerOf, sorted_sides}
+use Rattle.nef_result.proofs.Prelude.{◌≡◌, ℕ, zero, suc, ◌+◌, ◌-◌, ◌<◌, ℤ, pos, ◌*ℤ◌, ◌<ℤ◌, arith, refl, sym, ◌∙◌, ap, ◌↔◌, Bool, true, false, cond, subst, List, [], ◌∷◌, ◌++◌, map, take, Some, w64, to_z, of_z, ints, sign, IsAt, Form, SamePoint, Vector, dot, IsDirection, Label, Out, point_at, point_of, form_of, Plane, Point, ByOp, by_side, MapLabel, op_label, And, map_of, IsSphereMap, IsLeastMap, SphereMap, axis_x, axis_y, axis_z, frame_end, ends, IsFrameCornerAt, at_wall, IsWall, IsFrameCornerOf, sorted_sides}
 use Rattle.nef_geo.specs.Reading.{side_forms}
 
 -- ---- a side
@@ -24,27 +24,27 @@ IsBoth a b m = (d : Vector) (l : Label) → IsDirection d → MapLabel (map_of m
 abbrev kept : ℤ → ℤ
 kept i = to_z w64 (of_z w64 i)
 
-kept-end : (x : Bool) → kept (end_at x) ≡ end_at x
+kept-end : (x : Bool) → kept (frame_end x) ≡ frame_end x
 kept-end true = refl
 kept-end false = refl
 
-pub corner-place : (x y z : Bool) (i j k : ℤ) (p : Point) (h : pos 0 <ℤ pos 1) → i ≡ end_at x → j ≡ end_at y → k ≡ end_at z → SamePlace (place_at (kept i) (kept j) (kept k) (pos 1) h) (place_of p)
-    → IsCornerPlace (ends x y z) (place_of p)
+pub corner-place : (x y z : Bool) (i j k : ℤ) (p : Point) (h : pos 0 <ℤ pos 1) → i ≡ frame_end x → j ≡ frame_end y → k ≡ frame_end z → SamePoint (point_at (kept i) (kept j) (kept k) (pos 1) h) (point_of p)
+    → IsFrameCornerAt (ends x y z) (point_of p)
 corner-place x y z i j k p h e f g s = record { along_x = one x i p.x _ e s.along_x; along_y = one y j p.y _ f s.along_y; along_z = one z k p.z _ g s.along_z }
   where
-    one : (b : Bool) (i x w : ℤ) → i ≡ end_at b → kept i *ℤ w ≡ x *ℤ pos 1 → x ≡ end_at b *ℤ w
+    one : (b : Bool) (i x w : ℤ) → i ≡ frame_end b → kept i *ℤ w ≡ x *ℤ pos 1 → x ≡ frame_end b *ℤ w
     one b i x w q r = let u : x ≡ x *ℤ pos 1 = omega (arith, ints) in u ∙ sym r ∙ ap (λ z. z *ℤ w) (ap kept q ∙ kept-end b)
 
-pub corner-of : (l : Label) (x y z : Bool) (A B C M N : SphereMap) (p : Point) → IsWall x_axis x l A → IsWall y_axis y l B → IsWall z_axis z l C → M.mark ≡ op_label And A.mark B.mark → IsBoth A B M
-    → N.mark ≡ op_label And M.mark C.mark → IsBoth M C N → IsLeastMap N → IsCornerPlace (ends x y z) (place_of p) → IsCornerOf l (ends x y z) (record { point = p; map = N })
+pub corner-of : (l : Label) (x y z : Bool) (A B C M N : SphereMap) (p : Point) → IsWall axis_x x l A → IsWall axis_y y l B → IsWall axis_z z l C → M.mark ≡ op_label And A.mark B.mark → IsBoth A B M
+    → N.mark ≡ op_label And M.mark C.mark → IsBoth M C N → IsLeastMap N → IsFrameCornerAt (ends x y z) (point_of p) → IsFrameCornerOf l (ends x y z) (record { point = p; map = N })
 corner-of l x y z A B C M N p a b c m f n g h i = record {
   place = i;
   mark = n ∙ ap (λ o. op_label And o C.mark) (m ∙ ap (λ o. op_label And o B.mark) a.mark);
   map = h;
-  labels = λ d e. (g d (op_label And (op_label And (at_wall x l (sign (dot x_axis d))) (at_wall y l (sign (dot y_axis d)))) (at_wall z l (sign (dot z_axis d)))) e).1 (
-    op_label And (at_wall x l (sign (dot x_axis d))) (at_wall y l (sign (dot y_axis d))),
-    at_wall z l (sign (dot z_axis d)),
-    (f d (op_label And (at_wall x l (sign (dot x_axis d))) (at_wall y l (sign (dot y_axis d)))) e).1 (at_wall x l (sign (dot x_axis d)), at_wall y l (sign (dot y_axis d)), a.labels d e, b.labels d e, refl),
+  labels = λ d e. (g d (op_label And (op_label And (at_wall x l (sign (dot axis_x d))) (at_wall y l (sign (dot axis_y d)))) (at_wall z l (sign (dot axis_z d)))) e).1 (
+    op_label And (at_wall x l (sign (dot axis_x d))) (at_wall y l (sign (dot axis_y d))),
+    at_wall z l (sign (dot axis_z d)),
+    (f d (op_label And (at_wall x l (sign (dot axis_x d))) (at_wall y l (sign (dot axis_y d)))) e).1 (at_wall x l (sign (dot axis_x d)), at_wall y l (sign (dot axis_y d)), a.labels d e, b.labels d e, refl),
     c.labels d e,
     refl,
   );

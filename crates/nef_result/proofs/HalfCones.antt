@@ -1,5 +1,5 @@
 -- The germs of a half are those of the frame and of its plane.
-use Rattle.nef_result.proofs.Prelude.{◌≡◌, zero, suc, ◌+◌, ℤ, pos, negsuc, neg_ℤ, ◌<ℤ◌, arith, refl, sym, ◌∙◌, ap, ◌↔◌, Bool, true, false, cond, not, subst, [], ◌∷◌, ints, Sign, minus, nought, plus, sign, sign-neg, sign_turned, minus-is, nought-is, plus-is, ring, at, neg, ◌⊕◌, ◌⊗◌, HasLabel, Germ, IsShort, Place, Form, Ratio, step, form_at, slope, normal_of, Set, InHalf, Vector, IsDirection, SameDirection, dot, Label, Out, Not, In, turned_form, given_form, form_of, sign_of, Minus, Zero, Plus, ray-level, ray-keeps, sign_at, ByOp, Cone, by_side, Map, MapLabel, Valid, op_label, And, map_of, IsSphereMap, SphereMap}
+use Rattle.nef_result.proofs.Prelude.{◌≡◌, zero, suc, ◌+◌, ℤ, pos, negsuc, neg_ℤ, ◌<ℤ◌, arith, refl, sym, ◌∙◌, ap, ◌↔◌, Bool, true, false, cond, not, subst, [], ◌∷◌, ints, Sign, minus, nought, plus, sign, sign-neg, sign_turned, minus-is, nought-is, plus-is, ring, at, neg, ◌⊕◌, ◌⊗◌, HasLabel, Germ, IsShort, SpacePoint, Form, Ratio, step, form_at, slope, normal_of, Set, InHalf, Vector, IsDirection, SameDirection, dot, Label, Out, Not, In, opposite_form, given_form, form_of, sign_of, Minus, Zero, Plus, ray-level, ray-keeps, sign_at, ByOp, Cone, by_side, Map, MapLabel, Valid, op_label, And, map_of, IsSphereMap, SphereMap}
 use Rattle.nef_space.specs.Sets.{Holds}
 use Rattle.nef_geo.specs.declared.plane.Oriented.{Oriented}
 use Rattle.law_near.specs.Near.{span}
@@ -8,7 +8,7 @@ use Rattle.law_build.proofs.SideLabels.{side-same_way}
 use Rattle.nef_result.specs.Halves.{inside_label, side_label, IsMapOfPlane}
 
 -- ---- the label of a half
-module _ (f : Form) (closed : Bool) (q : Place) where
+module _ (f : Form) (closed : Bool) (q : SpacePoint) where
   -- a point of the frame has the label of its side
   in-frame : HasLabel Set.full q In → (t : Sign) → sign_at f q ≡ t → HasLabel (Set.half f closed) q (side_label closed t)
   unfolding Holds
@@ -69,7 +69,7 @@ sign_beside nought t = t
 sign_beside plus t = plus
 
 -- the sign of the form one short step from the point
-sign-stepped : (f : Form) (p : Place) (t : Ratio) (d : Vector) → IsShort (span f p d) t → sign_at f (step p t d) ≡ sign_beside (sign_at f p) (sign (slope f d))
+sign-stepped : (f : Form) (p : SpacePoint) (t : Ratio) (d : Vector) → IsShort (span f p d) t → sign_at f (step p t d) ≡ sign_beside (sign_at f p) (sign (slope f d))
 sign-stepped f p t d h = by (sign_at f p) refl
   where
     differ : (s : Sign) → s ≡ minus → s ≡ nought → ⊥
@@ -83,7 +83,7 @@ sign-stepped f p t d h = by (sign_at f p) refl
     by nought e = ray-level f p t d h.0 (nought-is (form_at f p) e)
     by plus e = ray-keeps f p t d h (λ z. differs (sign_at f p) e (ap sign z)) ∙ e
 
-half-germ : (f : Form) (closed : Bool) (p : Place) (d : Vector) (l : Label) → Germ Set.full p d l → Germ (Set.half f closed) p d (op_label And l (side_label closed (sign_beside (sign_at f p) (sign (slope f d)))))
+half-germ : (f : Form) (closed : Bool) (p : SpacePoint) (d : Vector) (l : Label) → Germ Set.full p d l → Germ (Set.half f closed) p d (op_label And l (side_label closed (sign_beside (sign_at f p) (sign (slope f d)))))
 half-germ f closed p d l (n, some, g) = (
   n + span f p d,
   omega (arith, some),
@@ -94,7 +94,7 @@ half-germ f closed p d l (n, some, g) = (
 )
 
 -- at a point of the plane
-pub half-cone : (f : Form) (closed : Bool) (p : Place) (W H M : SphereMap) → Zero ≡ sign_of (form_at f p) → Cone (map_of W) Set.full p → IsMapOfPlane f closed H → Valid (map_of M)
+pub half-cone : (f : Form) (closed : Bool) (p : SpacePoint) (W H M : SphereMap) → Zero ≡ sign_of (form_at f p) → Cone (map_of W) Set.full p → IsMapOfPlane f closed H → Valid (map_of M)
     → M.mark ≡ op_label And W.mark H.mark → ((d : Vector) (l : Label) → IsDirection d → MapLabel (map_of M) d l ↔ ByOp (map_of W) (map_of H) (op_label And) d l) → Cone (map_of M) (Set.half f closed) p
 half-cone f closed p W H M on C I valid mark labels = record {
   valid = valid;
@@ -112,8 +112,8 @@ half-cone f closed p W H M on C I valid mark labels = record {
     e = is-nought (form_at f p) on
 
 -- at a point off the plane: on one side of it the set has the labels of the half
-module _ (f : Form) (closed : Bool) (p : Place) (s : Set) (M : Map) (side : Sign) (at : sign_at f p ≡ side) (beside : (t : Sign) → sign_beside side t ≡ side)
-    (same : (q : Place) (l : Label) → sign_at f q ≡ side → HasLabel s q l → HasLabel (Set.half f closed) q l) where
+module _ (f : Form) (closed : Bool) (p : SpacePoint) (s : Set) (M : Map) (side : Sign) (at : sign_at f p ≡ side) (beside : (t : Sign) → sign_beside side t ≡ side)
+    (same : (q : SpacePoint) (l : Label) → sign_at f q ≡ side → HasLabel s q l → HasLabel (Set.half f closed) q l) where
   off-germ : (d : Vector) (l : Label) → Germ s p d l → Germ (Set.half f closed) p d l
   off-germ d l (n, some, g) = (
     n + span f p d,
@@ -131,31 +131,31 @@ module _ (f : Form) (closed : Bool) (p : Place) (s : Set) (M : Map) (side : Sign
   }
 
 -- where the form is negative
-below-label : (f : Form) (closed : Bool) (q : Place) (l : Label) → sign_at f q ≡ minus → HasLabel Set.full q l → HasLabel (Set.half f closed) q l
+below-label : (f : Form) (closed : Bool) (q : SpacePoint) (l : Label) → sign_at f q ≡ minus → HasLabel Set.full q l → HasLabel (Set.half f closed) q l
 unfolding Holds
 below-label f closed q Out e h = h
 below-label f closed q Not e h = absurd (h.1 tt)
 below-label f closed q In e h = in-frame f closed q h minus e
 
-pub below-cone : (f : Form) (closed : Bool) (p : Place) (M : Map) → Minus ≡ sign_of (form_at f p) → Cone M Set.full p → Cone M (Set.half f closed) p
+pub below-cone : (f : Form) (closed : Bool) (p : SpacePoint) (M : Map) → Minus ≡ sign_of (form_at f p) → Cone M Set.full p → Cone M (Set.half f closed) p
 below-cone f closed p M e = off-cone f closed p Set.full M minus (is-minus (form_at f p) e) (λ t. refl) (below-label f closed)
 
 -- where it is positive
-above-label : (f : Form) (closed : Bool) (q : Place) (l : Label) → sign_at f q ≡ plus → HasLabel (Set.other Set.full) q l → HasLabel (Set.half f closed) q l
+above-label : (f : Form) (closed : Bool) (q : SpacePoint) (l : Label) → sign_at f q ≡ plus → HasLabel (Set.other Set.full) q l → HasLabel (Set.half f closed) q l
 unfolding Holds
 above-label f closed q Out e h = h
 above-label f closed q Not e h = in-frame f closed q (h.0, tt) plus e
 above-label f closed q In e h = absurd (h.1 tt)
 
-pub above-cone : (f : Form) (closed : Bool) (p : Place) (M : Map) → Plus ≡ sign_of (form_at f p) → Cone M (Set.other Set.full) p → Cone M (Set.half f closed) p
+pub above-cone : (f : Form) (closed : Bool) (p : SpacePoint) (M : Map) → Plus ≡ sign_of (form_at f p) → Cone M (Set.other Set.full) p → Cone M (Set.half f closed) p
 above-cone f closed p M e = off-cone f closed p (Set.other Set.full) M plus (is-plus (form_at f p) e) (λ t. refl) (above-label f closed)
 
 -- ---- the map of the plane
 -- the slope of the given form, which may be turned
-turned-slope : (h : Form) (d : Vector) → slope (turned_form h) d ≡ neg_ℤ (slope h d)
+turned-slope : (h : Form) (d : Vector) → slope (opposite_form h) d ≡ neg_ℤ (slope h d)
 turned-slope h d = ring (h.a ∷ h.b ∷ h.c ∷ d.x ∷ d.y ∷ d.z ∷ []) (neg (at 0) ⊗ at 3 ⊕ neg (at 1) ⊗ at 4 ⊕ neg (at 2) ⊗ at 5) (neg (at 0 ⊗ at 3 ⊕ at 1 ⊗ at 4 ⊕ at 2 ⊗ at 5)) tt
 
-given-slope : (h : Form) (turned : Bool) (d : Vector) → sign (slope (cond turned (turned_form h) h) d) ≡ cond turned (sign_turned (sign (slope h d))) (sign (slope h d))
+given-slope : (h : Form) (turned : Bool) (d : Vector) → sign (slope (cond turned (opposite_form h) h) d) ≡ cond turned (sign_turned (sign (slope h d))) (sign (slope h d))
 given-slope h true d = ap sign (turned-slope h d) ∙ sign-neg (slope h d)
 given-slope h false d = refl
 
@@ -168,7 +168,7 @@ by-sides false closed nought = refl
 by-sides false closed plus = refl
 
 plane-label : (h : Form) (n : Vector) (turned closed : Bool) (d : Vector) → SameDirection (normal_of h) n
-    → by_side (inside_label turned) (inside_label closed) (inside_label (not turned)) (sign (dot n d)) ≡ side_label closed (sign (slope (cond turned (turned_form h) h) d))
+    → by_side (inside_label turned) (inside_label closed) (inside_label (not turned)) (sign (dot n d)) ≡ side_label closed (sign (slope (cond turned (opposite_form h) h) d))
 plane-label h n turned closed d same =
     ap (λ t. by_side (inside_label turned) (inside_label closed) (inside_label (not turned)) t) (side-same_way (normal_of h) n d same)
     ∙ by-sides turned closed (sign (slope h d)) ∙ ap (side_label closed) (sym (given-slope h turned d))

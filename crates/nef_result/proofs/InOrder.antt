@@ -1,32 +1,32 @@
 -- The corners in order, and the planes of the frame in order.
-use Rattle.nef_result.proofs.Prelude.{◌≡◌, ℕ, zero, suc, ℤ, pos, ◌*ℤ◌, ◌<ℤ◌, arith, refl, ◌⊎◌, inl, inr, Bool, true, false, subst, List, [], ◌∷◌, ◌++◌, Some, None, ints, ring, at, num, ◌⊖◌, ◌⊗◌, lt_by, mul_pos, IsAt, half_side, IsBelow, Place, form_numbers, IsPlaceBelow, SamePlace, Label, place_of, At, InOrder, AreSorted, Vertex, sorted_sides, end_at, Ends, ends, all_ends, IsCornerPlace, IsCornerOf, AreCorners, is-at_none, is-at_first}
+use Rattle.nef_result.proofs.Prelude.{◌≡◌, ℕ, zero, suc, ℤ, pos, ◌*ℤ◌, ◌<ℤ◌, arith, refl, ◌⊎◌, inl, inr, Bool, true, false, subst, List, [], ◌∷◌, ◌++◌, Some, None, ints, ring, at, num, ◌⊖◌, ◌⊗◌, lt_by, mul_pos, IsAt, half_side, IsBelow, SpacePoint, form_numbers, IsPointBelow, SamePoint, Label, point_of, InOrder, AreSorted, Vertex, sorted_sides, frame_end, FrameCorner, ends, all_ends, IsFrameCornerAt, IsFrameCornerOf, AreFrameCorners, is-at_none, is-at_first}
 use Rattle.law_complex.proofs.FacetNames.{weight as positive}
 
 -- ---- the order of two corners
 abbrev pub IsLow : Bool → Bool → Type 0
 IsLow a b = (a ≡ false) × (b ≡ true)
 
-abbrev pub IsEndsBelow : Ends → Ends → Type 0
+abbrev pub IsEndsBelow : FrameCorner → FrameCorner → Type 0
 IsEndsBelow k j = IsLow k.x j.x ⊎ ((k.x ≡ j.x) × (IsLow k.y j.y ⊎ ((k.y ≡ j.y) × IsLow k.z j.z)))
 
-along-low : (a b : Bool) (x y w v : ℤ) → IsLow a b → pos 0 <ℤ w → pos 0 <ℤ v → x ≡ end_at a *ℤ w → y ≡ end_at b *ℤ v → (x *ℤ v) <ℤ (y *ℤ w)
+along-low : (a b : Bool) (x y w v : ℤ) → IsLow a b → pos 0 <ℤ w → pos 0 <ℤ v → x ≡ frame_end a *ℤ w → y ≡ frame_end b *ℤ v → (x *ℤ v) <ℤ (y *ℤ w)
 along-low a b x y w v (e, f) h i g j = rw (g, j, e, f) (lt_by (pos half_side ∷ w ∷ v ∷ []) ((num (pos 0) ⊖ at 0) ⊗ at 1 ⊗ at 2) (at 0 ⊗ at 2 ⊗ at 1) (num (pos 2) ⊗ at 0 ⊗ (at 1 ⊗ at 2)) tt
     (let q = mul_pos w v h i in omega (arith, ints)))
 
-along-same : (a b : Bool) (x y w v : ℤ) → a ≡ b → x ≡ end_at a *ℤ w → y ≡ end_at b *ℤ v → x *ℤ v ≡ y *ℤ w
-along-same a b x y w v e g j = rw (g, j, e) (swap (end_at b) w v)
+along-same : (a b : Bool) (x y w v : ℤ) → a ≡ b → x ≡ frame_end a *ℤ w → y ≡ frame_end b *ℤ v → x *ℤ v ≡ y *ℤ w
+along-same a b x y w v e g j = rw (g, j, e) (swap (frame_end b) w v)
   where
     swap : (m w v : ℤ) → m *ℤ w *ℤ v ≡ m *ℤ v *ℤ w
     swap m w v = ring (m ∷ w ∷ v ∷ []) (at 0 ⊗ at 1 ⊗ at 2) (at 0 ⊗ at 2 ⊗ at 1) tt
 
-pub same-corner : (k : Ends) (p q : Place) → IsCornerPlace k p → IsCornerPlace k q → SamePlace p q
+pub same-corner : (k : FrameCorner) (p q : SpacePoint) → IsFrameCornerAt k p → IsFrameCornerAt k q → SamePoint p q
 same-corner k p q c d = record {
   along_x = along-same k.x k.x p.x q.x (pos p.w) (pos q.w) refl c.along_x d.along_x;
   along_y = along-same k.y k.y p.y q.y (pos p.w) (pos q.w) refl c.along_y d.along_y;
   along_z = along-same k.z k.z p.z q.z (pos p.w) (pos q.w) refl c.along_z d.along_z;
 }
 
-pub corner-below : (k j : Ends) (p q : Place) → IsEndsBelow k j → IsCornerPlace k p → IsCornerPlace j q → IsPlaceBelow p q
+pub corner-below : (k j : FrameCorner) (p q : SpacePoint) → IsEndsBelow k j → IsFrameCornerAt k p → IsFrameCornerAt j q → IsPointBelow p q
 corner-below k j p q (inl l) c d = inl (along-low k.x j.x p.x q.x (pos p.w) (pos q.w) l (positive p) (positive q) c.along_x d.along_x)
 corner-below k j p q (inr (e, inl l)) c d = inr (
   along-same k.x j.x p.x q.x (pos p.w) (pos q.w) e c.along_x d.along_x,
@@ -50,7 +50,7 @@ abbrev pub AreRising : {A : Type 0} → (A → A → Type 0) → List A → Type
 AreRising B [] = Unit {0}
 AreRising B (x ∷ xs) = IsBeforeAll B x xs × AreRising B xs
 
-before-at : {A : Type 0} (B : A → A → Type 0) (x : A) (ys : List A) → IsBeforeAll B x ys → (k : ℕ) (y : A) → At ys k y → B x y
+before-at : {A : Type 0} (B : A → A → Type 0) (x : A) (ys : List A) → IsBeforeAll B x ys → (k : ℕ) (y : A) → IsAt ys k y → B x y
 before-at B x [] r k y a = absurd (is-at_none a)
 before-at B x (z ∷ zs) r zero y a = subst (B x) (is-at_first a) r.0
 before-at B x (z ∷ zs) r (suc k) y a = before-at B x zs r.1 k y a
@@ -112,22 +112,22 @@ sides-order = in-order (λ g h. IsBelow (form_numbers g) (form_numbers h)) sorte
 
 -- ---- the vertices at the corners
 -- vertex number n is at corner number n
-pub vertex-at : (l : Label) (ks : List Ends) (vs : List Vertex) → AreCorners l ks vs → (n : ℕ) (v : Vertex) → IsAt vs n v → (k : Ends) × At ks n k × IsCornerOf l k v
+pub vertex-at : (l : Label) (ks : List FrameCorner) (vs : List Vertex) → AreFrameCorners l ks vs → (n : ℕ) (v : Vertex) → IsAt vs n v → (k : FrameCorner) × IsAt ks n k × IsFrameCornerOf l k v
 vertex-at l [] [] c n v a = absurd (is-at_none a)
 vertex-at l [] (u ∷ us) c n v a = absurd c
 vertex-at l (k ∷ ks) [] c n v a = absurd c
-vertex-at l (k ∷ ks) (u ∷ us) c zero v a = (k, refl, subst (IsCornerOf l k) (is-at_first a) c.0)
+vertex-at l (k ∷ ks) (u ∷ us) c zero v a = (k, refl, subst (IsFrameCornerOf l k) (is-at_first a) c.0)
 vertex-at l (k ∷ ks) (u ∷ us) c (suc n) v a = vertex-at l ks us c.1 n v a
 
 -- and corner number n has vertex number n
-pub corner-at : (l : Label) (ks : List Ends) (vs : List Vertex) → AreCorners l ks vs → (n : ℕ) (k : Ends) → At ks n k → (v : Vertex) × At vs n v × IsCornerOf l k v
+pub corner-at : (l : Label) (ks : List FrameCorner) (vs : List Vertex) → AreFrameCorners l ks vs → (n : ℕ) (k : FrameCorner) → IsAt ks n k → (v : Vertex) × IsAt vs n v × IsFrameCornerOf l k v
 corner-at l [] [] c n k a = absurd (is-at_none a)
 corner-at l [] (u ∷ us) c n k a = absurd c
 corner-at l (j ∷ js) [] c n k a = absurd c
-corner-at l (j ∷ js) (u ∷ us) c zero k a = (u, refl, subst (λ i. IsCornerOf l i u) (is-at_first a) c.0)
+corner-at l (j ∷ js) (u ∷ us) c zero k a = (u, refl, subst (λ i. IsFrameCornerOf l i u) (is-at_first a) c.0)
 corner-at l (j ∷ js) (u ∷ us) c (suc n) k a = corner-at l js us c.1 n k a
 
-pub listed : (x y z : Bool) → (n : ℕ) × At all_ends n (ends x y z)
+pub listed : (x y z : Bool) → (n : ℕ) × IsAt all_ends n (ends x y z)
 listed false false false = (0, refl)
 listed false false true = (1, refl)
 listed false true false = (2, refl)
@@ -137,12 +137,12 @@ listed true false true = (5, refl)
 listed true true false = (6, refl)
 listed true true true = (7, refl)
 
-pub corners-sorted : (l : Label) (vs : List Vertex) → AreCorners l all_ends vs → AreSorted vs
+pub corners-sorted : (l : Label) (vs : List Vertex) → AreFrameCorners l all_ends vs → AreSorted vs
 corners-sorted l vs c i n u v h a b =
     let k = vertex-at l all_ends vs c i u a in let j = vertex-at l all_ends vs c n v b in
-    corner-below k.0 j.0 (place_of u.point) (place_of v.point) (ends-order i n k.0 j.0 h k.1 j.1) k.2.place j.2.place
+    corner-below k.0 j.0 (point_of u.point) (point_of v.point) (ends-order i n k.0 j.0 h k.1 j.1) k.2.place j.2.place
 
-pub corners-more : (l : Label) (ks : List Ends) (vs : List Vertex) (k : Ends) (v : Vertex) → AreCorners l ks vs → IsCornerOf l k v → AreCorners l (ks ++ k ∷ []) (vs ++ v ∷ [])
+pub corners-more : (l : Label) (ks : List FrameCorner) (vs : List Vertex) (k : FrameCorner) (v : Vertex) → AreFrameCorners l ks vs → IsFrameCornerOf l k v → AreFrameCorners l (ks ++ k ∷ []) (vs ++ v ∷ [])
 corners-more l [] [] k v c h = (h, tt)
 corners-more l [] (u ∷ us) k v c h = absurd c
 corners-more l (j ∷ js) [] k v c h = absurd c

@@ -1,9 +1,9 @@
 -- The vertices of a set among its candidates, with their maps, are all its vertices.
-use Rattle.nef_result.proofs.Prelude.{◌≡◌, ℕ, ◌<◌, ◌+◌, List, [], ◌∷◌, ◌++◌, length, map, arith, refl, ap, sym, subst, ◌∙◌, ◌⊎◌, inl, inr, FlatDim, IsVertex, Place, IsPlaceBelow, SamePlace, Set, place_of, form_of, Plane, Point, carriers, FlatDim-one, FlatDim-by_germs, germs-by_cell, signs-same, same-place_sym, Map, At, at-one, Cone, Least, Ordered, InOrder, Carriers, map_of, IsLeastMap, SphereMap, contains-at, some-at, at-some, map-at, at-map, at-before, at-last, at-more, vertex_of, AreVerticesOf, AreHolders, AreInOrder, AreVertexHolders, Vertex, Outcome, MapSource, ArePointsInOrder, IsOtherOf, IsOutcomeAt, AreOutcomesOf, Begins, vertex_at, IsAdded, AreBegun, IsThere, AreThere, IsFilled, AreFilledTo, is-at_none}
+use Rattle.nef_result.proofs.Prelude.{◌≡◌, ℕ, ◌<◌, ◌+◌, List, [], ◌∷◌, ◌++◌, length, map, arith, refl, ap, sym, subst, ◌∙◌, ◌⊎◌, inl, inr, FlatDim, IsVertex, SpacePoint, IsPointBelow, SamePoint, Set, point_of, form_of, Plane, Point, carriers, FlatDim-one, FlatDim-by_germs, germs-by_cell, signs-same, same-point_sym, Map, IsAt, at-one, Cone, Least, Ordered, InOrder, Carriers, map_of, IsLeastMap, SphereMap, contains-at, some-at, at-some, map-at, at-map, at-before, at-last, at-more, vertex_of, AreVerticesOf, AreHolders, AreInOrder, AreVertexHolders, Vertex, Outcome, MapSource, ArePointsInOrder, IsOtherOf, IsOutcomeAt, AreOutcomesOf, Begins, vertex_at, IsAdded, AreBegun, HasSourceAt, AreThere, IsFilled, AreFilledTo, is-at_none}
 use Rattle.law_sphere.proofs.Dimensions.{volume-dimension, facet-dimension, edge-dimension}
 use Rattle.law_complex.specs.Complexes.{Vertex as PlainVertex}
 use Rattle.nef_smap.proofs.SideLists.{at-some as element-at}
-use Rattle.nef_spair.specs.Kinds.{IsVertex as IsVertexMap}
+use Rattle.nef_spair.specs.Kinds.{IsVertexMap}
 use Rattle.nef_spair.specs.declared.answer.Kind.TheVariants.{Vertex as vertex_kind}
 use Rattle.nef_spair.proofs.OneKind.{fits}
 use Rattle.nef_edges.proofs.Places.{at-within}
@@ -22,11 +22,11 @@ module _ (ps : List Point) (os : List Outcome) (vs : List Vertex) (fs : List Map
     ordered = B.ordered;
   }
     where
-      all : (k : ℕ) (p : Point) (l : Outcome) → At ps k p → (l ≡ outcome.Gone → ⊥) → At os k l ⊎ ((k ≡ length os) × (o ≡ l)) → (i : ℕ) × (v : Vertex) × At vs i v × (v.point ≡ p)
+      all : (k : ℕ) (p : Point) (l : Outcome) → IsAt ps k p → (l ≡ outcome.Gone → ⊥) → IsAt os k l ⊎ ((k ≡ length os) × (o ≡ l)) → (i : ℕ) × (v : Vertex) × IsAt vs i v × (v.point ≡ p)
       all k p l a h (inl b) = B.all k p l a b h
       all k p l a h (inr e) = absurd (h (sym e.1 ∙ n))
 
-  begun-kept : ArePointsInOrder ps → (p : Point) → At ps (length os) p → (m : SphereMap) (f : MapSource) → Begins o m f → AreBegun ps (os ++ o ∷ []) (vs ++ vertex_at p m ∷ []) (fs ++ f ∷ [])
+  begun-kept : ArePointsInOrder ps → (p : Point) → IsAt ps (length os) p → (m : SphereMap) (f : MapSource) → Begins o m f → AreBegun ps (os ++ o ∷ []) (vs ++ vertex_at p m ∷ []) (fs ++ f ∷ [])
   begun-kept r p here m f begins = record {
     alike = let n = length-more vs (vertex_at p m) in let k = length-more fs f in let e = B.alike in omega (arith, n, k, e);
     each = λ k v g a b. each k v g (at-more vs (vertex_at p m) k v a) (at-more fs f k g b);
@@ -39,43 +39,43 @@ module _ (ps : List Point) (os : List Outcome) (vs : List Vertex) (fs : List Map
       length-more (z ∷ zs) x = let e = length-more zs x in omega (arith, e)
 
       Each : Vertex → MapSource → Type 0
-      Each v g = (k : ℕ) × (l : Outcome) × At ps k v.point × At (os ++ o ∷ []) k l × Begins l v.map g
+      Each v g = (k : ℕ) × (l : Outcome) × IsAt ps k v.point × IsAt (os ++ o ∷ []) k l × Begins l v.map g
 
-      each : (k : ℕ) (v : Vertex) (g : MapSource) → At vs k v ⊎ ((k ≡ length vs) × (vertex_at p m ≡ v)) → At fs k g ⊎ ((k ≡ length fs) × (f ≡ g)) → Each v g
+      each : (k : ℕ) (v : Vertex) (g : MapSource) → IsAt vs k v ⊎ ((k ≡ length vs) × (vertex_at p m ≡ v)) → IsAt fs k g ⊎ ((k ≡ length fs) × (f ≡ g)) → Each v g
       each k v g (inl a) (inl b) = let e = B.each k v g a b in (e.0, e.1, e.2, at-before os (o ∷ []) e.0 e.1 e.3, e.4)
       each k v g (inl a) (inr e) = let l = at-within vs k v a in let d = e.0 in let n = B.alike in absurd (omega (arith, l, d, n))
       each k v g (inr e) (inl b) = let l = at-within fs k g b in let d = e.0 in let n = B.alike in absurd (omega (arith, l, d, n))
       each k v g (inr e) (inr d) = subst (λ (w : Vertex). Each w g) e.1 (subst (Each (vertex_at p m)) d.1 (length os, o, here, at-last os o, begins))
 
-      all : (k : ℕ) (q : Point) (l : Outcome) → At ps k q → (l ≡ outcome.Gone → ⊥) → At os k l ⊎ ((k ≡ length os) × (o ≡ l)) → (j : ℕ) × (v : Vertex) × At (vs ++ vertex_at p m ∷ []) j v × (v.point ≡ q)
+      all : (k : ℕ) (q : Point) (l : Outcome) → IsAt ps k q → (l ≡ outcome.Gone → ⊥) → IsAt os k l ⊎ ((k ≡ length os) × (o ≡ l)) → (j : ℕ) × (v : Vertex) × IsAt (vs ++ vertex_at p m ∷ []) j v × (v.point ≡ q)
       all k q l a h (inl b) = let e = B.all k q l a b h in (e.0, e.1, at-before vs (vertex_at p m ∷ []) e.0 e.1 e.2, e.3)
-      all k q l a h (inr e) = (length vs, vertex_at p m, at-last vs (vertex_at p m), at-one ps (length os) p q here (subst (λ (n : ℕ). At ps n q) e.0 a))
+      all k q l a h (inr e) = (length vs, vertex_at p m, at-last vs (vertex_at p m), at-one ps (length os) p q here (subst (λ (n : ℕ). IsAt ps n q) e.0 a))
 
       IsBefore : Vertex → Vertex → Type 0
-      IsBefore u v = IsPlaceBelow (place_of u.point) (place_of v.point)
+      IsBefore u v = IsPointBelow (point_of u.point) (point_of v.point)
 
       -- what was added before is at an earlier point
-      before : (j : ℕ) (u : Vertex) → At vs j u → IsBefore u (vertex_at p m)
+      before : (j : ℕ) (u : Vertex) → IsAt vs j u → IsBefore u (vertex_at p m)
       before j u a =
           let l = at-within vs j u a in let n = B.alike in
           let g = element-at fs j (omega (arith, l, n)) in
           let e = B.each j u g.0 a g.1 in
           r e.0 (length os) u.point p (at-within os e.0 e.1 e.3) e.2 here
 
-      ordered : (j k : ℕ) (u v : Vertex) → j < k → At vs j u ⊎ ((j ≡ length vs) × (vertex_at p m ≡ u)) → At vs k v ⊎ ((k ≡ length vs) × (vertex_at p m ≡ v)) → IsBefore u v
+      ordered : (j k : ℕ) (u v : Vertex) → j < k → IsAt vs j u ⊎ ((j ≡ length vs) × (vertex_at p m ≡ u)) → IsAt vs k v ⊎ ((k ≡ length vs) × (vertex_at p m ≡ v)) → IsBefore u v
       ordered j k u v l (inl a) (inl b) = B.ordered j k u v l a b
       ordered j k u v l (inl a) (inr e) = subst (IsBefore u) e.1 (before j u a)
       ordered j k u v l (inr e) (inl b) = let h = at-within vs k v b in let d = e.0 in absurd (omega (arith, l, h, d))
       ordered j k u v l (inr e) (inr f) = let d = e.0 in let h = f.0 in absurd (omega (arith, l, d, h))
 
-  pub begun-added : ArePointsInOrder ps → (p : Point) → At ps (length os) p → (ws : List Vertex) (gs : List MapSource) → IsAdded p o vs fs ws gs → AreBegun ps (os ++ o ∷ []) ws gs
+  pub begun-added : ArePointsInOrder ps → (p : Point) → IsAt ps (length os) p → (ws : List Vertex) (gs : List MapSource) → IsAdded p o vs fs ws gs → AreBegun ps (os ++ o ∷ []) ws gs
   begun-added r p here ws gs (inl (n, e, d)) =
       subst (λ (us : List Vertex). AreBegun ps (os ++ o ∷ []) us gs) (sym e) (subst (AreBegun ps (os ++ o ∷ []) vs) (sym d) (begun-left n))
   begun-added r p here ws gs (inr (m, f, b, e, d)) =
       subst (λ (us : List Vertex). AreBegun ps (os ++ o ∷ []) us gs) (sym e) (subst (AreBegun ps (os ++ o ∷ []) (vs ++ vertex_at p m ∷ [])) (sym d) (begun-kept r p here m f b))
 
 -- ---- a map by the flat directions of its set
-module _ (M : Map) (s : Set) (p : Place) (L : Least M) (C : Cone M s p) where
+module _ (M : Map) (s : Set) (p : SpacePoint) (L : Least M) (C : Cone M s p) where
   pub vertex-flat : IsVertexMap M → IsVertex s p
   vertex-flat i = fits M vertex_kind i L s p C
 
@@ -90,11 +90,11 @@ module _ (M : Map) (s : Set) (p : Place) (L : Least M) (C : Cone M s p) where
       differ k g l = let e = FlatDim-one s p 0 k f g in omega (arith, l, e)
 
 -- ---- the vertices of the set
-pub vertex-same : (s : Set) (p q : Place) → SamePlace p q → IsVertex s p → IsVertex s q
+pub vertex-same : (s : Set) (p q : SpacePoint) → SamePoint p q → IsVertex s p → IsVertex s q
 vertex-same s p q same = FlatDim-by_germs s s p q (germs-by_cell s p q (signs-same (carriers s) p q same)) 0
 
-point-same : (y : Place) (p q : Point) → q ≡ p → SamePlace (place_of p) y → SamePlace (place_of q) y
-point-same y p q e = subst (λ (r : Point). SamePlace (place_of r) y) (sym e)
+point-same : (y : SpacePoint) (p q : Point) → q ≡ p → SamePoint (point_of p) y → SamePoint (point_of q) y
+point-same y p q e = subst (λ (r : Point). SamePoint (point_of r) y) (sym e)
 
 -- ---- carriers
 pub carriers-in-order : (s : Set) (hs : List Plane) → Carriers s (map form_of hs) → AreInOrder hs
@@ -102,13 +102,13 @@ carriers-in-order s hs C i j g h l a b = C.ordered i j (form_of g) (form_of h) l
 
 -- ---- what the outcome says of a vertex
 module _ (us vs : List Vertex) where
-  there-by : (s : Set) (p : Place) (o : Outcome) (m : SphereMap) (f : MapSource) → IsOutcomeAt us vs s p o → Begins o m f → IsThere us vs p f
-  there-by s p (outcome.Made l) m f i b = subst (IsThere us vs p) (sym b.1) tt
-  there-by s p (outcome.Stays o k) m f i b = let v = i.1 in subst (IsThere us vs p) (sym b) (v.0, v.1)
-  there-by s p (outcome.Turned o k) m f i b = let v = i.1 in subst (IsThere us vs p) (sym b) (v.0, v.1, v.2)
+  there-by : (s : Set) (p : SpacePoint) (o : Outcome) (m : SphereMap) (f : MapSource) → IsOutcomeAt us vs s p o → Begins o m f → HasSourceAt us vs p f
+  there-by s p (outcome.Made l) m f i b = subst (HasSourceAt us vs p) (sym b.1) tt
+  there-by s p (outcome.Stays o k) m f i b = let v = i.1 in subst (HasSourceAt us vs p) (sym b) (v.0, v.1)
+  there-by s p (outcome.Turned o k) m f i b = let v = i.1 in subst (HasSourceAt us vs p) (sym b) (v.0, v.1, v.2)
   there-by s p outcome.Gone m f i b = absurd b
 
-  good-by : (s : Set) (p : Place) (o : Outcome) (m n : SphereMap) (f : MapSource) → IsOutcomeAt us vs s p o → Begins o m f → IsFilled us vs f m n → IsVertex s p × IsLeastMap n × Cone (map_of n) s p
+  good-by : (s : Set) (p : SpacePoint) (o : Outcome) (m n : SphereMap) (f : MapSource) → IsOutcomeAt us vs s p o → Begins o m f → IsFilled us vs f m n → IsVertex s p × IsLeastMap n × Cone (map_of n) s p
   good-by s p (outcome.Made l) m n f i b h =
       let g : n ≡ m = subst (λ (r : MapSource). IsFilled us vs r m n) b.1 h in
       let e : l.value ≡ n = sym (g ∙ b.0) in
@@ -131,13 +131,13 @@ module _ (s : Set) (hs : List Plane) (ps : List Point) (us vs : List Vertex) (os
   pub are-there : AreThere us vs ys fs
   are-there = record {
     alike = B.alike;
-    each = λ i y f a b. let e = B.each i y f a b in there-by us vs s (place_of y.point) e.1 y.map f (A.right e.0 y.point e.1 e.2 e.3) e.4;
+    each = λ i y f a b. let e = B.each i y f a b in there-by us vs s (point_of y.point) e.1 y.map f (A.right e.0 y.point e.1 e.2 e.3) e.4;
     ordered = B.ordered;
   }
 
   module _ (xs : List Vertex) (F : AreFilledTo us vs ys fs (length fs) xs) where
     -- what became of a vertex
-    became : (i : ℕ) (x : Vertex) → At xs i x → (y : Vertex) × (f : MapSource) × At ys i y × At fs i f × (x.point ≡ y.point) × IsFilled us vs f y.map x.map
+    became : (i : ℕ) (x : Vertex) → IsAt xs i x → (y : Vertex) × (f : MapSource) × IsAt ys i y × IsAt fs i f × (x.point ≡ y.point) × IsFilled us vs f y.map x.map
     became i x a =
         let l = at-within xs i x a in let n = F.alike in let k = B.alike in
         let y = element-at ys i (omega (arith, l, n)) in
@@ -146,43 +146,43 @@ module _ (s : Set) (hs : List Plane) (ps : List Point) (us vs : List Vertex) (os
         let e = at-one xs i d.0 x d.1 a in
         (y.0, f.0, y.1, f.1, subst (λ (w : Vertex). w.point ≡ y.0.point) e d.2, subst (λ (w : Vertex). IsFilled us vs f.0 y.0.map w.map) e d.3)
 
-    good : (i : ℕ) (x : Vertex) → At xs i x → IsVertex s (place_of x.point) × IsLeastMap x.map × Cone (map_of x.map) s (place_of x.point)
+    good : (i : ℕ) (x : Vertex) → IsAt xs i x → IsVertex s (point_of x.point) × IsLeastMap x.map × Cone (map_of x.map) s (point_of x.point)
     good i x a =
         let u = became i x a in
         let e = B.each i u.0 u.1 u.2 u.3 in
-        subst (λ (q : Point). IsVertex s (place_of q) × IsLeastMap x.map × Cone (map_of x.map) s (place_of q)) (sym u.4)
-        (good-by us vs s (place_of u.0.point) e.1 u.0.map x.map u.1 (A.right e.0 u.0.point e.1 e.2 e.3) e.4 u.5)
+        subst (λ (q : Point). IsVertex s (point_of q) × IsLeastMap x.map × Cone (map_of x.map) s (point_of q)) (sym u.4)
+        (good-by us vs s (point_of u.0.point) e.1 u.0.map x.map u.1 (A.right e.0 u.0.point e.1 e.2 e.3) e.4 u.5)
 
-    placed : InOrder (λ (u v : Vertex). IsPlaceBelow (place_of u.point) (place_of v.point)) xs
+    placed : InOrder (λ (u v : Vertex). IsPointBelow (point_of u.point) (point_of v.point)) xs
     placed i k u v l a b =
         let f = became i u a in let g = became k v b in
-        subst (λ (q : Point). IsPlaceBelow (place_of q) (place_of v.point)) (sym f.4)
-        (subst (λ (q : Point). IsPlaceBelow (place_of f.0.point) (place_of q)) (sym g.4) (B.ordered i k f.0 g.0 l f.2 g.2))
+        subst (λ (q : Point). IsPointBelow (point_of q) (point_of v.point)) (sym f.4)
+        (subst (λ (q : Point). IsPointBelow (point_of f.0.point) (point_of q)) (sym g.4) (B.ordered i k f.0 g.0 l f.2 g.2))
 
     -- each vertex of the set is listed, and says so
-    complete : (y : Place) → IsVertex s y → (i : ℕ) × (v : PlainVertex) × At (map vertex_of xs) i v × SamePlace v.point y
+    complete : (y : SpacePoint) → IsVertex s y → (i : ℕ) × (v : PlainVertex) × IsAt (map vertex_of xs) i v × SamePoint v.point y
     complete y v =
         let q = A.complete y v in
         let p = q.0 in
         let k = contains-at ps p q.1 in
         let l = at-within ps k.0 p k.1 in let n = A.alike in
         let o = element-at os k.0 (omega (arith, l, n)) in
-        let there = vertex-same s y (place_of p) (same-place_sym (place_of p) y q.2) v in
+        let there = vertex-same s y (point_of p) (same-point_sym (point_of p) y q.2) v in
         let r = A.right k.0 p o.0 k.1 o.1 in
-        let e = B.all k.0 p o.0 k.1 o.1 (λ g. subst (IsOutcomeAt us vs s (place_of p)) g r there) in
+        let e = B.all k.0 p o.0 k.1 o.1 (λ g. subst (IsOutcomeAt us vs s (point_of p)) g r there) in
         let m = at-within ys e.0 e.1 e.2 in let j = B.alike in
         let f = element-at fs e.0 (omega (arith, m, j)) in
         let d = F.done e.0 e.1 f.0 (at-within fs e.0 f.0 f.1) e.2 f.1 in
         (e.0, vertex_of d.0, at-map vertex_of xs e.0 d.0 d.1, point-same y p d.0.point (d.2 ∙ e.3) q.2)
 
     -- what holds of each vertex of the program holds of each vertex
-    each-vertex : (P : PlainVertex → Type 0) → ((i : ℕ) (v : Vertex) → At xs i v → P (vertex_of v)) → (n : ℕ) (v : PlainVertex) → At (map vertex_of xs) n v → P v
+    each-vertex : (P : PlainVertex → Type 0) → ((i : ℕ) (v : Vertex) → IsAt xs i v → P (vertex_of v)) → (n : ℕ) (v : PlainVertex) → IsAt (map vertex_of xs) n v → P v
     each-vertex P f n v a = let u = map-at vertex_of xs n v a in subst P u.2 (f n u.0 u.1)
 
-    placed-plain : InOrder (λ u v. IsPlaceBelow u.point v.point) (map vertex_of xs)
+    placed-plain : InOrder (λ u v. IsPointBelow u.point v.point) (map vertex_of xs)
     placed-plain i k x y h a b =
         let u = map-at vertex_of xs i x a in let v = map-at vertex_of xs k y b in
-        subst (λ (w : PlainVertex). IsPlaceBelow x.point w.point) v.2 (subst (λ (w : PlainVertex). IsPlaceBelow w.point (place_of v.0.point)) u.2 (placed i k u.0 v.0 h u.1 v.1))
+        subst (λ (w : PlainVertex). IsPointBelow x.point w.point) v.2 (subst (λ (w : PlainVertex). IsPointBelow w.point (point_of v.0.point)) u.2 (placed i k u.0 v.0 h u.1 v.1))
 
     pub are-vertices : AreVerticesOf s hs xs
     are-vertices = record {
@@ -206,7 +206,7 @@ module _ (s : Set) (hs : List Plane) (ps : List Point) (us vs : List Vertex) (os
       as_many = H.as_many ∙ sym F.alike;
       each = λ k x ns a b.
           let u = became k x (some-at xs k x a) in
-          subst (λ (q : Point). AreHolders gs (place_of q) (place_of q) ns) (sym u.4) (H.each k u.0 ns (at-some ys k u.0 u.2) b);
+          subst (λ (q : Point). AreHolders gs (point_of q) (point_of q) ns) (sym u.4) (H.each k u.0 ns (at-some ys k u.0 u.2) b);
     }
 
 -- ---- the same lists as they are handed on

@@ -1,5 +1,5 @@
 -- Points with the outcomes there, pair after pair.
-use Rattle.nef_result.proofs.Prelude.{◌≡◌, ℕ, zero, suc, ◌<◌, List, [], ◌∷◌, ◌++◌, length, map, get_or, arith, refl, sym, ap, subst, ◌∙◌, Bor, zip, map-append, length-map, Point, At, Vertex, Outcome, MapSource, ArePointsInOrder, IsAdded, AreBegun, Some}
+use Rattle.nef_result.proofs.Prelude.{◌≡◌, ℕ, zero, suc, ◌<◌, List, [], ◌∷◌, ◌++◌, length, map, get_or, arith, refl, sym, ap, subst, ◌∙◌, Bor, zip, map-append, length-map, Point, IsAt, Vertex, Outcome, MapSource, ArePointsInOrder, IsAdded, AreBegun, Some}
 use Rattle.std.proofs.lemmas.Slice.Zip.{seconds-zip}
 use Rattle.nef_result.proofs.Vertices.{begun-added}
 
@@ -13,7 +13,7 @@ shown p = (p.0.now, p.1)
 abbrev pub outcomes_of : List Pair → List Outcome
 outcomes_of xs = map (λ (p : Pair). p.1) xs
 
-at-zip : (ps : List Point) (cs : List Outcome) (n : ℕ) (q : Point × Outcome) → n < length (zip ps cs) → q ≡ get_or (zip ps cs) n q → At ps n q.0
+at-zip : (ps : List Point) (cs : List Outcome) (n : ℕ) (q : Point × Outcome) → n < length (zip ps cs) → q ≡ get_or (zip ps cs) n q → IsAt ps n q.0
 at-zip [] cs n q l e = absurd (omega (arith, l))
 at-zip (p ∷ ps) [] n q l e = absurd (omega (arith, l))
 at-zip (p ∷ ps) (c ∷ cs) zero q l e = ap (λ (r : Point × Outcome). Some r.0) (sym e)
@@ -39,4 +39,4 @@ pub pair-added : (ps : List Point) (cs : List Outcome) (xs : List Pair) (x : Pai
     → (vs ws : List Vertex) (fs gs : List MapSource) → AreBegun ps (outcomes_of xs) vs fs → IsAdded x.0.now x.1 vs fs ws gs → AreBegun ps (outcomes_of (xs ++ x ∷ [])) ws gs
 pair-added ps cs xs x within is r vs ws fs gs B added =
     subst (λ (ls : List Outcome). AreBegun ps ls ws gs) (sym (map-append (λ (p : Pair). p.1) xs (x ∷ [])))
-    (begun-added ps (outcomes_of xs) vs fs B x.1 r x.0.now (subst (λ (n : ℕ). At ps n x.0.now) (sym (length-map xs (λ (p : Pair). p.1))) (at-zip ps cs (length xs) (shown x) within is)) ws gs added)
+    (begun-added ps (outcomes_of xs) vs fs B x.1 r x.0.now (subst (λ (n : ℕ). IsAt ps n x.0.now) (sym (length-map xs (λ (p : Pair). p.1))) (at-zip ps cs (length xs) (shown x) within is)) ws gs added)

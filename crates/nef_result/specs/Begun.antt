@@ -1,6 +1,6 @@
 -- Vertices whose maps are still to come, and from where.
 use Rattle.std.specs.Prelude.{◌≡◌, ◌<◌, ◌⊎◌, ◌∷◌, ◌++◌}
-use Rattle.nef_complex.specs.Prelude.{ℕ, List, [], length, Place, IsPlaceBelow, place_of, Point, At}
+use Rattle.nef_complex.specs.Prelude.{ℕ, List, [], length, SpacePoint, IsPointBelow, point_of, Point, IsAt}
 use Rattle.nef_spair.specs.Prelude.{InOrder, IsLeastMap}
 use Rattle.nef_smap.specs.declared.map.SphereMap.{SphereMap}
 use Rattle.nef_complex.specs.declared.complex.Vertex.{Vertex}
@@ -29,51 +29,51 @@ IsAdded p o vs fs ws gs = ((o ≡ outcome.Gone) × (ws ≡ vs) × (gs ≡ fs))
 -- the vertices are the points with outcomes that say so, in their order, with their sources
 pub record AreBegun (ps : List Point) (os : List Outcome) (vs : List Vertex) (fs : List MapSource) : Type 0 where
   pub alike : length fs ≡ length vs
-  pub each : (i : ℕ) (v : Vertex) (f : MapSource) → At vs i v → At fs i f → (k : ℕ) × (o : Outcome) × At ps k v.point × At os k o × Begins o v.map f
-  pub all : (k : ℕ) (p : Point) (o : Outcome) → At ps k p → At os k o → (o ≡ outcome.Gone → ⊥) → (i : ℕ) × (v : Vertex) × At vs i v × (v.point ≡ p)
-  pub ordered : InOrder (λ (u v : Vertex). IsPlaceBelow (place_of u.point) (place_of v.point)) vs
+  pub each : (i : ℕ) (v : Vertex) (f : MapSource) → IsAt vs i v → IsAt fs i f → (k : ℕ) × (o : Outcome) × IsAt ps k v.point × IsAt os k o × Begins o v.map f
+  pub all : (k : ℕ) (p : Point) (o : Outcome) → IsAt ps k p → IsAt os k o → (o ≡ outcome.Gone → ⊥) → (i : ℕ) × (v : Vertex) × IsAt vs i v × (v.point ≡ p)
+  pub ordered : InOrder (λ (u v : Vertex). IsPointBelow (point_of u.point) (point_of v.point)) vs
 
 -- ---- maps that are put in
 -- a vertex stands at p whose map the source names
-abbrev pub IsThere : List Vertex → List Vertex → Place → MapSource → Type 0
-IsThere us vs p Here = Unit {0}
-IsThere us vs p (Kept o k) = (v : Vertex) × StandsAt (of_operand o us vs) k v p
-IsThere us vs p (Turned o k) = (v : Vertex) × StandsAt (of_operand o us vs) k v p × IsLeastMap v.map
+abbrev pub HasSourceAt : List Vertex → List Vertex → SpacePoint → MapSource → Type 0
+HasSourceAt us vs p Here = Unit {0}
+HasSourceAt us vs p (Kept o k) = (v : Vertex) × StandsAt (of_operand o us vs) k v p
+HasSourceAt us vs p (Turned o k) = (v : Vertex) × StandsAt (of_operand o us vs) k v p × IsLeastMap v.map
 
 -- the vertices stand in order, and each source names a vertex at its vertex's point
 pub record AreThere (us vs ys : List Vertex) (fs : List MapSource) : Type 0 where
   pub alike : length fs ≡ length ys
-  pub each : (i : ℕ) (y : Vertex) (f : MapSource) → At ys i y → At fs i f → IsThere us vs (place_of y.point) f
-  pub ordered : InOrder (λ (u v : Vertex). IsPlaceBelow (place_of u.point) (place_of v.point)) ys
+  pub each : (i : ℕ) (y : Vertex) (f : MapSource) → IsAt ys i y → IsAt fs i f → HasSourceAt us vs (point_of y.point) f
+  pub ordered : InOrder (λ (u v : Vertex). IsPointBelow (point_of u.point) (point_of v.point)) ys
 
 -- of a vertex with the map m, n is the map that the source names
 abbrev pub IsFilled : List Vertex → List Vertex → MapSource → SphereMap → SphereMap → Type 0
 IsFilled us vs Here m n = n ≡ m
-IsFilled us vs (Kept o k) m n = (v : Vertex) × At (of_operand o us vs) k v × (n ≡ v.map)
-IsFilled us vs (Turned o k) m n = (v : Vertex) × At (of_operand o us vs) k v × IsOtherOf v.map n
+IsFilled us vs (Kept o k) m n = (v : Vertex) × IsAt (of_operand o us vs) k v × (n ≡ v.map)
+IsFilled us vs (Turned o k) m n = (v : Vertex) × IsAt (of_operand o us vs) k v × IsOtherOf v.map n
 
 -- the source names this vertex of the operand
-abbrev pub Names : MapSource → Operand → ℕ → Type 0
-Names Here o k = ⊥
-Names (Kept p n) o k = (p ≡ o) × (k ≡ n)
-Names (Turned p n) o k = (p ≡ o) × (k ≡ n)
+abbrev pub NamesVertex : MapSource → Operand → ℕ → Type 0
+NamesVertex Here o k = ⊥
+NamesVertex (Kept p n) o k = (p ≡ o) × (k ≡ n)
+NamesVertex (Turned p n) o k = (p ≡ o) × (k ≡ n)
 
 -- there is the vertex that the source names
 abbrev pub HasNamed : List Vertex → List Vertex → MapSource → Type 0
 HasNamed us vs Here = Unit {0}
-HasNamed us vs (Kept o k) = (v : Vertex) × At (of_operand o us vs) k v
-HasNamed us vs (Turned o k) = (v : Vertex) × At (of_operand o us vs) k v × IsLeastMap v.map
+HasNamed us vs (Kept o k) = (v : Vertex) × IsAt (of_operand o us vs) k v
+HasNamed us vs (Turned o k) = (v : Vertex) × IsAt (of_operand o us vs) k v × IsLeastMap v.map
 
 -- vertex number k, which was y, has the map that its source names
 abbrev pub IsFilledAt : List Vertex → List Vertex → MapSource → ℕ → Vertex → List Vertex → Type 0
-IsFilledAt us vs f k y xs = (x : Vertex) × At xs k x × (x.point ≡ y.point) × IsFilled us vs f y.map x.map
+IsFilledAt us vs f k y xs = (x : Vertex) × IsAt xs k x × (x.point ≡ y.point) × IsFilled us vs f y.map x.map
 
 -- the first vertices have their maps, and the others are as they were
 pub record AreFilledTo (us vs ys : List Vertex) (fs : List MapSource) (n : ℕ) (xs : List Vertex) : Type 0 where
   pub alike : length xs ≡ length ys
-  pub done : (i : ℕ) (y : Vertex) (f : MapSource) → i < n → At ys i y → At fs i f → IsFilledAt us vs f i y xs
-  pub rest : (i : ℕ) (y : Vertex) → (i < n → ⊥) → At ys i y → At xs i y
+  pub done : (i : ℕ) (y : Vertex) (f : MapSource) → i < n → IsAt ys i y → IsAt fs i f → IsFilledAt us vs f i y xs
+  pub rest : (i : ℕ) (y : Vertex) → (i < n → ⊥) → IsAt ys i y → IsAt xs i y
 
 -- of the vertices of an operand those at none of the first points are as they were
 abbrev pub AreLeft : List Vertex → ℕ → List Vertex → List Vertex → Type 0
-AreLeft ys n us ws = (k : ℕ) (u : Vertex) → At us k u → ((i : ℕ) (y : Vertex) → i < n → At ys i y → StandsAt us k u (place_of y.point) → ⊥) → At ws k u
+AreLeft ys n us ws = (k : ℕ) (u : Vertex) → IsAt us k u → ((i : ℕ) (y : Vertex) → i < n → IsAt ys i y → StandsAt us k u (point_of y.point) → ⊥) → IsAt ws k u

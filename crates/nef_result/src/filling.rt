@@ -1,7 +1,7 @@
 //! Maps that are moved out of operands.
 
 ghost use Rattle.std.specs.Prelude.{◌≡◌, ◌<◌};
-ghost use Rattle.nef_result.specs.Prelude.{ℕ, length, At, Vertex as VertexValue, First, Second, IsLeastMap, SphereMap as MapValue, of_operand, IsOtherOf, vertex_at, HasNamed, Names, IsFilledAt, AreThere, AreFilledTo};
+ghost use Rattle.nef_result.specs.Prelude.{ℕ, length, IsAt, Vertex as VertexValue, First, Second, IsLeastMap, SphereMap as MapValue, of_operand, IsOtherOf, vertex_at, HasNamed, NamesVertex, IsFilledAt, AreThere, AreFilledTo};
 
 use crate::parting::MapSource;
 use nef_cand::Operand;
@@ -17,9 +17,9 @@ fn swap_maps(vertices: &mut Vec<Vertex>, number: usize, others: &mut Vec<Vertex>
     requires within { number < length vertices.old.items }
     requires from_within { from < length others.old.items }
     ensures len { length vertices.new.items ≡ length vertices.old.items }
-    ensures swapped { (v w : VertexValue) → At vertices.old.items number v → At others.old.items from w → At vertices.new.items number (vertex_at v.point w.map) }
-    ensures rest { (k : ℕ) (v : VertexValue) → (k ≡ number → ⊥) → At vertices.old.items k v → At vertices.new.items k v }
-    ensures others { (k : ℕ) (v : VertexValue) → (k ≡ from → ⊥) → At others.old.items k v → At others.new.items k v }
+    ensures swapped { (v w : VertexValue) → IsAt vertices.old.items number v → IsAt others.old.items from w → IsAt vertices.new.items number (vertex_at v.point w.map) }
+    ensures rest { (k : ℕ) (v : VertexValue) → (k ≡ number → ⊥) → IsAt vertices.old.items k v → IsAt vertices.new.items k v }
+    ensures others { (k : ℕ) (v : VertexValue) → (k ≡ from → ⊥) → IsAt others.old.items k v → IsAt others.new.items k v }
 {
     mem::swap(&mut vertices[number].map, &mut others[from].map);
 }
@@ -36,10 +36,10 @@ fn swap_with(
     requires within { number < length vertices.old.items }
     requires from_within { from < length (of_operand operand first.old.items second.old.items) }
     ensures len { length vertices.new.items ≡ length vertices.old.items }
-    ensures swapped { (v w : VertexValue) → At vertices.old.items number v → At (of_operand operand first.old.items second.old.items) from w → At vertices.new.items number (vertex_at v.point w.map) }
-    ensures rest { (k : ℕ) (v : VertexValue) → (k ≡ number → ⊥) → At vertices.old.items k v → At vertices.new.items k v }
-    ensures first { (k : ℕ) (v : VertexValue) → (operand ≡ First → k ≡ from → ⊥) → At first.old.items k v → At first.new.items k v }
-    ensures second { (k : ℕ) (v : VertexValue) → (operand ≡ Second → k ≡ from → ⊥) → At second.old.items k v → At second.new.items k v }
+    ensures swapped { (v w : VertexValue) → IsAt vertices.old.items number v → IsAt (of_operand operand first.old.items second.old.items) from w → IsAt vertices.new.items number (vertex_at v.point w.map) }
+    ensures rest { (k : ℕ) (v : VertexValue) → (k ≡ number → ⊥) → IsAt vertices.old.items k v → IsAt vertices.new.items k v }
+    ensures first { (k : ℕ) (v : VertexValue) → (operand ≡ First → k ≡ from → ⊥) → IsAt first.old.items k v → IsAt first.new.items k v }
+    ensures second { (k : ℕ) (v : VertexValue) → (operand ≡ Second → k ≡ from → ⊥) → IsAt second.old.items k v → IsAt second.new.items k v }
 {
     match operand {
         Operand::First => swap_maps(vertices, number, first, from),
@@ -50,10 +50,10 @@ fn swap_with(
 // Exchanges In and `Not` in the map of a vertex.
 fn turn_map(alloc: Global, vertices: &mut Vec<Vertex>, number: usize)
     requires within { number < length vertices.old.items }
-    requires least { (v : VertexValue) → At vertices.old.items number v → IsLeastMap v.map }
+    requires least { (v : VertexValue) → IsAt vertices.old.items number v → IsLeastMap v.map }
     ensures len { length vertices.new.items ≡ length vertices.old.items }
-    ensures turned { (v : VertexValue) → At vertices.old.items number v → (m : MapValue) × At vertices.new.items number (vertex_at v.point m) × IsOtherOf v.map m }
-    ensures rest { (k : ℕ) (v : VertexValue) → (k ≡ number → ⊥) → At vertices.old.items k v → At vertices.new.items k v }
+    ensures turned { (v : VertexValue) → IsAt vertices.old.items number v → (m : MapValue) × IsAt vertices.new.items number (vertex_at v.point m) × IsOtherOf v.map m }
+    ensures rest { (k : ℕ) (v : VertexValue) → (k ≡ number → ⊥) → IsAt vertices.old.items k v → IsAt vertices.new.items k v }
 {
     let empty = face_map(alloc, Label::Out, Label::Out);
     let vertex = &mut vertices[number];
@@ -73,10 +73,10 @@ fn fill(
     requires within { number < length vertices.old.items }
     requires named { HasNamed first.old.items second.old.items source }
     ensures len { length vertices.new.items ≡ length vertices.old.items }
-    ensures filled { (v : VertexValue) → At vertices.old.items number v → IsFilledAt first.old.items second.old.items source number v vertices.new.items }
-    ensures others { (k : ℕ) (v : VertexValue) → (k ≡ number → ⊥) → At vertices.old.items k v → At vertices.new.items k v }
-    ensures first { (k : ℕ) (v : VertexValue) → (Names source First k → ⊥) → At first.old.items k v → At first.new.items k v }
-    ensures second { (k : ℕ) (v : VertexValue) → (Names source Second k → ⊥) → At second.old.items k v → At second.new.items k v }
+    ensures filled { (v : VertexValue) → IsAt vertices.old.items number v → IsFilledAt first.old.items second.old.items source number v vertices.new.items }
+    ensures others { (k : ℕ) (v : VertexValue) → (k ≡ number → ⊥) → IsAt vertices.old.items k v → IsAt vertices.new.items k v }
+    ensures first { (k : ℕ) (v : VertexValue) → (NamesVertex source First k → ⊥) → IsAt first.old.items k v → IsAt first.new.items k v }
+    ensures second { (k : ℕ) (v : VertexValue) → (NamesVertex source Second k → ⊥) → IsAt second.old.items k v → IsAt second.new.items k v }
 {
     match source {
         MapSource::Here => {}

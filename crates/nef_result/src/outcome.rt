@@ -1,7 +1,7 @@
 //! What a set has at a candidate.
 
 ghost use Rattle.std.specs.Prelude.{◌↔◌};
-ghost use Rattle.nef_result.specs.Prelude.{List as Sequence, IfOk, IsTrue, Set, Place, Cone, Vertex, map_of, IsLeastMap, IsVertex, IsOutcomeAt};
+ghost use Rattle.nef_result.specs.Prelude.{List as Sequence, IfOk, IsTrue, Set, SpacePoint, Cone, Vertex, map_of, IsLeastMap, IsVertexMap, IsOutcomeAt};
 
 use crate::OutOfMemory;
 use nef_cand::Operand;
@@ -26,7 +26,7 @@ pub enum Outcome {
 // Whether no direction is flat at the point of the map.
 fn is_vertex(map: &SphereMap) -> bool
     requires least { IsLeastMap map.now }
-    ensures vertex { IsTrue result ↔ IsVertex (map_of map.now) }
+    ensures vertex { IsTrue result ↔ IsVertexMap (map_of map.now) }
 {
     matches!(kind(map), Kind::Vertex)
 }
@@ -36,7 +36,7 @@ impl Outcome {
     /// memory was wanted and not found.
     pub fn of(alloc: Global, map: SphereMap) -> Result<Outcome, OutOfMemory>
         requires least { IsLeastMap map }
-        ensures outcome { IfOk result (λ o. (us vs : Sequence Vertex) (s : Set) (p : Place) → Cone (map_of map) s p → IsOutcomeAt us vs s p o) }
+        ensures outcome { IfOk result (λ o. (us vs : Sequence Vertex) (s : Set) (p : SpacePoint) → Cone (map_of map) s p → IsOutcomeAt us vs s p o) }
     {
         if !is_vertex(&map) {
             return Ok(Outcome::Gone);

@@ -2,7 +2,7 @@
 //! corners; and the map of a half at a point.
 
 ghost use Rattle.std.specs.Prelude.{◌≡◌, ◌∷◌, ◌++◌};
-ghost use Rattle.nef_result.specs.Prelude.{List as Sequence, true, false, map, IfOk, OnOk, [], Set, Lies, Out, Not, In, form_of, vector_of, given_form, place_of, Cone, ShowsSet, map_of, IsLeastMap, axes, end_at, Ends, ends, all_ends, IsWall, IsCornerOf, AreCorners, sorted_sides, CornersAreVertices, CornersAreShown, inside_label, IsMapOfPlane};
+ghost use Rattle.nef_result.specs.Prelude.{List as Sequence, true, false, map, IfOk, OnOk, [], Set, Lies, Out, Not, In, form_of, vector_of, given_form, point_of, Cone, ShowsSet, map_of, IsLeastMap, axes, frame_end, FrameCorner, ends, all_ends, IsWall, IsFrameCornerOf, AreFrameCorners, sorted_sides, CornersAreVertices, CornersAreShown, inside_label, IsMapOfPlane};
 
 use crate::OutOfMemory;
 use nef_complex::{Complex, Vertex};
@@ -36,14 +36,14 @@ fn wall(alloc: Global, axis: Dir, high: bool, label: Label) -> SphereMap
 
 // The end of each axis of the frame.
 fn end(high: bool) -> i64
-    ensures end { result ≡ end_at high }
+    ensures end { result ≡ frame_end high }
 {
     if high { HALF_SIDE } else { -HALF_SIDE }
 }
 
 // The frame's corner at these ends of the axes, with the map that has the label on the inward side of all three planes.
 fn corner(alloc: Global, label: Label, x: bool, y: bool, z: bool) -> Result<Vertex, OutOfMemory>
-    ensures corner { IfOk result (IsCornerOf label (ends x y z)) }
+    ensures corner { IfOk result (IsFrameCornerOf label (ends x y z)) }
 {
     let x_wall = wall(alloc, axis_x(), x, label);
     let y_wall = wall(alloc, axis_y(), y, label);
@@ -64,7 +64,7 @@ fn add_two(
     x: bool,
     y: bool,
 ) -> Result<(), OutOfMemory>
-    ensures added { OnOk result ((ks : Sequence Ends) → AreCorners label ks vertices.old → AreCorners label ((ks ++ ends x y false ∷ []) ++ ends x y true ∷ []) vertices.new) }
+    ensures added { OnOk result ((ks : Sequence FrameCorner) → AreFrameCorners label ks vertices.old → AreFrameCorners label ((ks ++ ends x y false ∷ []) ++ ends x y true ∷ []) vertices.new) }
 {
     vertices.push(corner(alloc, label, x, y, false)?)?;
     vertices.push(corner(alloc, label, x, y, true)?)?;
@@ -73,7 +73,7 @@ fn add_two(
 
 // The vertices at the eight corners of the frame, in order.
 fn corners(alloc: Global, label: Label) -> Result<List<Vertex>, OutOfMemory>
-    ensures corners { IfOk result (AreCorners label all_ends) }
+    ensures corners { IfOk result (AreFrameCorners label all_ends) }
 {
     let mut vertices = List::new(alloc);
     add_two(&mut vertices, alloc, label, false, false)?;
@@ -147,9 +147,9 @@ pub fn half_map(
     p: &Point,
 ) -> Result<SphereMap, OutOfMemory>
     requires whole { IsLeastMap whole }
-    requires frame { Cone (map_of whole) Set.full (place_of p.now) }
+    requires frame { Cone (map_of whole) Set.full (point_of p.now) }
     ensures least { IfOk result (λ m. IsLeastMap m) }
-    ensures cone { IfOk result (λ m. Cone (map_of m) (Set.half (given_form oriented.now) closed) (place_of p.now)) }
+    ensures cone { IfOk result (λ m. Cone (map_of m) (Set.half (given_form oriented.now) closed) (point_of p.now)) }
 {
     match oriented.side(p) {
         Sign::Minus => Ok(whole),

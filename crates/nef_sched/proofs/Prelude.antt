@@ -9,10 +9,10 @@ pub use Rattle.std.proofs.lemmas.Result.{IfOk-weaker}
 pub use Rattle.std.specs.Prelude.{Err, MatchOption, Ok, OnOk, Result, is_err, is_some, not, option_map, slice_index}
 pub use Rattle.nef_sched.specs.Counts.{Differ, IsDealt, one, times, weigh}
 pub use Rattle.nef_sched.specs.Line.{EndsLast, ends_in, numbers_in}
-pub use Rattle.nef_sched.specs.Plans.{AreGroups, AreRounds, IsGroup, IsPlan, after}
+pub use Rattle.nef_sched.specs.Plans.{AreGroups, AreRounds, IsPlan, IsRoundList, round_after}
 pub use Rattle.nef_sched.specs.Results.{AreFitting, AreReady, AreSound, HasNeeds, HasWorked, IsKept, IsReady, NeedsOf, flat, kept}
-pub use Rattle.nef_sched.specs.Rounds.{Belongs, IsFresh, any_ended, ended, known, numbers_of, parts, taken, times_taken, total_parts, total_worked}
-pub use Rattle.nef_sched.specs.Rule.{Fits, Kept, Sees, Shows, Took, TookEach}
-pub use Rattle.nef_sched.specs.Views.{at_end, both, cut, first_view, put, share, spent, took, total, whole}
+pub use Rattle.nef_sched.specs.Rounds.{IsFresh, IsPassInRound, any_ended, ended, known, numbers_of, parts, taken, times_taken, total_parts, total_worked}
+pub use Rattle.nef_sched.specs.Rule.{FitsRound, Kept, SawItems, ShowsNumbers, Took, TookEach}
+pub use Rattle.nef_sched.specs.Views.{at_end, cut, first_view, put, share, spent, taken_together, took, total, whole}
 pub use Rattle.nef_sched.specs.declared.pass.RoundPass.{RoundPass}
 pub use Rattle.nef_sched.specs.declared.pass.View.{View}

@@ -1,5 +1,5 @@
 -- Each kind of step keeps the queue's rule, and what a pass learns from it.
-use Rattle.nef_sched.proofs.Prelude.{◌≡◌, ◌≢◌, ℕ, zero, suc, ◌+◌, ◌^◌, ◌<◌, ◌≤◌, List, [], ◌∷◌, ◌++◌, length, set, refl, ap, sym, ◌∙◌, arith, ◌⊎◌, inl, inr, ⊎_elim, subst, take, drop, slice_index_or, slice_get, Option, Some, None, IfSome, Bool, true, false, ◌||◌, MatchOption, false≢true, length-append, slice_get_within, View, weigh, one, times, Differ, IsDealt, numbers_in, ends_in, whole, first_view, put, took, at_end, cut, share, both, spent, Fits, Shows, Kept, Sees, Took, TookEach, RoundPass, parts, known, taken, ended, any_ended, total_parts, times_taken, numbers_of}
+use Rattle.nef_sched.proofs.Prelude.{◌≡◌, ◌≢◌, ℕ, zero, suc, ◌+◌, ◌^◌, ◌<◌, ◌≤◌, List, [], ◌∷◌, ◌++◌, length, set, refl, ap, sym, ◌∙◌, arith, ◌⊎◌, inl, inr, ⊎_elim, subst, take, drop, slice_index_or, slice_get, Option, Some, None, IfSome, Bool, true, false, ◌||◌, MatchOption, false≢true, length-append, slice_get_within, View, weigh, one, times, Differ, IsDealt, numbers_in, ends_in, whole, first_view, put, took, at_end, cut, share, taken_together, spent, FitsRound, ShowsNumbers, Kept, SawItems, Took, TookEach, RoundPass, parts, known, taken, ended, any_ended, total_parts, times_taken, numbers_of}
 use Rattle.std.specs.Option.{option_flatten}
 use mathlib.Core.Option.{some, some-injective, some-ne-none}
 use lib.ListN.{get_elem?}
@@ -19,8 +19,8 @@ each_set F views place w mine others j u e =
 each_snoc : (F : View → Type 0) (views : List View) (w : View) → F w → Each F views → Each F (views ++ w ∷ [])
 each_snoc F views w mine others j u e = ⊎_elim (λ (x : get_elem? views j ≡ some u). others j u x) (λ (x : w ≡ u). subst F x mine) (at_snoc views w u j e)
 
-first_fits : (place : ℕ) (v : View) → get_elem? (first_view ∷ []) place ≡ some v → Fits [] [] v
-first_fits zero v e = subst (Fits [] []) (some-injective first_view v e) (record { knows = λ _. refl; none = λ z. absurd (omega arith); ended = λ q. refl })
+first_fits : (place : ℕ) (v : View) → get_elem? (first_view ∷ []) place ≡ some v → FitsRound [] [] v
+first_fits zero v e = subst (FitsRound [] []) (some-injective first_view v e) (record { knows = λ _. refl; none = λ z. absurd (omega arith); ended = λ q. refl })
 first_fits (suc place) v e = absurd (some-ne-none v (sym e))
 
 pub begins : Kept [] (first_view ∷ [])
@@ -40,21 +40,21 @@ differ_more numbers x d n y =
     ]
 
 -- a pass with all parts may take all ends that are left
-pub due_all : (numbers : List ℕ) (items : List (Option ℕ)) (views : List View) (place : ℕ) (v : View) → Shows numbers items views → get_elem? views place ≡ some v → v.parts ≡ 2 ^ 32 → ends_in items ≡ v.due
+pub due_all : (numbers : List ℕ) (items : List (Option ℕ)) (views : List View) (place : ℕ) (v : View) → ShowsNumbers numbers items views → get_elem? views place ≡ some v → v.parts ≡ 2 ^ 32 → ends_in items ≡ v.due
 due_all numbers items views place v s at all =
     sym s.due ∙ all_of_one (λ u. u.due) (λ u. u.parts) views place v at (s.parts ∙ sym all) (λ p u e z. ((s.fits p u e).none z).2)
 
 pub puts : (room place : ℕ) (v : View) (x : ℕ) → v.parts ≡ 2 ^ 32 → v.due ≡ 0 → v.ended ≡ false → times x v.known ≡ 0 → Pushes Kept room place v (Some x) (λ w. w ≡ put v (Some x))
 puts room place v x all none going new items views _ kept at =
     let numbers : List ℕ = kept.0 in
-    let s : Shows numbers items views = kept.1 in
+    let s : ShowsNumbers numbers items views = kept.1 in
     let left : List ℕ = numbers_in items in
     let left' : List ℕ = numbers_in (items ++ Some x ∷ []) in
     let knows : v.known ≡ numbers = (s.fits place v at).knows (omega arith) in
     let more : left' ≡ left ++ x ∷ [] = numbers_more items x in
     let no_end : ends_in items ≡ 0 = due_all numbers items views place v s at all ∙ none in
     let w : View = put v (Some x) in
-    let mine : Fits (numbers ++ x ∷ []) left' w = record {
+    let mine : FitsRound (numbers ++ x ∷ []) left' w = record {
       knows = λ _. ap (λ l. l ++ x ∷ []) knows;
       none = λ z. absurd (omega arith);
       ended = λ e. absurd (false≢true (sym going ∙ e));
@@ -72,7 +72,7 @@ puts room place v x all none going new items views _ kept at =
               omega (arith, weigh_append h numbers (x ∷ []), weigh_append h left (x ∷ []));
           last = last_more items x s.last no_end;
           due = (let t = total_set (λ u. u.due) views place v w at in let p = s.due in let e = ends_more items x in omega arith);
-          fits = each_set (Fits (numbers ++ x ∷ []) left') views place w mine
+          fits = each_set (FitsRound (numbers ++ x ∷ []) left') views place w mine
               (λ j u other e.
               let t = two_at_most (λ z. z.parts) views place j v u (λ q. other (sym q)) at e in
               let p = s.parts in
@@ -87,13 +87,13 @@ puts room place v x all none going new items views _ kept at =
 pub puts_end : (room place : ℕ) (v : View) → v.parts ≡ 2 ^ 32 → Pushes Kept room place v None (λ w. w ≡ put v None)
 puts_end room place v all items views _ kept at =
     let numbers : List ℕ = kept.0 in
-    let s : Shows numbers items views = kept.1 in
+    let s : ShowsNumbers numbers items views = kept.1 in
     let left : List ℕ = numbers_in items in
     let left' : List ℕ = numbers_in (items ++ None ∷ []) in
     let same : left' ≡ left = numbers_end items in
     let own = s.fits place v at in
     let w : View = put v None in
-    let mine : Fits numbers left' w = record { knows = own.knows; none = λ z. absurd (omega arith); ended = λ e. same ∙ own.ended e } in (
+    let mine : FitsRound numbers left' w = record { knows = own.knows; none = λ z. absurd (omega arith); ended = λ e. same ∙ own.ended e } in (
       w,
       (
         numbers,
@@ -107,7 +107,7 @@ puts_end room place v all items views _ kept at =
               omega arith;
           last = last_end items s.last;
           due = (let t = total_set (λ u. u.due) views place v w at in let p = s.due in let e = ends_end items in omega arith);
-          fits = each_set (Fits numbers left') views place w mine
+          fits = each_set (FitsRound numbers left') views place w mine
               (λ j u other e. let f = s.fits j u e in record { knows = f.knows; none = f.none; ended = λ q. same ∙ f.ended q });
         },
       ),
@@ -115,7 +115,7 @@ puts_end room place v all items views _ kept at =
     )
 
 -- with every part, and no number in the queue, a pass took all
-took_each : (numbers : List ℕ) (items : List (Option ℕ)) (views : List View) (place : ℕ) (v : View) → Shows numbers items views → get_elem? views place ≡ some v → numbers_in items ≡ [] → v.parts ≡ 2 ^ 32 → TookEach v
+took_each : (numbers : List ℕ) (items : List (Option ℕ)) (views : List View) (place : ℕ) (v : View) → ShowsNumbers numbers items views → get_elem? views place ≡ some v → numbers_in items ≡ [] → v.parts ≡ 2 ^ 32 → TookEach v
 took_each numbers items views place v s at left all x =
     let k : times x v.known ≡ times x numbers = ap (times x) ((s.fits place v at).knows (omega arith)) in
     let e = s.each (one x) in
@@ -126,7 +126,7 @@ took_each numbers items views place v s at left all x =
 pub takes : (place : ℕ) (v : View) → 0 < v.parts → (0 < v.due) ⊎ (v.parts ≡ 2 ^ 32) → Pops Kept place v (Took v)
 takes place v some_part may (Some x) items views kept at =
     let numbers : List ℕ = kept.0 in
-    let s : Shows numbers (Some x ∷ items) views = kept.1 in
+    let s : ShowsNumbers numbers (Some x ∷ items) views = kept.1 in
     let left : List ℕ = numbers_in items in
     let own = s.fits place v at in
     let knows : v.known ≡ numbers = own.knows some_part in
@@ -140,7 +140,7 @@ takes place v some_part may (Some x) items views kept at =
     let len = s.each (λ y. 1) in
     let longest = at_most (λ u. weigh (λ y. 1) u.taken) views place v at in
     let k' : length v.known ≡ length numbers = ap length knows in
-    let mine : Fits numbers left w = record { knows = λ _. knows; none = λ z. absurd (omega arith); ended = λ q. absurd (false≢true (sym going ∙ q)) } in (
+    let mine : FitsRound numbers left w = record { knows = λ _. knows; none = λ z. absurd (omega arith); ended = λ q. absurd (false≢true (sym going ∙ q)) } in (
       w,
       (
         numbers,
@@ -153,7 +153,7 @@ takes place v some_part may (Some x) items views kept at =
               omega (arith, weigh_append h v.taken (x ∷ []));
           last = s.last;
           due = (let t = total_set (λ u. u.due) views place v w at in let p = s.due in omega arith);
-          fits = each_set (Fits numbers left) views place w mine
+          fits = each_set (FitsRound numbers left) views place w mine
               (λ j u other q. let f = s.fits j u q in record { knows = f.knows; none = f.none; ended = λ z. absurd (cons_not_nil x left (f.ended z)) });
         },
       ),
@@ -161,13 +161,13 @@ takes place v some_part may (Some x) items views kept at =
     )
 takes place v some_part may None items views kept at =
     let numbers : List ℕ = kept.0 in
-    let s : Shows numbers (None ∷ items) views = kept.1 in
+    let s : ShowsNumbers numbers (None ∷ items) views = kept.1 in
     let left : List ℕ = numbers_in items in
     let empty : left ≡ [] = s.last in
     let own = s.fits place v at in
     let owes : 0 < v.due = elim may [ inl a ↦ a | inr all ↦ let d = due_all numbers (None ∷ items) views place v s at all in omega arith ] in
     let w : View = at_end v in
-    let mine : Fits numbers left w = record { knows = own.knows; none = λ z. absurd (omega arith); ended = λ _. empty } in (
+    let mine : FitsRound numbers left w = record { knows = own.knows; none = λ z. absurd (omega arith); ended = λ _. empty } in (
       w,
       (
         numbers,
@@ -177,7 +177,7 @@ takes place v some_part may None items views kept at =
           each = λ h. let t = total_set (λ u. weigh h u.taken) views place v w at in let p = s.each h in omega arith;
           last = last_none items empty;
           due = (let t = total_set (λ u. u.due) views place v w at in let p = s.due in omega arith);
-          fits = each_set (Fits numbers left) views place w mine (λ j u other q. s.fits j u q);
+          fits = each_set (FitsRound numbers left) views place w mine (λ j u other q. s.fits j u q);
         },
       ),
       (refl, owes, λ all. took_each numbers (None ∷ items) views place v s at empty all),
@@ -186,13 +186,13 @@ takes place v some_part may None items views kept at =
 pub forks : (place : ℕ) (v : View) → 1 < v.parts → 0 < v.due → Forks Kept place v (cut v) (share v)
 forks place v two owes items views kept at =
     let numbers : List ℕ = kept.0 in
-    let s : Shows numbers items views = kept.1 in
+    let s : ShowsNumbers numbers items views = kept.1 in
     let left : List ℕ = numbers_in items in
     let own = s.fits place v at in
     let knows : v.known ≡ numbers = own.knows (omega arith) in
     let cutted : List View = set views place (cut v) in
-    let mine : Fits numbers left (cut v) = record { knows = λ _. knows; none = λ z. absurd (omega arith); ended = own.ended } in
-    let made : Fits numbers left (share v) = record { knows = λ _. knows; none = λ z. absurd (omega arith); ended = λ q. absurd (false≢true q) } in (
+    let mine : FitsRound numbers left (cut v) = record { knows = λ _. knows; none = λ z. absurd (omega arith); ended = own.ended } in
+    let made : FitsRound numbers left (share v) = record { knows = λ _. knows; none = λ z. absurd (omega arith); ended = λ q. absurd (false≢true q) } in (
       numbers,
       record {
         parts = (let t = total_set (λ u. u.parts) views place v (cut v) at in let p = s.parts in omega (arith, total_snoc (λ u. u.parts) cutted (share v)));
@@ -203,47 +203,47 @@ forks place v two owes items views kept at =
             omega (arith, total_snoc (λ u. weigh h u.taken) cutted (share v));
         last = s.last;
         due = (let t = total_set (λ u. u.due) views place v (cut v) at in let p = s.due in omega (arith, total_snoc (λ u. u.due) cutted (share v)));
-        fits = each_snoc (Fits numbers left) cutted (share v) made (each_set (Fits numbers left) views place (cut v) mine (λ j u other e. s.fits j u e));
+        fits = each_snoc (FitsRound numbers left) cutted (share v) made (each_set (FitsRound numbers left) views place (cut v) mine (λ j u other e. s.fits j u e));
       },
     )
 
-pub merges : (place : ℕ) (v : View) (other : ℕ) (w : View) → 0 < v.parts → 0 < w.parts → Merges Kept place v other w (both v w) spent
+pub merges : (place : ℕ) (v : View) (other : ℕ) (w : View) → 0 < v.parts → 0 < w.parts → Merges Kept place v other w (taken_together v w) spent
 merges place v other w mine theirs items views kept at apart at' =
     let numbers : List ℕ = kept.0 in
-    let s : Shows numbers items views = kept.1 in
+    let s : ShowsNumbers numbers items views = kept.1 in
     let left : List ℕ = numbers_in items in
     let own = s.fits place v at in
     let knows : v.known ≡ numbers = own.knows mine in
-    let joint : List View = set views place (both v w) in
-    let was : get_elem? views other ≡ some w = ⊎_elim (λ (x : (other ≡ place) × (both v w ≡ w)). absurd (apart x.0)) (λ (x : (other ≢ place) × (get_elem? views other ≡ some w)). x.1) (at_set views place other (both v w) w at') in
+    let joint : List View = set views place (taken_together v w) in
+    let was : get_elem? views other ≡ some w = ⊎_elim (λ (x : (other ≡ place) × (taken_together v w ≡ w)). absurd (apart x.0)) (λ (x : (other ≢ place) × (get_elem? views other ≡ some w)). x.1) (at_set views place other (taken_together v w) w at') in
     let theirs' = s.fits other w was in
-    let one_fits : Fits numbers left (both v w) = record {
+    let one_fits : FitsRound numbers left (taken_together v w) = record {
       knows = λ _. knows;
       none = λ z. absurd (omega arith);
       ended = λ q. elim (one_of v.ended w.ended q) [ inl a ↦ own.ended a | inr b ↦ theirs'.ended b ];
     } in
-    let nothing : Fits numbers left spent = record { knows = λ z. absurd (omega arith); none = λ _. (refl, refl, refl, refl); ended = λ q. absurd (false≢true q) } in (
+    let nothing : FitsRound numbers left spent = record { knows = λ z. absurd (omega arith); none = λ _. (refl, refl, refl, refl); ended = λ q. absurd (false≢true q) } in (
       numbers,
       record {
-        parts = (let t = total_set (λ u. u.parts) views place v (both v w) at in let t' = total_set (λ u. u.parts) joint other w spent at' in let p = s.parts in omega arith);
+        parts = (let t = total_set (λ u. u.parts) views place v (taken_together v w) at in let t' = total_set (λ u. u.parts) joint other w spent at' in let p = s.parts in omega arith);
         differ = s.differ;
         each = λ h.
-            let t = total_set (λ u. weigh h u.taken) views place v (both v w) at in
+            let t = total_set (λ u. weigh h u.taken) views place v (taken_together v w) at in
             let t' = total_set (λ u. weigh h u.taken) joint other w spent at' in
             let p = s.each h in
             omega (arith, weigh_append h v.taken w.taken);
         last = s.last;
-        due = (let t = total_set (λ u. u.due) views place v (both v w) at in let t' = total_set (λ u. u.due) joint other w spent at' in let p = s.due in omega arith);
-        fits = each_set (Fits numbers left) joint other spent nothing
-            (λ j u _ e. each_set (Fits numbers left) views place (both v w) one_fits (λ i y _ q. s.fits i y q) j u e);
+        due = (let t = total_set (λ u. u.due) views place v (taken_together v w) at in let t' = total_set (λ u. u.due) joint other w spent at' in let p = s.due in omega arith);
+        fits = each_set (FitsRound numbers left) joint other spent nothing
+            (λ j u _ e. each_set (FitsRound numbers left) views place (taken_together v w) one_fits (λ i y _ q. s.fits i y q) j u e);
       },
     )
 
-pub sees : (place : ℕ) (v : View) → Learns Kept place v (Sees v)
+pub sees : (place : ℕ) (v : View) → Learns Kept place v (SawItems v)
 sees place v items views kept at = (views, place, at, kept)
 
 -- what a pass with a part sees: what it took and the numbers in the queue are no more than the numbers
-pub seen_few : (v : View) (items : List (Option ℕ)) → 0 < v.parts → Sees v items → length v.taken + length (numbers_in items) ≤ length v.known
+pub seen_few : (v : View) (items : List (Option ℕ)) → 0 < v.parts → SawItems v items → length v.taken + length (numbers_in items) ≤ length v.known
 seen_few v items some_part seen =
     let s = seen.3.1 in
     let k : length v.known ≡ length seen.3.0 = ap length ((s.fits seen.1 v seen.2).knows some_part) in
@@ -252,7 +252,7 @@ seen_few v items some_part seen =
     omega (arith, weigh_one seen.3.0, weigh_one v.taken, weigh_one (numbers_in items))
 
 -- with every part it sees where each of the numbers is, and how many ends are left
-pub seen_all : (v : View) (items : List (Option ℕ)) → v.parts ≡ 2 ^ 32 → Sees v items → IsDealt v.known v.taken (numbers_in items)
+pub seen_all : (v : View) (items : List (Option ℕ)) → v.parts ≡ 2 ^ 32 → SawItems v items → IsDealt v.known v.taken (numbers_in items)
 seen_all v items all seen =
     let s = seen.3.1 in
     let knows : v.known ≡ seen.3.0 = (s.fits seen.1 v seen.2).knows (omega arith) in (
@@ -265,11 +265,11 @@ seen_all v items all seen =
           omega arith,
     )
 
-pub seen_due : (v : View) (items : List (Option ℕ)) → v.parts ≡ 2 ^ 32 → Sees v items → ends_in items ≡ v.due
+pub seen_due : (v : View) (items : List (Option ℕ)) → v.parts ≡ 2 ^ 32 → SawItems v items → ends_in items ≡ v.due
 seen_due v items all seen = due_all seen.3.0 items seen.0 seen.1 v seen.3.1 seen.2 all
 
 -- a pass that may still take an end never sees the queue empty
-pub never_empty : (v : View) → 0 < v.due → Held 0 (Sees v) → ⊥
+pub never_empty : (v : View) → 0 < v.due → Held 0 (SawItems v) → ⊥
 never_empty v owes held =
     let items = held.0 in
     let seen = held.2 in
@@ -281,23 +281,23 @@ never_empty v owes held =
     absurd (omega arith)
 
 -- so what it takes is a number or an end
-pub took_some : (v w : View) (o : Option (Option ℕ)) → 0 < v.due → MatchOption o ((w ≡ v) × Held 0 (Sees v)) (λ x. Took v x w) → Took v (option_flatten o) w
+pub took_some : (v w : View) (o : Option (Option ℕ)) → 0 < v.due → MatchOption o ((w ≡ v) × Held 0 (SawItems v)) (λ x. Took v x w) → Took v (option_flatten o) w
 took_some v w None owes h = absurd (never_empty v owes h.1)
 took_some v w (Some x) owes h = h
 
 -- a pass that has ended, and has every part, took all
-pub ended_took : (v : View) (items : List (Option ℕ)) → v.ended ≡ true → Sees v items → v.parts ≡ 2 ^ 32 → TookEach v
+pub ended_took : (v : View) (items : List (Option ℕ)) → v.ended ≡ true → SawItems v items → v.parts ≡ 2 ^ 32 → TookEach v
 ended_took v items end seen all = took_each seen.3.0 items seen.0 seen.1 v seen.3.1 seen.2 ((seen.3.1.fits seen.1 v seen.2).ended end) all
 
 -- a pass that took another one in may still take an end where neither has ended
-pub joined_owes : (a b : Bool) (u w v : View) → (a ≡ false → 0 < u.due) → v ≡ both u w → (a || b) ≡ false → 0 < v.due
+pub joined_owes : (a b : Bool) (u w v : View) → (a ≡ false → 0 < u.due) → v ≡ taken_together u w → (a || b) ≡ false → 0 < v.due
 joined_owes true b u w v p e q = absurd (false≢true (sym q))
 joined_owes false b u w v p e q =
     let d : v.due ≡ u.due + w.due = ap (λ (z : View). z.due) e in
     let x = p refl in
     omega arith
 
-pub joined_ended : (u w v : View) (a b : Bool) → v ≡ both u w → u.ended ≡ a → w.ended ≡ b → v.ended ≡ (a || b)
+pub joined_ended : (u w v : View) (a b : Bool) → v ≡ taken_together u w → u.ended ≡ a → w.ended ≡ b → v.ended ≡ (a || b)
 joined_ended u w v a b e p q = ap (λ (z : View). z.ended) e ∙ rw (p, q) refl
 
 pub agree : PassesAgree
@@ -331,11 +331,11 @@ pub ended_is_empty : EndedIsEmpty
 ended_is_empty items views i v kept at e = (kept.1.fits i v at).ended e
 
 -- an empty queue, seen with every part: the pass took all
-nothing_left : (v : View) (items : List (Option ℕ)) → length items ≡ 0 → v.parts ≡ 2 ^ 32 → Sees v items → IsDealt v.known v.taken []
+nothing_left : (v : View) (items : List (Option ℕ)) → length items ≡ 0 → v.parts ≡ 2 ^ 32 → SawItems v items → IsDealt v.known v.taken []
 nothing_left v [] none all seen = seen_all v [] all seen
 nothing_left v (x ∷ xs) none all seen = absurd (omega arith)
 
-pub ends : (v : View) (known taken left : List ℕ) → v.parts ≡ 2 ^ 32 → v.known ≡ known → v.taken ≡ taken ++ left → Held 0 (Sees v) → IsDealt known taken left
+pub ends : (v : View) (known taken left : List ℕ) → v.parts ≡ 2 ^ 32 → v.known ≡ known → v.taken ≡ taken ++ left → Held 0 (SawItems v) → IsDealt known taken left
 ends v known taken left all k t held =
     let e = nothing_left v held.0 held.1 all held.2 in
     let same : (x : ℕ) → times x v.known ≡ times x known = λ x. ap (times x) k in
@@ -345,10 +345,10 @@ ends v known taken left all k t held =
     )
 
 -- two passes together took no more than the numbers
-pub fits_in : (v u w : View) (taken more : List ℕ) (room : ℕ) → v ≡ both u w → 0 < u.parts → u.taken ≡ taken → w.taken ≡ more → length u.known ≤ room → ((items : List (Option ℕ)) × Sees v items) → length taken + length more ≤ room
+pub fits_in : (v u w : View) (taken more : List ℕ) (room : ℕ) → v ≡ taken_together u w → 0 < u.parts → u.taken ≡ taken → w.taken ≡ more → length u.known ≤ room → ((items : List (Option ℕ)) × SawItems v items) → length taken + length more ≤ room
 fits_in v u w taken more room e some_part t m k seen =
-    let s = subst (λ z. Sees z seen.0) e seen.1 in
-    let few = seen_few (both u w) seen.0 (omega arith) s in
+    let s = subst (λ z. SawItems z seen.0) e seen.1 in
+    let few = seen_few (taken_together u w) seen.0 (omega arith) s in
     let a : length u.taken ≡ length taken = ap length t in
     let b : length w.taken ≡ length more = ap length m in
     omega (arith, length-append u.taken w.taken)
@@ -369,9 +369,9 @@ not_before numbers i d differ low =
     omega arith
 
 -- a queue with room for all numbers and ends isn't full before the last
-pub never_full : (known : List ℕ) (due room : ℕ) (v : View) → v ≡ whole known due → length known + due < room → Held room (Sees v) → ⊥
+pub never_full : (known : List ℕ) (due room : ℕ) (v : View) → v ≡ whole known due → length known + due < room → Held room (SawItems v) → ⊥
 never_full known due room v e wide held =
-    let seen = subst (λ z. Sees z held.0) e held.2 in
+    let seen = subst (λ z. SawItems z held.0) e held.2 in
     let few = seen_few (whole known due) held.0 (omega arith) seen in
     let ends = seen_due (whole known due) held.0 refl seen in
     let all = held.1 in

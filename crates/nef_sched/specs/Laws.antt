@@ -6,7 +6,7 @@ use Rattle.crossbeam_queue.specs.Fifo.{Pushes, Pops, Forks, Merges}
 use Rattle.nef_sched.specs.declared.pass.View.{View}
 use Rattle.nef_sched.specs.Counts.{times}
 use Rattle.nef_sched.specs.Line.{numbers_in}
-use Rattle.nef_sched.specs.Views.{first_view, put, cut, share, both, spent, total}
+use Rattle.nef_sched.specs.Views.{first_view, put, cut, share, taken_together, spent, total}
 use Rattle.nef_sched.specs.Rule.{Kept, Took}
 use Rattle.nef_sched.specs.declared.pass.RoundPass.{RoundPass}
 use Rattle.nef_sched.specs.Rounds.{known, numbers_of, AreAgreed}
@@ -32,7 +32,7 @@ ForkKeeps = (place : ℕ) (v : View) → 1 < v.parts → 0 < v.due → Forks Kep
 
 -- a pass with a part takes in another one with a part
 abbrev pub MergeKeeps : Type 0
-MergeKeeps = (place : ℕ) (v : View) (other : ℕ) (w : View) → 0 < v.parts → 0 < w.parts → Merges Kept place v other w (both v w) spent
+MergeKeeps = (place : ℕ) (v : View) (other : ℕ) (w : View) → 0 < v.parts → 0 < w.parts → Merges Kept place v other w (taken_together v w) spent
 
 -- all passes with a part know the same numbers, and these differ
 abbrev pub PassesAgree : Type 0

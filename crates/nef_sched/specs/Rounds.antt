@@ -20,8 +20,8 @@ abbrev pub ended : RoundPass → Bool
 ended p = (view p.pass).ended
 
 -- the pass is one of this round, which has room for its numbers
-abbrev pub Belongs : Round → RoundPass → Type 0
-Belongs round p = IsPassOf round.queue p.pass × (length (known p) ≤ vec_capacity round.left)
+abbrev pub IsPassInRound : Round → RoundPass → Type 0
+IsPassInRound round p = IsPassOf round.queue p.pass × (length (known p) ≤ vec_capacity round.left)
 
 -- the pass knows these numbers, took none, and hasn't ended
 abbrev pub IsFresh : List ℕ → RoundPass → Type 0

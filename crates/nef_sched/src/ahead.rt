@@ -4,7 +4,7 @@ ghost use Rattle.nef_sched.specs.declared.pass.RoundPass.{RoundPass};
 ghost use Rattle.nef_sched.specs.Counts.{Differ};
 ghost use Rattle.nef_sched.specs.Results.{kept, IsKept, AreSound, AreFitting, AreReady, HasWorked};
 ghost use Rattle.nef_sched.specs.Plans.{IsPlan};
-ghost use Rattle.nef_sched.specs.Rounds.{Belongs, parts, known, total_parts, total_worked};
+ghost use Rattle.nef_sched.specs.Rounds.{IsPassInRound, parts, known, total_parts, total_worked};
 
 use crate::OutOfMemory;
 use crate::pass::{Round, RoundPass};
@@ -118,10 +118,10 @@ fn work_all<R: Wait, T: Stage>(
     mut pass: RoundPass,
 ) -> (RoundPass, Vec<(usize, T::Out)>)
     requires workable { T.workable stage.now }
-    requires of { Belongs round.now pass }
+    requires of { IsPassInRound round.now pass }
     requires knows { known pass ≡ numbers.now }
     requires ready { AreReady (T.size stage.now) (T.fits stage.now) (T.first stage.now) (T.second stage.now) numbers.now done.now.list.items }
-    ensures of { Belongs round.now result.0 }
+    ensures of { IsPassInRound round.now result.0 }
     ensures parts { parts result.0 ≡ parts pass }
     ensures outs { AreFitting (T.size stage.now) (T.fits stage.now) result.1.items }
 {
@@ -153,10 +153,10 @@ fn work_apart<R: Threads + Wait + Sync, T: Stage>(
     passes: Vec<RoundPass>,
 ) -> Result<Vec<(RoundPass, Vec<(usize, T::Out)>)>, OutOfMemory>
     requires workable { T.workable stage.now }
-    requires of { All (λ p. Belongs round.now p) passes.items }
+    requires of { All (λ p. IsPassInRound round.now p) passes.items }
     requires knows { All (λ p. known p ≡ numbers.now) passes.items }
     requires ready { AreReady (T.size stage.now) (T.fits stage.now) (T.first stage.now) (T.second stage.now) numbers.now done.now.list.items }
-    ensures of { IfOk result (λ v. All (λ w. Belongs round.now w.0) v.items) }
+    ensures of { IfOk result (λ v. All (λ w. IsPassInRound round.now w.0) v.items) }
     ensures len { IfOk result (λ v. vec_len v ≡ vec_len passes) }
     ensures parts { IfOk result (λ v. (i : ℕ) (d : _) (e : RoundPass) → i < length passes.items → parts (slice_index_or v.items i d).0 ≡ parts (slice_index_or passes.items i e)) }
     ensures outs { IfOk result (λ v. All (λ w. AreFitting (T.size stage.now) (T.fits stage.now) w.1.items) v.items) }
@@ -165,8 +165,8 @@ fn work_apart<R: Threads + Wait + Sync, T: Stage>(
         rt,
         passes,
         &|mine: RoundPass| -> (RoundPass, Vec<(usize, T::Out)>)
-            requires { T.workable stage.now × Belongs round.now mine × (known mine ≡ numbers.now) × AreReady (T.size stage.now) (T.fits stage.now) (T.first stage.now) (T.second stage.now) numbers.now done.now.list.items }
-            ensures { Belongs round.entry.now result.0 × (parts result.0 ≡ parts mine) × AreFitting (T.size stage.entry.now) (T.fits stage.entry.now) result.1.items }
+            requires { T.workable stage.now × IsPassInRound round.now mine × (known mine ≡ numbers.now) × AreReady (T.size stage.now) (T.fits stage.now) (T.first stage.now) (T.second stage.now) numbers.now done.now.list.items }
+            ensures { IsPassInRound round.entry.now result.0 × (parts result.0 ≡ parts mine) × AreFitting (T.size stage.entry.now) (T.fits stage.entry.now) result.1.items }
         { work_all(rt, alloc, stage, done, numbers, round, mine) },
     )
 }
@@ -191,10 +191,10 @@ fn gathered<T: Stage>(
     mut worked: Vec<(RoundPass, Vec<(usize, T::Out)>)>,
 ) -> Result<Vec<RoundPass>, OutOfMemory>
     requires sound { AreSound (T.size stage.now) (T.fits stage.now) done.old.list.items }
-    requires of { All (λ w. Belongs round.now w.0) worked.items }
+    requires of { All (λ w. IsPassInRound round.now w.0) worked.items }
     requires each { All (λ w. AreFitting (T.size stage.now) (T.fits stage.now) w.1.items) worked.items }
     ensures worked { HasWorked (T.size stage.now) (T.fits stage.now) done.old.list.items done.new.list.items }
-    ensures of { IfOk result (λ v. All (λ p. Belongs round.now p) v.items) }
+    ensures of { IfOk result (λ v. All (λ p. IsPassInRound round.now p) v.items) }
     ensures parts { IfOk result (λ v. total_parts v.items ≡ total_worked worked.items) }
 {
     let mut passes = Vec::with_capacity(alloc, worked.len())?;

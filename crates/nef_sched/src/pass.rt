@@ -1,7 +1,7 @@
 //! A round, its passes and what they know, what holds between any two steps, and what each kind of step tells.
 ghost use Rattle.std.specs.Prelude.{◌≡◌, true, false, ◌^◌, ◌<◌, ◌≤◌, [], length, vec_capacity};
 ghost use Rattle.crossbeam_queue.specs.Passes.{view};
-ghost use Rattle.nef_sched.specs.Rule.{TookEach, Kept, Sees, Took};
+ghost use Rattle.nef_sched.specs.Rule.{TookEach, Kept, SawItems, Took};
 ghost use Rattle.nef_sched.specs.Views.{first_view, put, cut, share};
 
 use crossbeam_queue::protocol::{Join, Lesson, Outcome, Protocol, Split};
@@ -63,7 +63,7 @@ impl Outcome<Option<usize>, View> for Puts {
 }
 
 impl Lesson<Option<usize>, View> for Puts {
-    ghost fact = { Sees };
+    ghost fact = { SawItems };
 }
 
 /// Takes a number that no pass took before, or an end.
@@ -74,7 +74,7 @@ impl Outcome<Option<usize>, View> for Takes {
 }
 
 impl Lesson<Option<usize>, View> for Takes {
-    ghost fact = { Sees };
+    ghost fact = { SawItems };
 }
 
 /// Gives a new pass one part, and takes a pass in.
@@ -87,9 +87,9 @@ impl Split<View> for Cut {
 }
 
 impl Join<View> for Cut {
-    ghost use Rattle.nef_sched.specs.Views.{both, spent};
+    ghost use Rattle.nef_sched.specs.Views.{spent, taken_together};
 
-    ghost both = { both };
+    ghost both = { taken_together };
 
     ghost spent = { spent };
 }

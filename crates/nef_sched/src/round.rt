@@ -2,7 +2,7 @@
 ghost use Rattle.std.specs.Prelude.{◌≡◌, ℕ, true, false, ◌+◌, ◌^◌, ◌<◌, ◌≤◌, ◌||◌, None, [], ◌∷◌, ◌++◌, length, All, IfOk, IfSome, MatchOption, vec_len, vec_capacity};
 ghost use Rattle.crossbeam_queue.specs.Passes.{view, IsPassOf, ruled_capacity};
 ghost use Rattle.nef_sched.specs.Counts.{times, Differ, IsDealt};
-ghost use Rattle.nef_sched.specs.Rounds.{Belongs, parts, known, taken, ended, any_ended, total_parts, times_taken, numbers_of, TookAll, IsFresh};
+ghost use Rattle.nef_sched.specs.Rounds.{IsPassInRound, parts, known, taken, ended, any_ended, total_parts, times_taken, numbers_of, TookAll, IsFresh};
 ghost use Rattle.nef_sched.specs.Rule.{Took};
 ghost use Rattle.nef_sched.specs.Views.{first_view, put, whole};
 ghost use Rattle.nef_sched.specs.Laws.{BeginKeeps, PutKeeps, EndKeeps, TakeKeeps, ForkKeeps, MergeKeeps, NoneTwice, NoneTakenIsLeft, PassesAgree, NoneIsLost, EndedIsEmpty, NumbersAreKnown};
@@ -13,7 +13,7 @@ use crossbeam_queue::{Pass, RuledArrayQueue};
 use std::alloc::Global;
 use std::sync::Wait;
 
-type Line = RuledArrayQueue<Option<usize>, View, RoundRule>;
+type RoundQueue = RuledArrayQueue<Option<usize>, View, RoundRule>;
 
 /// What became of the numbers of a round.
 #[derive(Drop)]
@@ -40,13 +40,13 @@ impl Round {
         requires differ { Differ numbers.now }
         requires some { 0 < length numbers.now }
         requires passes { 1 ≤ passes }
-        ensures of { IfOk result (λ r. All (λ p. Belongs r.0 p) r.1.items) }
+        ensures of { IfOk result (λ r. All (λ p. IsPassInRound r.0 p) r.1.items) }
         ensures fresh { IfOk result (λ r. All (λ p. (known p ≡ numbers.now) × (taken p ≡ []) × (ended p ≡ false)) r.1.items) }
         ensures every { IfOk result (λ r. total_parts r.1.items ≡ 2 ^ 32) }
         ensures len { IfOk result (λ r. vec_len r.1 ≡ passes) }
     {
         let left = Vec::with_capacity(alloc, numbers.len())?;
-        let (queue, pass) = Line::ruled(alloc, numbers.len() + passes as usize)?;
+        let (queue, pass) = RoundQueue::ruled(alloc, numbers.len() + passes as usize)?;
         let pass = put_all(rt, &queue, pass, numbers);
         let pass = put_ends(rt, &queue, pass, passes);
         let list = passes_of(alloc, &queue, pass, numbers.len(), passes)?;
@@ -61,8 +61,8 @@ impl Round {
     /// has one pass, `None` comes exactly where that pass took all numbers. The call may wait on the
     /// queue. Takes no memory.
     pub fn take<R: Wait>(&self, rt: &R, pass: &mut RoundPass) -> Option<usize>
-        requires of { Belongs self.now pass.old }
-        ensures of { Belongs self.now pass.new }
+        requires of { IsPassInRound self.now pass.old }
+        ensures of { IsPassInRound self.now pass.new }
         ensures same { (parts pass.new ≡ parts pass.old) × (known pass.new ≡ known pass.old) }
         ensures number { MatchOption result (taken pass.new ≡ taken pass.old) (λ x. (taken pass.new ≡ taken pass.old ++ x ∷ []) × (times x (known pass.old) ≡ 1) × (times x (taken pass.old) ≡ 0)) }
         ensures ended { MatchOption result (ended pass.new ≡ true) (λ _. ended pass.new ≡ false) }
@@ -86,7 +86,7 @@ impl Round {
     /// The list holds every pass of the round, each once: the passes are of this round, and their
     /// parts add up to 2^32. The call may wait on the queue. Takes no memory.
     pub fn close<R: Wait>(self, rt: &R, mut passes: Vec<RoundPass>) -> Taken
-        requires of { All (λ p. Belongs self p) passes.items }
+        requires of { All (λ p. IsPassInRound self p) passes.items }
         requires every { total_parts passes.items ≡ 2 ^ 32 }
         ensures each { IsDealt (numbers_of passes.items) result.taken.items result.left.items }
         ensures taken { (x : ℕ) → times x result.taken.items ≡ times_taken x passes.items }
@@ -106,7 +106,7 @@ impl Round {
 }
 
 // Takes a number from the queue, or `None` where it takes an end, which stands there for each pass that hasn't ended.
-fn pop<R: Wait>(rt: &R, queue: &Line, pass: &mut Pass<Option<usize>, View>) -> Option<usize>
+fn pop<R: Wait>(rt: &R, queue: &RoundQueue, pass: &mut Pass<Option<usize>, View>) -> Option<usize>
     requires of { IsPassOf queue.now pass.old }
     requires part { 0 < (view pass.old).parts }
     requires due { 0 < (view pass.old).due }
@@ -119,7 +119,7 @@ fn pop<R: Wait>(rt: &R, queue: &Line, pass: &mut Pass<Option<usize>, View>) -> O
 // Puts a number or an end into the queue, in which there is room for it.
 fn put_item<R: Wait>(
     rt: &R,
-    queue: &Line,
+    queue: &RoundQueue,
     pass: &mut Pass<Option<usize>, View>,
     item: Option<usize>,
 )
@@ -136,7 +136,7 @@ fn put_item<R: Wait>(
 // Puts the numbers into the queue.
 fn put_all<R: Wait>(
     rt: &R,
-    queue: &Line,
+    queue: &RoundQueue,
     mut pass: Pass<Option<usize>, View>,
     numbers: &[usize],
 ) -> Pass<Option<usize>, View>
@@ -156,7 +156,7 @@ fn put_all<R: Wait>(
 // Puts so many ends behind the numbers that the pass knows.
 fn put_ends<R: Wait>(
     rt: &R,
-    queue: &Line,
+    queue: &RoundQueue,
     mut pass: Pass<Option<usize>, View>,
     count: u32,
 ) -> Pass<Option<usize>, View>
@@ -196,7 +196,7 @@ fn pass_of(
 // Makes the other passes, each with room for all numbers.
 fn passes_of(
     alloc: Global,
-    queue: &Line,
+    queue: &RoundQueue,
     mut pass: Pass<Option<usize>, View>,
     room: usize,
     passes: u32,
@@ -235,7 +235,7 @@ fn append(list: &mut Vec<usize>, more: &[usize])
 }
 
 // Takes the other pass in, with what it took.
-fn joined(queue: &Line, into: RoundPass, other: RoundPass) -> RoundPass
+fn joined(queue: &RoundQueue, into: RoundPass, other: RoundPass) -> RoundPass
     requires of { IsPassOf queue.now into.pass × IsPassOf queue.now other.pass }
     ensures of { IsPassOf queue.now result.pass }
     ensures parts { parts result ≡ parts into + parts other }
@@ -262,7 +262,7 @@ fn joined(queue: &Line, into: RoundPass, other: RoundPass) -> RoundPass
 // Takes out what is still in the queue.
 fn drained<R: Wait>(
     rt: &R,
-    queue: &Line,
+    queue: &RoundQueue,
     mut pass: Pass<Option<usize>, View>,
     mut left: Vec<usize>,
 ) -> Vec<usize>

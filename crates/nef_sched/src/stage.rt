@@ -1,7 +1,7 @@
 //! What is to be worked, number by number, the results that are there, and in which round each number is worked.
 ghost use Rattle.std.specs.Prelude.{◌≡◌, ℕ, ◌<◌, Option, IfOk, IfSome, length, option_map, slice_set, ◌≢◌, ◌++◌, ◌∷◌, [], ◌≤◌, ◌⊎◌, Some, OnOk, slice_get, slice_index, vec_len};
 ghost use Rattle.nef_sched.specs.Results.{kept, IsReady};
-ghost use Rattle.nef_sched.specs.Plans.{after, AreRounds, AreGroups, IsPlan};
+ghost use Rattle.nef_sched.specs.Plans.{round_after, AreRounds, AreGroups, IsPlan};
 
 use crate::OutOfMemory;
 use std::alloc::Global;
@@ -99,7 +99,7 @@ pub trait Stage: Sync {
 fn round_after(rounds: &[usize], number: Option<usize>) -> usize
     requires number { IfSome number (λ k. k < length rounds.now) }
     requires low { (k : ℕ) → k < length rounds.now → slice_index rounds.now k ≤ k }
-    ensures { result ≡ after rounds.now number }
+    ensures { result ≡ round_after rounds.now number }
 {
     match number {
         Some(number) => rounds[number] + 1,

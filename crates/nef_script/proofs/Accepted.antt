@@ -1,5 +1,5 @@
 -- Scripts whose lines pass, one after the other.
-use Rattle.nef_script.proofs.Prelude.{◌≡◌, ℕ, ◌+◌, ◌*◌, ◌≤◌, Bool, true, false, ◌&&◌, ◌||◌, ◌==◌, cond, List, [], ◌∷◌, ◌++◌, map, length, Option, Some, None, is_none, inl, inr, refl, sym, ◌∙◌, ap, subst, arith, append-nil, append_assoc, length-append, nat_lt, All, list_any, ltb-false, eqb_tells, All-head, All-tail, All-cons, All-nil, All-weaker, line_feed, carriage_return, is_line_feed, pieces_of, without_return, lines_of, words_of, LacksFeed, ended, line_limit, is_bad_byte, line_refusal, bound_name, names_of, Passes, IsAccepted, script_of, ScriptKind}
+use Rattle.nef_script.proofs.Prelude.{◌≡◌, ℕ, ◌+◌, ◌*◌, ◌≤◌, Bool, true, false, ◌&&◌, ◌||◌, ◌==◌, cond, List, [], ◌∷◌, ◌++◌, map, length, Option, Some, None, is_none, inl, inr, refl, sym, ◌∙◌, ap, subst, arith, append-nil, append_assoc, length-append, nat_lt, All, list_any, ltb-false, eqb_tells, All-head, All-tail, All-cons, All-nil, All-weaker, line_feed, carriage_return, is_line_feed, pieces_of, without_return, lines_of, words_of, LacksFeed, each_ended, line_limit, is_bad_byte, line_refusal, bound_name, names_of, NoneRefused, IsAccepted, script_of, ScriptKind}
 use Rattle.nef_lex.proofs.LineLaws.{pieces_of_ended}
 use Rattle.nef_script.specs.declared.script.ScriptKind.TheVariants as kind
 use Rattle.nef_script.proofs.ByCommand.{refusal-by-words, first_none}
@@ -31,14 +31,14 @@ passes_after-append names (x ∷ xs) ys first second =
     let later = subst (λ l. passes_after l ys ≡ true) (sym (append_assoc names new (names_of xs))) second in
     and_both _ _ parts.0 (passes_after-append (names ++ new) xs ys parts.1 later)
 
-passes_all : (whole done lines : List (List ℕ)) → whole ≡ done ++ lines → passes_after (names_of done) lines ≡ true → Passes whole (length done) → Passes whole (length whole)
-passes_all whole done [] split passes before = subst (λ l. Passes whole (length l)) (sym (split ∙ append-nil done)) before
+passes_all : (whole done lines : List (List ℕ)) → whole ≡ done ++ lines → passes_after (names_of done) lines ≡ true → NoneRefused whole (length done) → NoneRefused whole (length whole)
+passes_all whole done [] split passes before = subst (λ l. NoneRefused whole (length l)) (sym (split ∙ append-nil done)) before
 passes_all whole done (line ∷ lines) split passes before =
     let new = bound_name (words_of line) in
     let parts = and_parts (is_none (line_refusal (names_of done) line)) (passes_after (names_of done ++ new) lines) passes in
     let here = here_at whole done lines line None split (none_is _ parts.0) in
     let longer : length done + 1 ≡ length (done ++ line ∷ []) = sym (length-append done (line ∷ [])) in
-    let after = subst (Passes whole) longer (passes_more whole (length done) before here) in
+    let after = subst (NoneRefused whole) longer (passes_more whole (length done) before here) in
     let later = subst (λ l. passes_after l lines ≡ true) (sym (names_of-push done line)) parts.1 in
     passes_all whole (done ++ line ∷ []) lines (split ∙ sym (append_assoc done (line ∷ []) lines)) later after
 
@@ -86,7 +86,7 @@ short_line names line passes =
     ltb-false line_limit (length line) a.0
 
 -- the lines, each with its line feed, are cut apart again
-lines_back : (names lines : List (List ℕ)) → passes_after names lines ≡ true → (script_of lines ≡ ended lines []) × All LacksFeed lines × (map without_return lines ≡ lines) × (length (script_of lines) ≤ (line_limit + 1) * length lines)
+lines_back : (names lines : List (List ℕ)) → passes_after names lines ≡ true → (script_of lines ≡ each_ended lines []) × All LacksFeed lines × (map without_return lines ≡ lines) × (length (script_of lines) ≤ (line_limit + 1) * length lines)
 lines_back names [] passes = (refl, All-nil LacksFeed, refl, omega arith)
 lines_back names (line ∷ lines) passes =
     let new = bound_name (words_of line) in
@@ -112,5 +112,5 @@ accepted_lines lines passes few =
     let same : lines_of (script_of lines) ≡ lines = ap (map without_return) pieces ∙ back.2 in
     record {
       short = omega arith;
-      passes = subst (λ l. Passes l (length l)) (sym same) (passes_all lines [] lines refl passes (λ m below. absurd (omega arith)));
+      passes = subst (λ l. NoneRefused l (length l)) (sym same) (passes_all lines [] lines refl passes (λ m below. absurd (omega arith)));
     }

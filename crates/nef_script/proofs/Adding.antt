@@ -1,5 +1,5 @@
 -- What one line adds.
-use Rattle.nef_script.proofs.Prelude.{◌≡◌, ℕ, ◌+◌, ◌<◌, ◌≤◌, ◌⊎◌, pos, inl, inr, Bool, true, false, not, nat_eq, List, [], ◌∷◌, ◌++◌, length, take, get_or, Some, None, slice_get, if◌then◌else◌, refl, sym, ◌∙◌, ap, subst, arith, append-nil, length-append, get_or_from_slice_get, words_of, Node, IsOperand, TurnOf, Table, origin, HasOrigin, IsCopyOf, Extends, Stays, slice_get-seam, place-push, extends-length, verb_of, binds, is_own, KeepsRayLimits, on_verb, line_refusal, bound_name, Names, IsNode, IsQuestion, IsTurn, MeansCommand, MeansWords, has_words, adds_base, on_command, State, sets_of, IsSound, AddsWords, AddsLine, AddsCommand, number_at, Verb, Command, Bind, Turn}
+use Rattle.nef_script.proofs.Prelude.{◌≡◌, ℕ, ◌+◌, ◌<◌, ◌≤◌, ◌⊎◌, pos, inl, inr, Bool, true, false, not, nat_eq, List, [], ◌∷◌, ◌++◌, length, take, get_or, Some, None, slice_get, if◌then◌else◌, refl, sym, ◌∙◌, ap, subst, arith, append-nil, length-append, get_or_from_slice_get, words_of, Node, IsOperand, TurnOf, NodeTable, origin, HasOrigin, IsCopyOf, Extends, Stays, slice_get-seam, place-push, extends-length, verb_of, binds, is_own, KeepsRayLimits, on_verb, line_refusal, bound_name, NamesNode, IsNodeOfLine, IsQuestion, IsTurn, MeansCommand, MeansWords, has_words, adds_base, on_command, ReadState, sets_of, IsSoundState, AddsWords, AddsLine, AddsCommand, number_at, Verb, Command, Bind, Turn}
 use Rattle.std.proofs.Math.Dec.{eqb-suc-zero}
 use Rattle.nef_expr.specs.declared.nodes.Node.TheVariants as node
 use Rattle.nef_expr.proofs.Chains.{turn-within}
@@ -24,7 +24,7 @@ slice_get-end : {X : Type 0} (xs : List X) (x : X) (k : ℕ) → k ≡ length xs
 slice_get-end xs x k e = subst (λ (j : ℕ). slice_get (xs ++ x ∷ []) j ≡ Some x) (sym e) (slice_get-seam xs x [])
 
 -- a name more, and its node
-module _ (old new : State) (sound : IsSound old) (word : List ℕ) (k : ℕ) (names_are : new.names ≡ old.names ++ word ∷ []) (bound_are : new.bound ≡ old.bound ++ k ∷ []) where
+module _ (old new : ReadState) (sound : IsSoundState old) (word : List ℕ) (k : ℕ) (names_are : new.names ≡ old.names ++ word ∷ []) (bound_are : new.bound ≡ old.bound ++ k ∷ []) where
   bound-stays : Extends old.bound new.bound
   bound-stays = (k ∷ [], bound_are)
 
@@ -37,7 +37,7 @@ module _ (old new : State) (sound : IsSound old) (word : List ℕ) (k : ℕ) (na
     | inr here ↦ inr here.1
   ]
 
-  sound-next : length old.table.nodes ≤ length new.table.nodes → k < length new.table.nodes → new.table.bases ≤ old.table.bases + 1 → IsSound new
+  sound-next : length old.table.nodes ≤ length new.table.nodes → k < length new.table.nodes → new.table.bases ≤ old.table.bases + 1 → IsSoundState new
   sound-next more within bases =
       let names = ap length names_are ∙ length-append old.names (word ∷ []) in
       let bound = ap length bound_are ∙ length-append old.bound (k ∷ []) in
@@ -51,9 +51,9 @@ module _ (old new : State) (sound : IsSound old) (word : List ℕ) (k : ℕ) (na
         few = omega (arith, names, few, bases);
       }
 
-module _ (number : ℕ) (v : Verb) (ws : List (List ℕ)) (old new : State) (sound : IsSound old) (some : 0 < length ws) (names_are : new.names ≡ old.names ++ get_or ws 0 [] ∷ []) where
+module _ (number : ℕ) (v : Verb) (ws : List (List ℕ)) (old new : ReadState) (sound : IsSoundState old) (some : 0 < length ws) (names_are : new.names ≡ old.names ++ get_or ws 0 [] ∷ []) where
   -- the node of a line
-  pub AddsWords-node : (n : Node) (k : ℕ) → is_own v ≡ true → k ≡ length old.table.nodes → IsNode old.names old.bound v ws n → new.bound ≡ old.bound ++ k ∷ [] → new.table.nodes ≡ old.table.nodes ++ n ∷ [] → new.table.origins ≡ old.table.origins ++ origin old.table.bases 0 ∷ [] → HasOrigin new.table.origins k (origin old.table.bases 0) → new.table.bases ≡ old.table.bases + 1 → new.commands ≡ old.commands ++ Bind number k ∷ [] → AddsWords number v ws old new
+  pub AddsWords-node : (n : Node) (k : ℕ) → is_own v ≡ true → k ≡ length old.table.nodes → IsNodeOfLine old.names old.bound v ws n → new.bound ≡ old.bound ++ k ∷ [] → new.table.nodes ≡ old.table.nodes ++ n ∷ [] → new.table.origins ≡ old.table.origins ++ origin old.table.bases 0 ∷ [] → HasOrigin new.table.origins k (origin old.table.bases 0) → new.table.bases ≡ old.table.bases + 1 → new.commands ≡ old.commands ++ Bind number k ∷ [] → AddsWords number v ws old new
   AddsWords-node n k own is_k is_node bound_are nodes_are origins_are has_origin bases_are commands_are =
       let longer : length new.table.nodes ≡ length old.table.nodes + 1 = ap length nodes_are ∙ length-append old.table.nodes (n ∷ []) in
       let at : slice_get new.table.nodes k ≡ Some n = subst (λ (xs : List Node). slice_get xs k ≡ Some n) (sym nodes_are) (slice_get-end old.table.nodes n k is_k) in
@@ -82,23 +82,23 @@ module _ (number : ℕ) (v : Verb) (ws : List (List ℕ)) (old new : State) (sou
       }
 
 -- a question
-pub AddsWords-ask : (number : ℕ) (v : Verb) (ws : List (List ℕ)) (old new : State) (c : Command) → IsSound old → binds v ≡ false → IsQuestion old.names old.bound number v ws c → KeepsRayLimits c → new.names ≡ old.names → new.bound ≡ old.bound → new.table ≡ old.table → new.commands ≡ old.commands ++ c ∷ [] → AddsWords number v ws old new
+pub AddsWords-ask : (number : ℕ) (v : Verb) (ws : List (List ℕ)) (old new : ReadState) (c : Command) → IsSoundState old → binds v ≡ false → IsQuestion old.names old.bound number v ws c → KeepsRayLimits c → new.names ≡ old.names → new.bound ≡ old.bound → new.table ≡ old.table → new.commands ≡ old.commands ++ c ∷ [] → AddsWords number v ws old new
 AddsWords-ask number v ws old new c sound e is rays names_are bound_are table_is commands_are =
     let asks = question-asks old.names old.bound new.table.nodes number v ws c is in
-    let nodes_are = ap (λ (t : Table). t.nodes) table_is in
+    let nodes_are = ap (λ (t : NodeTable). t.nodes) table_is in
     let below : (i k : ℕ) → slice_get old.bound i ≡ Some k → k < length new.table.nodes = λ i k at. subst (λ (xs : List Node). k < length xs) (sym nodes_are) (sound.within i k at) in
     record {
       command = c;
       names_are = names_are ∙ sym (append-nil old.names) ∙ ap (λ l. old.names ++ l) (rw e refl);
-      bases_are = ap (λ (t : Table). t.bases) table_is ∙ sym (plus-none old.table.bases) ∙ ap (λ l. old.table.bases + l) (rw (ask-owns v e) refl);
+      bases_are = ap (λ (t : NodeTable). t.bases) table_is ∙ sym (plus-none old.table.bases) ∙ ap (λ l. old.table.bases + l) (rw (ask-owns v e) refl);
       sound = record {
         level = ap length bound_are ∙ sound.level ∙ ap length (sym names_are);
         within = λ i k at. below i k (subst (λ (xs : List ℕ). slice_get xs i ≡ Some k) bound_are at);
-        few = (let f = sound.few in let b = ap (λ (t : Table). t.bases) table_is in let l = ap length names_are in omega (arith, f, b, l));
+        few = (let f = sound.few in let b = ap (λ (t : NodeTable). t.bases) table_is in let l = ap length names_are in omega (arith, f, b, l));
       };
       step = record {
         nodes_stay = ([], nodes_are ∙ sym (append-nil old.table.nodes));
-        origins_stay = ([], ap (λ (t : Table). t.origins) table_is ∙ sym (append-nil old.table.origins));
+        origins_stay = ([], ap (λ (t : NodeTable). t.origins) table_is ∙ sym (append-nil old.table.origins));
         bound_stay = ([], bound_are ∙ sym (append-nil old.bound));
         commands_are = commands_are;
         within = asks.within (length new.table.nodes) below rays;
@@ -113,7 +113,7 @@ AddsWords-ask number v ws old new c sound e is rays names_are bound_are table_is
     plus-none n = omega arith
 
 -- a turned copy
-pub AddsWords-turn : (number : ℕ) (ws : List (List ℕ)) (old new : State) (from t k : ℕ) → IsSound old → length ws ≡ 3 → Names old.names old.bound (get_or ws 1 []) from → number_at ws 2 ≡ pos t → t < 48 → TurnOf new.table.nodes t from k → IsCopyOf new.table.origins t from k → Stays old.table new.table → new.names ≡ old.names ++ get_or ws 0 [] ∷ [] → new.bound ≡ old.bound ++ k ∷ [] → new.commands ≡ old.commands ++ Turn number k from t ∷ [] → AddsWords number verb.Turn ws old new
+pub AddsWords-turn : (number : ℕ) (ws : List (List ℕ)) (old new : ReadState) (from t k : ℕ) → IsSoundState old → length ws ≡ 3 → NamesNode old.names old.bound (get_or ws 1 []) from → number_at ws 2 ≡ pos t → t < 48 → TurnOf new.table.nodes t from k → IsCopyOf new.table.origins t from k → Stays old.table new.table → new.names ≡ old.names ++ get_or ws 0 [] ∷ [] → new.bound ≡ old.bound ++ k ∷ [] → new.commands ≡ old.commands ++ Turn number k from t ∷ [] → AddsWords number verb.Turn ws old new
 AddsWords-turn number ws old new from t k sound count named number_is below turn copy stay names_are bound_are commands_are =
     let stays = bound-stays old new sound (get_or ws 0 []) k names_are bound_are in
     let (within_from, within_k) = turn-within new.table.nodes t from k turn in
@@ -156,7 +156,7 @@ bound_of word [] v e = none (binds v)
     none false = refl
 bound_of word (name ∷ rest) v e = ap (λ o. if on_verb binds o then name ∷ [] else []) e
 
-pub AddsLine-words : (number : ℕ) (text word : List ℕ) (v : Verb) (args : List (List ℕ)) (old new : State) → line_refusal old.names text ≡ None → words_of text ≡ word ∷ args → verb_of word ≡ Some v → AddsWords number v args old new → AddsLine number text old new
+pub AddsLine-words : (number : ℕ) (text word : List ℕ) (v : Verb) (args : List (List ℕ)) (old new : ReadState) → line_refusal old.names text ≡ None → words_of text ≡ word ∷ args → verb_of word ≡ Some v → AddsWords number v args old new → AddsLine number text old new
 AddsLine-words number text word v args old new passes words verb adds =
     let bound : bound_name (words_of text) ≡ (if binds v then take 1 args else []) = ap bound_name words ∙ bound_of word args v verb in
     let bases : adds_base text ≡ is_own v = ap (on_command (λ u rest. is_own u)) words ∙ ap (on_verb (λ u. is_own u)) verb in
@@ -170,7 +170,7 @@ AddsLine-words number text word v args old new passes words verb adds =
           (adds.command, adds.step, subst (λ ws. MeansWords old.names old.table.bases number ws (sets_of new) adds.command) (sym words) (v, verb, adds.means));
     }
 
-pub AddsLine-blank : (number : ℕ) (text : List ℕ) (old : State) → IsSound old → line_refusal old.names text ≡ None → words_of text ≡ [] → AddsLine number text old old
+pub AddsLine-blank : (number : ℕ) (text : List ℕ) (old : ReadState) → IsSoundState old → line_refusal old.names text ≡ None → words_of text ≡ [] → AddsLine number text old old
 AddsLine-blank number text old sound passes none =
     let blank : has_words text ≡ false = ap (λ ws. not (nat_eq (length ws) 0)) none in
     record {

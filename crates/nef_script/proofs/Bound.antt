@@ -1,5 +1,5 @@
 -- The map of the bound names.
-use Rattle.nef_script.proofs.Prelude.{◌≡◌, ℕ, cond, List, [], ◌∷◌, ◌++◌, length, Some, None, ap, sym, ◌∙◌, subst, inl, inr, position, nat_cmp, bytes_eq, BTreeMap, cases_Bool, HasPlaces}
+use Rattle.nef_script.proofs.Prelude.{◌≡◌, ℕ, cond, List, [], ◌∷◌, ◌++◌, length, Some, None, ap, sym, ◌∙◌, subst, inl, inr, position, nat_cmp, bytes_eq, BTreeMap, cases_Bool, HasNumbers}
 use Rattle.std.specs.Bool.{Decides, one_answer}
 use Rattle.std.specs.Cmp.Lexicographic.{slice_cmp}
 use Rattle.std.specs.BTreeMap as tree
@@ -16,8 +16,8 @@ bytes_eq-flip a b = one_answer (bytes_eq a b) (bytes_eq b a) (bytes_eq-Decides a
     flipped d = (λ t. sym (d.0 t), λ e. d.1 (sym e))
 
 -- one more name, at the next place
-pub HasPlaces-push : (m n : BTreeMap (Bor (List ℕ)) ℕ) (names : List (List ℕ)) (name : List ℕ) (place : ℕ) → tree.UpdatesBy (λ x y. slice_cmp nat_cmp x.now y.now) (λ k. slice_cmp nat_cmp name k.now) m n (Some place) → place ≡ length names → HasPlaces m names → position (bytes_eq name) names ≡ None → HasPlaces n (names ++ name ∷ [])
-HasPlaces-push m n names name place changed is places new q = btree_map_updates_str name m n (Some place) changed q ∙ elim (cases_Bool (bytes_eq name q)) [
+pub HasNumbers-push : (m n : BTreeMap (Bor (List ℕ)) ℕ) (names : List (List ℕ)) (name : List ℕ) (place : ℕ) → tree.UpdatesBy (λ x y. slice_cmp nat_cmp x.now y.now) (λ k. slice_cmp nat_cmp name k.now) m n (Some place) → place ≡ length names → HasNumbers m names → position (bytes_eq name) names ≡ None → HasNumbers n (names ++ name ∷ [])
+HasNumbers-push m n names name place changed is places new q = btree_map_updates_str name m n (Some place) changed q ∙ elim (cases_Bool (bytes_eq name q)) [
   | inl same ↦ (
       let equal : name ≡ q = (bytes_eq-Decides name q).0 same in
       let unknown : position (bytes_eq q) names ≡ None = subst (λ x. position (bytes_eq x) names ≡ None) equal new in

@@ -1,5 +1,5 @@
 -- The refusal of a line, by its words.
-use Rattle.nef_script.proofs.Prelude.{◌≡◌, Bool, true, false, cond, List, [], ◌∷◌, ℕ, length, map, Option, Some, None, refl, ◌∙◌, ap, nat_lt, find, list_any, option_map, words_of, verb_of, line_limit, is_bad_byte, command_tests, words_tests, line_refusal, command_test, kinds, first_of, Verb, ScriptKind}
+use Rattle.nef_script.proofs.Prelude.{◌≡◌, Bool, true, false, cond, List, [], ◌∷◌, ℕ, length, map, Option, Some, None, refl, ◌∙◌, ap, nat_lt, find, list_any, option_map, words_of, verb_of, line_limit, is_bad_byte, command_tests, words_tests, line_refusal, command_test, kinds, first_kind_of, Verb, ScriptKind}
 use Rattle.nef_script.specs.declared.script.ScriptKind.TheVariants as kind
 
 -- ---- the kinds one after the other
@@ -21,7 +21,7 @@ front false false s t o r e = e
 -- what is refused of the words of a line
 abbrev pub command_refusal : List (List ℕ) → Option Verb → List (List ℕ) → Option ScriptKind
 command_refusal names None args = Some kind.UnknownCommand
-command_refusal names (Some v) args = first_of (λ k. command_test k names v args)
+command_refusal names (Some v) args = first_kind_of (λ k. command_test k names v args)
 
 abbrev pub words_refusal : List (List ℕ) → List (List ℕ) → Option ScriptKind
 words_refusal names [] = None
@@ -44,7 +44,7 @@ first_none true k o e = cc
 first_none false k o e = (refl, e)
 
 -- of a line whose length and bytes pass, and that begins with a command, the command and the words after it
-pub line-command : (names : List (List ℕ)) (line word : List ℕ) (args : List (List ℕ)) (v : Verb) → nat_lt line_limit (length line) ≡ false → list_any is_bad_byte line ≡ false → words_of line ≡ word ∷ args → verb_of word ≡ Some v → line_refusal names line ≡ first_of (λ k. command_test k names v args)
+pub line-command : (names : List (List ℕ)) (line word : List ℕ) (args : List (List ℕ)) (v : Verb) → nat_lt line_limit (length line) ≡ false → list_any is_bad_byte line ≡ false → words_of line ≡ word ∷ args → verb_of word ≡ Some v → line_refusal names line ≡ first_kind_of (λ k. command_test k names v args)
 line-command names line word args v short clean words verb =
     refusal-by-words names line
     ∙ ap (λ t. cond t (Some kind.LineTooLong) (cond (list_any is_bad_byte line) (Some kind.BadByte) (words_refusal names (words_of line)))) short

@@ -1,5 +1,5 @@
 -- The first kinds that hold.
-use Rattle.nef_script.proofs.Prelude.{◌≡◌, ℕ, ◌+◌, ◌<◌, ◌≤◌, Bool, true, false, ◌||◌, ◌&&◌, not, cond, nat_le, List, [], ◌∷◌, length, Option, Some, None, Result, Ok, Err, IfOk, refl, sym, ◌∙◌, ap, subst, arith, le-leb, leb-true, ltb-true, IsErrAnd, nat_lt, err_from_is_err_and, list_any, position, bytes_eq, kinds, command_test, roles, begins_new, is_own, name_count_limit, word_test, has_zero_normal, has_zero_direction, place, first_of, earlier, both, IsRead, is_normal, is_direction, some_fails, no_room, roles_test, IsNew, BindsNew, IsStatement, Node, IsNode, Statement, Ask, Print, Verb, Role, NewName, Operand, ScriptKind}
+use Rattle.nef_script.proofs.Prelude.{◌≡◌, ℕ, ◌+◌, ◌<◌, ◌≤◌, Bool, true, false, ◌||◌, ◌&&◌, not, cond, nat_le, List, [], ◌∷◌, length, Option, Some, None, Result, Ok, Err, IfOk, refl, sym, ◌∙◌, ap, subst, arith, le-leb, leb-true, ltb-true, IsErrAnd, nat_lt, err_from_is_err_and, list_any, position, bytes_eq, kinds, command_test, roles, begins_new, is_own, name_count_limit, word_test, has_zero_normal, has_zero_direction, kind_number, first_kind_of, earlier, both, IsRead, is_normal, is_direction, some_fails, no_room, roles_test, IsNewName, BindsNew, IsStatement, Node, IsNodeOfLine, Statement, Ask, Print, Verb, Role, NewName, Operand, ScriptKind}
 use Rattle.std.proofs.Common.{find}
 use Rattle.nef_lex.specs.Names.{is_name}
 use Rattle.nef_script.specs.declared.statement.Statement.TheVariants.{Bind, Turn}
@@ -14,21 +14,21 @@ first_some (Some j) (Some k) = Some (earlier j k)
 -- the kinds stand in their order, from this place on
 abbrev Ascend : ℕ → List ScriptKind → Type 0
 Ascend n [] = Unit {0}
-Ascend n (k ∷ ks) = (n ≤ place k) × Ascend (place k + 1) ks
+Ascend n (k ∷ ks) = (n ≤ kind_number k) × Ascend (kind_number k + 1) ks
 
-found-after : (holds : ScriptKind → Bool) (n : ℕ) (ks : List ScriptKind) (k : ScriptKind) → Ascend n ks → find holds ks ≡ Some k → n ≤ place k
+found-after : (holds : ScriptKind → Bool) (n : ℕ) (ks : List ScriptKind) (k : ScriptKind) → Ascend n ks → find holds ks ≡ Some k → n ≤ kind_number k
 found-after holds n [] k up e = cc
-found-after holds n (j ∷ ks) k up e = by (holds j) e (found-after holds (place j + 1) ks k up.1)
+found-after holds n (j ∷ ks) k up e = by (holds j) e (found-after holds (kind_number j + 1) ks k up.1)
   where
-    by : (t : Bool) → cond t (Some j) (find holds ks) ≡ Some k → (find holds ks ≡ Some k → place j + 1 ≤ place k) → n ≤ place k
-    by true same later = (let at : j ≡ k = cc in subst (λ i. n ≤ place i) at up.0)
+    by : (t : Bool) → cond t (Some j) (find holds ks) ≡ Some k → (find holds ks ≡ Some k → kind_number j + 1 ≤ kind_number k) → n ≤ kind_number k
+    by true same later = (let at : j ≡ k = cc in subst (λ i. n ≤ kind_number i) at up.0)
     by false found later =
         let after = later found in
         let first = up.0 in
         omega (arith, after, first)
 
-earlier-left : (j k : ScriptKind) → place j ≤ place k → earlier j k ≡ j
-earlier-left j k le = ap (λ t. cond t j k) (le-leb (place j) (place k) le)
+earlier-left : (j k : ScriptKind) → kind_number j ≤ kind_number k → earlier j k ≡ j
+earlier-left j k le = ap (λ t. cond t j k) (le-leb (kind_number j) (kind_number k) le)
 
 pub above : (m n : ℕ) → n < m → nat_le m n ≡ false
 above m n lt = by (nat_le m n) refl
@@ -44,14 +44,14 @@ no-more m n le = by (nat_lt m n) refl
     by true is = (let lt = ltb-true m n is in absurd (omega (arith, le, lt)))
     by false is = refl
 
-earlier-right : (j k : ScriptKind) → place k < place j → earlier j k ≡ k
-earlier-right j k lt = ap (λ t. cond t j k) (above (place j) (place k) lt)
+earlier-right : (j k : ScriptKind) → kind_number k < kind_number j → earlier j k ≡ k
+earlier-right j k lt = ap (λ t. cond t j k) (above (kind_number j) (kind_number k) lt)
 
 find-either : (s t : ScriptKind → Bool) (n : ℕ) (ks : List ScriptKind) → Ascend n ks → find (λ k. s k || t k) ks ≡ first_some (find s ks) (find t ks)
 find-either s t n [] up = refl
-find-either s t n (k ∷ ks) up = by (s k) (t k) (find s ks) (find t ks) (find-either s t (place k + 1) ks up.1) (λ j e. found-after s (place k + 1) ks j up.1 e) (λ j e. found-after t (place k + 1) ks j up.1 e)
+find-either s t n (k ∷ ks) up = by (s k) (t k) (find s ks) (find t ks) (find-either s t (kind_number k + 1) ks up.1) (λ j e. found-after s (kind_number k + 1) ks j up.1 e) (λ j e. found-after t (kind_number k + 1) ks j up.1 e)
   where
-    by : (a b : Bool) (o p : Option ScriptKind) → find (λ k. s k || t k) ks ≡ first_some o p → ((j : ScriptKind) → o ≡ Some j → place k + 1 ≤ place j) → ((j : ScriptKind) → p ≡ Some j → place k + 1 ≤ place j) → cond (a || b) (Some k) (find (λ k. s k || t k) ks) ≡ first_some (cond a (Some k) o) (cond b (Some k) p)
+    by : (a b : Bool) (o p : Option ScriptKind) → find (λ k. s k || t k) ks ≡ first_some o p → ((j : ScriptKind) → o ≡ Some j → kind_number k + 1 ≤ kind_number j) → ((j : ScriptKind) → p ≡ Some j → kind_number k + 1 ≤ kind_number j) → cond (a || b) (Some k) (find (λ k. s k || t k) ks) ≡ first_some (cond a (Some k) o) (cond b (Some k) p)
     by true true o p later above below = sym (ap Some (earlier-left k k (omega arith)))
     by true false o None later above below = refl
     by true false o (Some j) later above below = (let at = below j refl in sym (ap Some (earlier-left k j (omega (arith, at)))))
@@ -62,14 +62,14 @@ find-either s t n (k ∷ ks) up = by (s k) (t k) (find s ks) (find t ks) (find-e
 all-ascend : Ascend 0 kinds
 all-ascend = (omega arith, (omega arith, (omega arith, (omega arith, (omega arith, (omega arith, (omega arith, (omega arith, (omega arith, (omega arith, (omega arith, tt)))))))))))
 
-pub first-either : (s t : ScriptKind → Bool) → first_of (λ k. s k || t k) ≡ first_some (first_of s) (first_of t)
+pub first-either : (s t : ScriptKind → Bool) → first_kind_of (λ k. s k || t k) ≡ first_some (first_kind_of s) (first_kind_of t)
 first-either s t = find-either s t 0 kinds all-ascend
 
 find-same : (s t : ScriptKind → Bool) (ks : List ScriptKind) → ((k : ScriptKind) → s k ≡ t k) → find s ks ≡ find t ks
 find-same s t [] same = refl
 find-same s t (k ∷ ks) same = ap (λ b. cond b (Some k) (find s ks)) (same k) ∙ ap (cond (t k) (Some k)) (find-same s t ks same)
 
-pub first-same : (s t : ScriptKind → Bool) → ((k : ScriptKind) → s k ≡ t k) → first_of s ≡ first_of t
+pub first-same : (s t : ScriptKind → Bool) → ((k : ScriptKind) → s k ≡ t k) → first_kind_of s ≡ first_kind_of t
 first-same s t same = find-same s t kinds same
 
 pub or_none : (a : Bool) → a ≡ (a || false)
@@ -97,8 +97,8 @@ module _ {X Y : Type 0} (s t : ScriptKind → Bool) (P : X → Type 0) (Q : Y �
   pub IsRead-both : (a : Result X ScriptKind) (b : Result Y ScriptKind) → IsRead s P a → IsRead t Q b → IsRead (λ k. s k || t k) (λ (p : X × Y). P p.0 × Q p.1) (both a b)
   IsRead-both a b first second = by a b first second
     where
-      firsts : (o p : Option ScriptKind) → o ≡ first_of s → p ≡ first_of t → first_some o p ≡ first_of (λ k. s k || t k)
-      firsts o p e f = ap (λ x. first_some x p) e ∙ ap (first_some (first_of s)) f ∙ sym (first-either s t)
+      firsts : (o p : Option ScriptKind) → o ≡ first_kind_of s → p ≡ first_kind_of t → first_some o p ≡ first_kind_of (λ k. s k || t k)
+      firsts o p e f = ap (λ x. first_some x p) e ∙ ap (first_some (first_kind_of s)) f ∙ sym (first-either s t)
 
       by : (a : Result X ScriptKind) (b : Result Y ScriptKind) → IsRead s P a → IsRead t Q b → IsRead (λ k. s k || t k) (λ (p : X × Y). P p.0 × Q p.1) (both a b)
       by (Ok x) (Ok y) f g = record { refusal = firsts None None f.refusal g.refusal; value = (f.value, g.value) }
@@ -119,24 +119,24 @@ module _ {X Y Z W : Type 0} (names : List (List ℕ)) (q r t u : Role) (a b c d 
   IsRead-four f g h i x y z w = IsRead-both (λ k. word_test k names (q, a)) (some_fails names (r ∷ t ∷ u ∷ []) (b ∷ c ∷ d ∷ [])) P (λ (p : Y × (Z × W)). Q p.0 × (R p.1.0 × S p.1.1)) f (both g (both h i)) x (IsRead-three names r t u b c d Q R S g h i y z w)
 
 -- a number that is refused is refused before zeros are
-pub place-number : (a b : Bool) (k : ScriptKind) → Some k ≡ cond a (Some kind.NotANumber) (cond b (Some kind.OutOfRange) None) → place k ≤ 8
-place-number true b k e = (let is : k ≡ kind.NotANumber = cc in subst (λ j. place j ≤ 8) (sym is) (omega arith))
-place-number false true k e = (let is : k ≡ kind.OutOfRange = cc in subst (λ j. place j ≤ 8) (sym is) (omega arith))
+pub place-number : (a b : Bool) (k : ScriptKind) → Some k ≡ cond a (Some kind.NotANumber) (cond b (Some kind.OutOfRange) None) → kind_number k ≤ 8
+place-number true b k e = (let is : k ≡ kind.NotANumber = cc in subst (λ j. kind_number j ≤ 8) (sym is) (omega arith))
+place-number false true k e = (let is : k ≡ kind.OutOfRange = cc in subst (λ j. kind_number j ≤ 8) (sym is) (omega arith))
 place-number false false k e = cc
 
-module _ (s t : ScriptKind → Bool) (zero : ScriptKind) (b : Bool) (after : first_of t ≡ cond b (Some zero) None) where
-  pub zeros-none : None ≡ first_of s → cond b (Some zero) None ≡ first_of (λ k. s k || t k)
-  zeros-none e = sym after ∙ ap (λ o. first_some o (first_of t)) e ∙ sym (first-either s t)
+module _ (s t : ScriptKind → Bool) (zero : ScriptKind) (b : Bool) (after : first_kind_of t ≡ cond b (Some zero) None) where
+  pub zeros-none : None ≡ first_kind_of s → cond b (Some zero) None ≡ first_kind_of (λ k. s k || t k)
+  zeros-none e = sym after ∙ ap (λ o. first_some o (first_kind_of t)) e ∙ sym (first-either s t)
 
-  pub zeros-some : (k : ScriptKind) → Some k ≡ first_of s → place k ≤ place zero → Some k ≡ first_of (λ k. s k || t k)
-  zeros-some k e le = by b ∙ ap (first_some (Some k)) (sym after) ∙ ap (λ o. first_some o (first_of t)) e ∙ sym (first-either s t)
+  pub zeros-some : (k : ScriptKind) → Some k ≡ first_kind_of s → kind_number k ≤ kind_number zero → Some k ≡ first_kind_of (λ k. s k || t k)
+  zeros-some k e le = by b ∙ ap (first_some (Some k)) (sym after) ∙ ap (λ o. first_some o (first_kind_of t)) e ∙ sym (first-either s t)
     where
       by : (b : Bool) → Some k ≡ first_some (Some k) (cond b (Some zero) None)
       by true = sym (ap Some (earlier-left k zero le))
       by false = refl
 
 -- what is refused before zeros are looked at is refused with them too
-pub IsRead-unless : {X Y : Type 0} (s t : ScriptKind → Bool) (zero : ScriptKind) (b : Bool) → first_of t ≡ cond b (Some zero) None → (P : X → Type 0) (Q : Y → Type 0) (r : Result X ScriptKind) → IsRead s P r → ((k : ScriptKind) → Some k ≡ first_of s → place k ≤ place zero) → (k : ScriptKind) (f : Result Y ScriptKind) → r ≡ Err k → IsErrAnd f (λ j. j ≡ k) → IsRead (λ k. s k || t k) Q f
+pub IsRead-unless : {X Y : Type 0} (s t : ScriptKind → Bool) (zero : ScriptKind) (b : Bool) → first_kind_of t ≡ cond b (Some zero) None → (P : X → Type 0) (Q : Y → Type 0) (r : Result X ScriptKind) → IsRead s P r → ((k : ScriptKind) → Some k ≡ first_kind_of s → kind_number k ≤ kind_number zero) → (k : ScriptKind) (f : Result Y ScriptKind) → r ≡ Err k → IsErrAnd f (λ j. j ≡ k) → IsRead (λ k. s k || t k) Q f
 IsRead-unless s t zero b after P Q r read early k f e is =
     let gave = err_from_is_err_and f is in
     let here = (subst (IsRead s P) (e ∙ ap Err (sym gave.2)) read).refusal in
@@ -211,17 +211,17 @@ plain-roles k names v args none = sym (or_all _ _ none) ∙ command-roles k name
 
 -- ---- names
 
-pub new-first : (names : List (List ℕ)) (w : List ℕ) (a b f : Bool) → is_name w ≡ a → list_any (bytes_eq w) names ≡ b → nat_le name_count_limit (length names) ≡ f → first_of (λ k. word_test k names (NewName, w) || no_room names k) ≡ cond (not a || false) (Some kind.BadName) (cond (b || false) (Some kind.NameTaken) (cond f (Some kind.TooManyNames) None))
+pub new-first : (names : List (List ℕ)) (w : List ℕ) (a b f : Bool) → is_name w ≡ a → list_any (bytes_eq w) names ≡ b → nat_le name_count_limit (length names) ≡ f → first_kind_of (λ k. word_test k names (NewName, w) || no_room names k) ≡ cond (not a || false) (Some kind.BadName) (cond (b || false) (Some kind.NameTaken) (cond f (Some kind.TooManyNames) None))
 new-first names w a b f is among full = ap (λ x. cond (not x || false) (Some kind.BadName) (cond (list_any (bytes_eq w) names || false) (Some kind.NameTaken) (cond (nat_le name_count_limit (length names)) (Some kind.TooManyNames) None))) is ∙ ap (λ x. cond (not a || false) (Some kind.BadName) (cond (x || false) (Some kind.NameTaken) (cond (nat_le name_count_limit (length names)) (Some kind.TooManyNames) None))) among ∙ ap (λ x. cond (not a || false) (Some kind.BadName) (cond (b || false) (Some kind.NameTaken) (cond x (Some kind.TooManyNames) None))) full
 
-pub known-first : (names : List (List ℕ)) (w : List ℕ) (a b : Bool) → is_name w ≡ a → list_any (bytes_eq w) names ≡ b → first_of (λ k. word_test k names (Operand, w)) ≡ cond (not a) (Some kind.BadName) (cond (not b) (Some kind.UnknownName) None)
+pub known-first : (names : List (List ℕ)) (w : List ℕ) (a b : Bool) → is_name w ≡ a → list_any (bytes_eq w) names ≡ b → first_kind_of (λ k. word_test k names (Operand, w)) ≡ cond (not a) (Some kind.BadName) (cond (not b) (Some kind.UnknownName) None)
 known-first names w a b is among = ap (λ x. cond (not x) (Some kind.BadName) (cond (not (list_any (bytes_eq w) names)) (Some kind.UnknownName) None)) is ∙ ap (λ x. cond (not a) (Some kind.BadName) (cond (not x) (Some kind.UnknownName) None)) among
 
-pub is-new : (names : List (List ℕ)) (w : List ℕ) (rest : List (List ℕ)) (name : List ℕ) → name ≡ w → position (bytes_eq w) names ≡ None → length names < name_count_limit → IsNew names (w ∷ rest) name
+pub is-new : (names : List (List ℕ)) (w : List ℕ) (rest : List (List ℕ)) (name : List ℕ) → name ≡ w → position (bytes_eq w) names ≡ None → length names < name_count_limit → IsNewName names (w ∷ rest) name
 is-new names w rest name is free room = record { some = omega arith; first = is; free = subst (λ x. position (bytes_eq x) names ≡ None) (sym is) free; room = room }
 
 -- a command that binds a name to a node of its own
-pub IsRead-binds : (names : List (List ℕ)) (bound : List ℕ) (line : ℕ) (v : Verb) (ws : List (List ℕ)) (IsIt : Node → Type 0) → is_own v ≡ true → ((k : ScriptKind) → zero_test v ws k ≡ false) → ((n : Node) → IsIt n → IsNode names bound v ws n) → (r : Result Statement ScriptKind) → IsRead (roles_test names (roles v) ws) (BindsNew names ws IsIt) r → IsRead (λ k. command_test k names v ws) (IsStatement names bound line v ws) r
+pub IsRead-binds : (names : List (List ℕ)) (bound : List ℕ) (line : ℕ) (v : Verb) (ws : List (List ℕ)) (IsIt : Node → Type 0) → is_own v ≡ true → ((k : ScriptKind) → zero_test v ws k ≡ false) → ((n : Node) → IsIt n → IsNodeOfLine names bound v ws n) → (r : Result Statement ScriptKind) → IsRead (roles_test names (roles v) ws) (BindsNew names ws IsIt) r → IsRead (λ k. command_test k names v ws) (IsStatement names bound line v ws) r
 IsRead-binds names bound line v ws IsIt own plain made r read = record { refusal = read.refusal ∙ first-same (roles_test names (roles v) ws) (λ k. command_test k names v ws) (λ k. plain-roles k names v ws (plain k)); value = by r read.value }
   where
     by : (r : Result Statement ScriptKind) → IfOk r (BindsNew names ws IsIt) → IfOk r (IsStatement names bound line v ws)

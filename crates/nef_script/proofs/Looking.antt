@@ -1,5 +1,5 @@
 -- What the commands of lines look at, and what stays with more nodes.
-use Rattle.nef_script.proofs.Prelude.{◌≡◌, ℕ, zero, suc, ◌<◌, ◌≤◌, List, [], ◌∷◌, length, Some, slice_get, ◌∙◌, ap, subst, arith, inl, inr, slice_index_or, All, get_or-append, All-head, All-tail, Node, IsOperand, Extends, extends-turn, KeepsRayLimits, Names, IsNode, IsQuestion, IsWithin, LooksAt, TurnsRight, Verb, Command, Bind, Turn, Has, Joined, Ray, Same, Count}
+use Rattle.nef_script.proofs.Prelude.{◌≡◌, ℕ, zero, suc, ◌<◌, ◌≤◌, List, [], ◌∷◌, length, Some, slice_get, ◌∙◌, ap, subst, arith, inl, inr, slice_index_or, All, get_or-append, All-head, All-tail, Node, IsOperand, Extends, extends-turn, KeepsRayLimits, NamesNode, IsNodeOfLine, IsQuestion, SpeaksOfFirst, LooksAt, TurnsRight, Verb, Command, Bind, Turn, Has, Joined, Ray, Same, Count}
 use Rattle.nef_expr.specs.declared.nodes.Node.TheVariants as node
 use Rattle.nef_script.specs.declared.arguments.Verb.TheVariants as verb
 use Rattle.nef_script.specs.declared.script.Command.TheVariants.{Print}
@@ -10,14 +10,14 @@ all-at P (y ∷ xs) zero x all e = let same : y ≡ x = cc in subst P same (All-
 all-at P (y ∷ xs) (suc i) x all e = all-at P xs i x (All-tail P y xs all) e
 
 -- some name's node
-abbrev pub IsThere : List ℕ → ℕ → Type 0
-IsThere bound k = (i : ℕ) × (slice_get bound i ≡ Some k)
+abbrev pub IsSomeNode : List ℕ → ℕ → Type 0
+IsSomeNode bound k = (i : ℕ) × (slice_get bound i ≡ Some k)
 
-there : (names : List (List ℕ)) (bound : List ℕ) (word : List ℕ) (k : ℕ) → Names names bound word k → IsThere bound k
+there : (names : List (List ℕ)) (bound : List ℕ) (word : List ℕ) (k : ℕ) → NamesNode names bound word k → IsSomeNode bound k
 there names bound word k (i, at, is) = (i, is)
 
 -- the operands of a line's node are the nodes of names
-pub node-operands : (names : List (List ℕ)) (bound : List ℕ) (v : Verb) (args : List (List ℕ)) (n : Node) → IsNode names bound v args n → (k : ℕ) → IsOperand k n → IsThere bound k
+pub node-operands : (names : List (List ℕ)) (bound : List ℕ) (v : Verb) (args : List (List ℕ)) (n : Node) → IsNodeOfLine names bound v args n → (k : ℕ) → IsOperand k n → IsSomeNode bound k
 node-operands names bound verb.Half (name ∷ a ∷ b ∷ c ∷ d ∷ mode ∷ []) n (o, is, given) k operand = absurd (subst (IsOperand k) is operand)
 node-operands names bound verb.Empty (name ∷ []) n is k operand = absurd (subst (IsOperand k) is operand)
 node-operands names bound verb.Full (name ∷ []) n is k operand = absurd (subst (IsOperand k) is operand)
@@ -34,9 +34,9 @@ node-operands names bound v args n h k operand = absurd h
 
 -- what a question says of its command
 pub record Asks (nodes : List Node) (bound : List ℕ) (c : Command) : Type 0 where
-  pub within : (n : ℕ) → ((i k : ℕ) → slice_get bound i ≡ Some k → k < n) → KeepsRayLimits c → IsWithin n c
+  pub within : (n : ℕ) → ((i k : ℕ) → slice_get bound i ≡ Some k → k < n) → KeepsRayLimits c → SpeaksOfFirst n c
   pub turns : TurnsRight nodes c
-  pub looks : (k : ℕ) → LooksAt nodes c k → IsThere bound k
+  pub looks : (k : ℕ) → LooksAt nodes c k → IsSomeNode bound k
 
 pub question-asks : (names : List (List ℕ)) (bound : List ℕ) (nodes : List Node) (line : ℕ) (v : Verb) (args : List (List ℕ)) (c : Command) → IsQuestion names bound line v args c → Asks nodes bound c
 question-asks names bound nodes line verb.Has (name ∷ x ∷ y ∷ z ∷ w ∷ []) c (k, p, (i, at, is), quotient, e) = rw e (record { within = λ n below rays. below i k is; turns = tt; looks = λ j f. rw f (i, is) })
@@ -48,7 +48,7 @@ question-asks names bound nodes line verb.Print (name ∷ []) c (k, (i, at, is),
 question-asks names bound nodes line v args c h = absurd h
 
 -- ---- more nodes
-pub within-more : (m n : ℕ) (c : Command) → m ≤ n → IsWithin m c → IsWithin n c
+pub within-more : (m n : ℕ) (c : Command) → m ≤ n → SpeaksOfFirst m c → SpeaksOfFirst n c
 within-more m n (Bind line k) le below = omega (arith, le, below)
 within-more m n (Turn line k j t) le (first, second, turn) = (omega (arith, le, first), omega (arith, le, second), turn)
 within-more m n (Has line k p) le below = omega (arith, le, below)
@@ -69,7 +69,7 @@ turns-more ns ms (Count line k) more right = tt
 turns-more ns ms (Print line k name) more right = tt
 
 -- a command whose node was there looks at what it looked at
-pub looks-before : (ns ms : List Node) (c : Command) → Extends ns ms → IsWithin (length ns) c → (k : ℕ) → LooksAt ms c k → LooksAt ns c k
+pub looks-before : (ns ms : List Node) (c : Command) → Extends ns ms → SpeaksOfFirst (length ns) c → (k : ℕ) → LooksAt ms c k → LooksAt ns c k
 looks-before ns ms (Bind line n) (more, e) below k looks = subst (IsOperand k) (ap (λ xs. slice_index_or xs n node.Empty) e ∙ get_or-append ns more node.Empty n below) looks
 looks-before ns ms (Turn line n j t) more below k looks = looks
 looks-before ns ms (Has line n p) more below k looks = looks

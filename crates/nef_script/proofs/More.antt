@@ -1,5 +1,5 @@
 -- What a line means stays with more names' nodes and more sets.
-use Rattle.nef_script.proofs.Prelude.{◌≡◌, ℕ, Bool, true, false, List, [], ◌∷◌, Some, slice_get, refl, sym, subst, Node, IsCopyOf, Extends, slice_get-left, extends-turn, binds, is_own, Names, IsNode, IsQuestion, Sets, IsBind, IsTurn, IsBinding, MeansCommand, MeansWords, Verb, Command}
+use Rattle.nef_script.proofs.Prelude.{◌≡◌, ℕ, Bool, true, false, List, [], ◌∷◌, Some, slice_get, refl, sym, subst, Node, IsCopyOf, Extends, slice_get-left, extends-turn, binds, is_own, NamesNode, IsNodeOfLine, IsQuestion, Sets, IsBind, IsTurn, IsBinding, MeansCommand, MeansWords, Verb, Command}
 use Rattle.nef_script.specs.declared.arguments.Verb.TheVariants as verb
 
 -- what is at a place stays there
@@ -7,10 +7,10 @@ pub extends-at : {A : Type 0} (xs ys : List A) (k : ℕ) (x : A) → Extends xs 
 extends-at xs ys k x (more, e) at = subst (λ zs. slice_get zs k ≡ Some x) (sym e) (slice_get-left xs more k x at)
 
 module _ (names : List (List ℕ)) (old new : List ℕ) (more : Extends old new) where
-  pub names-more : (word : List ℕ) (k : ℕ) → Names names old word k → Names names new word k
+  pub names-more : (word : List ℕ) (k : ℕ) → NamesNode names old word k → NamesNode names new word k
   names-more word k (i, at, is) = (i, at, extends-at old new i k more is)
 
-  pub node-more : (v : Verb) (args : List (List ℕ)) (n : Node) → IsNode names old v args n → IsNode names new v args n
+  pub node-more : (v : Verb) (args : List (List ℕ)) (n : Node) → IsNodeOfLine names old v args n → IsNodeOfLine names new v args n
   node-more verb.Half (name ∷ a ∷ b ∷ c ∷ d ∷ mode ∷ []) n is = is
   node-more verb.Empty (name ∷ []) n is = is
   node-more verb.Full (name ∷ []) n is = is

@@ -1,5 +1,5 @@
 -- The numbers of a ray's start are no larger than those that its words spell, since a point has its lowest terms.
-use Rattle.nef_script.proofs.Prelude.{◌≡◌, ℕ, ◌*◌, ◌<◌, ◌≤◌, ℤ, pos, ◌*ℤ◌, ◌<ℤ◌, nat_abs, sym, ◌∙◌, ap, subst, arith, ints, unsigned_abs-mul, le_of_dvd, SamePlace, IsPlaceAtMost, place_at, place_of, Point, IsQuotient, pos-abs}
+use Rattle.nef_script.proofs.Prelude.{◌≡◌, ℕ, ◌*◌, ◌<◌, ◌≤◌, ℤ, pos, ◌*ℤ◌, ◌<ℤ◌, nat_abs, sym, ◌∙◌, ap, subst, arith, ints, unsigned_abs-mul, le_of_dvd, SamePoint, IsPointAtMost, point_at, point_of, Point, IsQuotient, pos-abs}
 use Rattle.std.proofs.Math.IntN.{*ℤ_comm}
 use Rattle.std.proofs.Math.Nat.{mul-le-mul, le_of_mul-le-mul_left, mul_comm}
 use Rattle.nef_geo.proofs.Euclid.{divides_same}
@@ -16,7 +16,7 @@ some_size : (w : ℤ) → pos 0 <ℤ w → 0 < nat_abs w
 some_size w positive = omega (arith, ints)
 
 -- a point's w is the least of all that its numbers may be divided by
-weight_small : (p : Point) (x y z w : ℤ) (positive : pos 0 <ℤ w) → SamePlace (place_at x y z w positive) (place_of p) → nat_abs p.w ≤ nat_abs w
+weight_small : (p : Point) (x y z w : ℤ) (positive : pos 0 <ℤ w) → SamePoint (point_at x y z w positive) (point_of p) → nat_abs p.w ≤ nat_abs w
 weight_small p x y z w positive same =
     let m = pos (nat_abs p.w) in
     let n = pos (nat_abs w) in
@@ -24,7 +24,7 @@ weight_small p x y z w positive same =
     (*ℤ_comm m x ∙ same.along_x) (*ℤ_comm m y ∙ same.along_y) (*ℤ_comm m z ∙ same.along_z) (ap (λ v. v *ℤ n) (pos-abs p.w p.proper)) in
     le_of_dvd (some_size w positive) divides
 
-pub start_small : (p : Point) (x y z w : ℤ) (m n : ℕ) → IsQuotient p x y z w → nat_abs x ≤ m → nat_abs y ≤ m → nat_abs z ≤ m → nat_abs w ≤ n → IsPlaceAtMost m n (place_of p)
+pub start_small : (p : Point) (x y z w : ℤ) (m n : ℕ) → IsQuotient p x y z w → nat_abs x ≤ m → nat_abs y ≤ m → nat_abs z ≤ m → nat_abs w ≤ n → IsPointAtMost m n (point_of p)
 start_small p x y z w m n (positive, same) x_small y_small z_small w_small =
     let le = weight_small p x y z w positive same in
     let some = some_size w positive in

@@ -1,12 +1,12 @@
 -- The first refusals of short scripts, by computation.
-use Rattle.nef_script.proofs.Prelude.{ℕ, List, codes, refl, arith, lit≤, None, RefusalAt, Passes, FirstRefusal, UnknownCommandExample, WordCountExample, BadNameExample, NameTakenExample, UnknownNameExample, OwnNameExample, NotANumberExample, ZeroNormalExample, BadModeExample, OutOfRangeExample, BadWeightExample, ZeroDirectionExample, LongDirectionExample, FarPointExample, FirstLineExample, AcceptedExample}
+use Rattle.nef_script.proofs.Prelude.{ℕ, List, codes, refl, arith, lit≤, None, RefusalAt, NoneRefused, FirstRefusal, UnknownCommandExample, WordCountExample, BadNameExample, NameTakenExample, UnknownNameExample, OwnNameExample, NotANumberExample, ZeroNormalExample, BadModeExample, OutOfRangeExample, BadWeightExample, ZeroDirectionExample, LongDirectionExample, FarPointExample, FirstLineExample, AcceptedExample}
 use Rattle.nef_script.proofs.LineByLine.{passes_more}
 use Rattle.nef_script.specs.declared.script.ScriptKind.TheVariants as kind
 
-none_before : (lines : List (List ℕ)) → Passes lines 0
+none_before : (lines : List (List ℕ)) → NoneRefused lines 0
 none_before lines m below = absurd (omega arith)
 
-after_first : (lines : List (List ℕ)) → RefusalAt lines 0 None → Passes lines 1
+after_first : (lines : List (List ℕ)) → RefusalAt lines 0 None → NoneRefused lines 1
 after_first lines first = passes_more lines 0 (none_before lines) first
 
 pub unknown_command : UnknownCommandExample
@@ -48,8 +48,8 @@ zero_direction = FirstRefusal.at_line 1 kind.ZeroDirection (lit≤ tt) (codes "r
 pub long_direction : LongDirectionExample
 long_direction = FirstRefusal.at_line 1 kind.OutOfRange (lit≤ tt) (codes "ray A 2097152 0 0 1024 0 0 1025", refl, refl) (after_first _ (codes "empty A", refl, refl))
 
-pub far_point : FarPointExample
-far_point = FirstRefusal.at_line 1 kind.OutOfRange (lit≤ tt) (codes "has A 8796093022209 0 0 1", refl, refl) (after_first _ (codes "empty A", refl, refl))
+pub outlying_point : FarPointExample
+outlying_point = FirstRefusal.at_line 1 kind.OutOfRange (lit≤ tt) (codes "has A 8796093022209 0 0 1", refl, refl) (after_first _ (codes "empty A", refl, refl))
 
 pub first_line : FirstLineExample
 first_line = FirstRefusal.at_line 0 kind.BadMode (lit≤ tt) (codes "half A 1 0 0 0 shut", refl, refl) (none_before _)

@@ -1,5 +1,5 @@
 -- A script is accepted or has one first refusal.
-use Rattle.nef_script.proofs.Prelude.{◌≡◌, ℕ, zero, suc, ◌+◌, ◌≤◌, List, [], length, take, get_or, Option, Some, None, ◌⊎◌, inl, inr, refl, sym, ◌∙◌, ap, subst, arith, cases_lt, slice_get_within, slice_get-get_or, lines_of, script_limit, line_refusal, names_of, RefusalAt, Passes, FirstRefusal, IsAccepted, CommandsFound, OneRefusal, NeverBoth, Decided, ScriptKind}
+use Rattle.nef_script.proofs.Prelude.{◌≡◌, ℕ, zero, suc, ◌+◌, ◌≤◌, List, [], length, take, get_or, Option, Some, None, ◌⊎◌, inl, inr, refl, sym, ◌∙◌, ap, subst, arith, cases_lt, slice_get_within, slice_get-get_or, lines_of, script_limit, line_refusal, names_of, RefusalAt, NoneRefused, FirstRefusal, IsAccepted, CommandsFound, OneRefusal, NeverBoth, AcceptedOrRefused, ScriptKind}
 use Rattle.nef_script.specs.declared.arguments.Verb.TheVariants as verb
 use Rattle.nef_script.specs.declared.script.ScriptKind.TheVariants as kind
 use Rattle.nef_script.proofs.LineByLine.{passes_more}
@@ -11,7 +11,7 @@ refusal_same lines n r s (line, at, is) (other, at_other, is_other) =
     let same : line ≡ other = cc in
     sym is ∙ ap (line_refusal (names_of (take n lines))) same ∙ is_other
 
-same_line : (lines : List (List ℕ)) (m n : ℕ) (j k : ScriptKind) → RefusalAt lines m (Some j) → RefusalAt lines n (Some k) → Passes lines m → Passes lines n → (m + 1 ≡ n + 1) × (j ≡ k)
+same_line : (lines : List (List ℕ)) (m n : ℕ) (j k : ScriptKind) → RefusalAt lines m (Some j) → RefusalAt lines n (Some k) → NoneRefused lines m → NoneRefused lines n → (m + 1 ≡ n + 1) × (j ≡ k)
 same_line lines m n j k at_m at_n before_m before_n = elim (cases_lt m n) [
   | inl earlier ↦ (let odd = refusal_same lines m (Some j) None at_m (before_n m earlier) in cc)
   | inr past ↦ elim (cases_lt n m) [
@@ -39,9 +39,9 @@ never_both bytes _ _ (FirstRefusal.at_line n k short at before) accepted =
 
 -- the first lines pass, or one of them is the first that is refused
 abbrev Scanned : List (List ℕ) → ℕ → Type 0
-Scanned lines n = Passes lines n ⊎ ((m : ℕ) × (k : ScriptKind) × RefusalAt lines m (Some k) × Passes lines m)
+Scanned lines n = NoneRefused lines n ⊎ ((m : ℕ) × (k : ScriptKind) × RefusalAt lines m (Some k) × NoneRefused lines m)
 
-scan_next : (lines : List (List ℕ)) (n : ℕ) (r : Option ScriptKind) → RefusalAt lines n r → Passes lines n → Scanned lines (n + 1)
+scan_next : (lines : List (List ℕ)) (n : ℕ) (r : Option ScriptKind) → RefusalAt lines n r → NoneRefused lines n → Scanned lines (n + 1)
 scan_next lines n None here before = inl (passes_more lines n before here)
 scan_next lines n (Some k) here before = inr (n, k, here, before)
 
@@ -61,7 +61,7 @@ decide_short bytes short = elim (scan (lines_of bytes) (length (lines_of bytes))
   | inr found ↦ inr (found.0 + 1, found.1, FirstRefusal.at_line found.0 found.1 short found.2 found.3)
 ]
 
-pub decided : Decided
+pub decided : AcceptedOrRefused
 decided bytes = elim (cases_lt script_limit (length bytes)) [
   | inl long ↦ inr (0, kind.ScriptTooLong, FirstRefusal.too_long long)
   | inr short ↦ decide_short bytes short

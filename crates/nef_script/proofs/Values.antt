@@ -1,14 +1,14 @@
 -- The values of a line's words, as the calls take them.
-use Rattle.nef_script.proofs.Prelude.{◌≡◌, ℕ, ◌<◌, ◌≤◌, ◌^◌, ℤ, pos, negsuc, ◌<ℤ◌, nat_abs, Bool, true, false, ◌&&◌, refl, subst, arith, w64, to_z, of_z, eqb-true, ints, to_z-of_z, form, SamePlace, vector, IsZero, place_at, place_of, Point, is_zero, IsQuotient}
+use Rattle.nef_script.proofs.Prelude.{◌≡◌, ℕ, ◌<◌, ◌≤◌, ◌^◌, ℤ, pos, negsuc, ◌<ℤ◌, nat_abs, Bool, true, false, ◌&&◌, refl, subst, arith, w64, to_z, of_z, eqb-true, ints, to_z-of_z, form, SamePoint, vector, IsZero, point_at, point_of, Point, is_zero, IsQuotient}
 use Rattle.std.specs.Int.Signed.{mag}
 use Rattle.nef_script.proofs.Accepted.{and_parts}
 
-pub quotient : (p : Point) (x y z w x' y' z' w' : ℤ) → x' ≡ x → y' ≡ y → z' ≡ z → w' ≡ w → pos 0 <ℤ w → ((positive : pos 0 <ℤ w') → SamePlace (place_at x' y' z' w' positive) (place_of p)) → IsQuotient p x y z w
+pub quotient : (p : Point) (x y z w x' y' z' w' : ℤ) → x' ≡ x → y' ≡ y → z' ≡ z → w' ≡ w → pos 0 <ℤ w → ((positive : pos 0 <ℤ w') → SamePoint (point_at x' y' z' w' positive) (point_of p)) → IsQuotient p x y z w
 quotient p x y z w x' y' z' w' is_x is_y is_z is_w positive same =
-    let at_x = subst (λ n. (positive : pos 0 <ℤ w') → SamePlace (place_at n y' z' w' positive) (place_of p)) is_x same in
-    let at_y = subst (λ n. (positive : pos 0 <ℤ w') → SamePlace (place_at x n z' w' positive) (place_of p)) is_y at_x in
-    let at_z = subst (λ n. (positive : pos 0 <ℤ w') → SamePlace (place_at x y n w' positive) (place_of p)) is_z at_y in
-    let at_w = subst (λ n. (positive : pos 0 <ℤ n) → SamePlace (place_at x y z n positive) (place_of p)) is_w at_z in
+    let at_x = subst (λ n. (positive : pos 0 <ℤ w') → SamePoint (point_at n y' z' w' positive) (point_of p)) is_x same in
+    let at_y = subst (λ n. (positive : pos 0 <ℤ w') → SamePoint (point_at x n z' w' positive) (point_of p)) is_y at_x in
+    let at_z = subst (λ n. (positive : pos 0 <ℤ w') → SamePoint (point_at x y n w' positive) (point_of p)) is_z at_y in
+    let at_w = subst (λ n. (positive : pos 0 <ℤ n) → SamePoint (point_at x y z n positive) (point_of p)) is_w at_z in
     (positive, at_w positive)
 
 pub same_form : (a b c d a' b' c' d' : ℤ) → a' ≡ a → b' ≡ b → c' ≡ c → d' ≡ d → form a' b' c' d' ≡ form a b c d

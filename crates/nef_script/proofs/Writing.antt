@@ -1,5 +1,5 @@
 -- The lines of a script written one after the other.
-use Rattle.nef_script.proofs.Prelude.{◌≡◌, ℕ, zero, suc, ◌+◌, ◌-◌, List, [], ◌∷◌, ◌++◌, codes, refl, sym, ◌∙◌, ap, arith, append-nil, append_assoc, ne_eqb, flat_map, range_with_len, script_of, box_lines, step_lines, stairs_text, box_name, whole_name, filled, or_line, count_line, join_lines}
+use Rattle.nef_script.proofs.Prelude.{◌≡◌, ℕ, zero, suc, ◌+◌, ◌-◌, List, [], ◌∷◌, ◌++◌, codes, refl, sym, ◌∙◌, ap, arith, append-nil, append_assoc, ne_eqb, flat_map, range_with_len, script_of, box_lines, step_lines, stairs_text, box_name, whole_name, filled, or_line, count_command, join_lines}
 use Rattle.std.specs.Prelude.{if◌then◌else◌}
 
 -- ---- bytes after bytes
@@ -75,6 +75,6 @@ box-next o t s i e f =
     ∙ ap (λ m. o ++ script_of (flat_map step_lines (range_with_len 0 m))) more
 
 -- all boxes, and the count
-pub stairs-written : (t s : List ℕ) (i n : ℕ) → i ≡ n → t ≡ script_of (flat_map step_lines (range_with_len 0 i)) → s ≡ t ++ (count_line (whole_name (n - 1)) ++ 10 ∷ []) → s ≡ stairs_text n
+pub stairs-written : (t s : List ℕ) (i n : ℕ) → i ≡ n → t ≡ script_of (flat_map step_lines (range_with_len 0 i)) → s ≡ t ++ (count_command (whole_name (n - 1)) ++ 10 ∷ []) → s ≡ stairs_text n
 stairs-written t s i n all e f =
-    line-next [] t s (flat_map step_lines (range_with_len 0 n)) (count_line (whole_name (n - 1))) (e ∙ ap (λ m. script_of (flat_map step_lines (range_with_len 0 m))) all) f
+    line-next [] t s (flat_map step_lines (range_with_len 0 n)) (count_command (whole_name (n - 1))) (e ∙ ap (λ m. script_of (flat_map step_lines (range_with_len 0 m))) all) f

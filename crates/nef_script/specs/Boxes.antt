@@ -2,10 +2,10 @@
 use Rattle.std.specs.Prelude.{ℕ, nat_eq, if◌then◌else◌, List, [], ◌∷◌, ◌++◌, codes, take, drop, flat_map}
 use Rattle.std.specs.Fmt.{decimal}
 use Rattle.nef_script.specs.Stairs.{step_lines}
-use Rattle.nef_script.specs.declared.steps.Word.{Word}
+use Rattle.nef_script.specs.declared.steps.NumberedWord.{NumberedWord}
 
 -- the word: the bytes in front, and the number after them
-abbrev pub bytes_of : Word → List ℕ
+abbrev pub bytes_of : NumberedWord → List ℕ
 bytes_of w = w.front.now ++ decimal w.number
 
 -- what stands for a byte of a template: a word for @, < and >, and each other byte for itself
@@ -19,8 +19,8 @@ filled at low high template = flat_map (filled_byte at low high) template
 abbrev pub or_line : List ℕ → List ℕ → List ℕ → List ℕ
 or_line name left right = codes "or " ++ name ++ codes " " ++ left ++ codes " " ++ right
 
-abbrev pub count_line : List ℕ → List ℕ
-count_line name = codes "count " ++ name
+abbrev pub count_command : List ℕ → List ℕ
+count_command name = codes "count " ++ name
 
 -- the eleven lines of box i; the line after them, if any, that joins box i to the boxes before it
 abbrev pub step_box : ℕ → List (List ℕ)

@@ -19,8 +19,8 @@ abbrev pub NeverBoth : Type 0
 NeverBoth = (bytes : List ℕ) (n : ℕ) (k : ScriptKind) → FirstRefusal bytes n k → IsAccepted bytes → ⊥
 
 -- a script that isn't accepted has a refusal
-abbrev pub Decided : Type 0
-Decided = (bytes : List ℕ) → IsAccepted bytes ⊎ ((n : ℕ) × (k : ScriptKind) × FirstRefusal bytes n k)
+abbrev pub AcceptedOrRefused : Type 0
+AcceptedOrRefused = (bytes : List ℕ) → IsAccepted bytes ⊎ ((n : ℕ) × (k : ScriptKind) × FirstRefusal bytes n k)
 
 -- the bytes of a script with these lines, each with its line feed
 abbrev pub script_of : List (List ℕ) → List ℕ

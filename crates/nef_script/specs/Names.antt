@@ -11,5 +11,5 @@ abbrev pub pointed : List (Bor (List ℕ)) → List (List ℕ)
 pointed words = map (λ w. w.now) words
 
 -- the map has the number of each name, and no other names
-abbrev pub HasPlaces : BTreeMap (Bor (List ℕ)) ℕ → List (List ℕ) → Type 0
-HasPlaces places names = (name : List ℕ) → get_by (λ k. slice_cmp nat_cmp name k.now) places ≡ position (bytes_eq name) names
+abbrev pub HasNumbers : BTreeMap (Bor (List ℕ)) ℕ → List (List ℕ) → Type 0
+HasNumbers places names = (name : List ℕ) → get_by (λ k. slice_cmp nat_cmp name k.now) places ≡ position (bytes_eq name) names

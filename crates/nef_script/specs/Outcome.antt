@@ -7,7 +7,7 @@ use Rattle.nef_script.specs.Table.{begins_new, binds, is_own, verb_of}
 use Rattle.nef_script.specs.Tests.{name_count_limit, number_or_zero, is_zero, word_test}
 use Rattle.nef_script.specs.Checks.{command_test, kinds}
 use Rattle.nef_script.specs.Limits.{KeepsRayLimits}
-use Rattle.nef_script.specs.Meaning.{Names, IsNode, IsQuestion}
+use Rattle.nef_script.specs.Meaning.{NamesNode, IsNodeOfLine, IsQuestion}
 use Rattle.nef_script.specs.declared.arguments.Verb.{Verb}
 use Rattle.nef_script.specs.declared.arguments.Verb.TheVariants as verb
 use Rattle.nef_script.specs.Table.{Role}
@@ -18,30 +18,30 @@ use Rattle.nef_script.specs.declared.statement.Statement.{Statement}
 use Rattle.nef_script.specs.declared.statement.Statement.TheVariants.{Bind, Turn, Ask, Print}
 
 -- the number of a kind in the order of the tests
-abbrev pub place : ScriptKind → ℕ
-place kind.LineTooLong = 0
-place kind.BadByte = 1
-place kind.UnknownCommand = 2
-place kind.WordCount = 3
-place kind.BadName = 4
-place kind.NameTaken = 5
-place kind.UnknownName = 6
-place kind.NotANumber = 7
-place kind.OutOfRange = 8
-place kind.ZeroNormal = 9
-place kind.BadMode = 10
-place kind.BadWeight = 11
-place kind.ZeroDirection = 12
-place kind.TooManyNames = 13
-place kind.ScriptTooLong = 14
+abbrev pub kind_number : ScriptKind → ℕ
+kind_number kind.LineTooLong = 0
+kind_number kind.BadByte = 1
+kind_number kind.UnknownCommand = 2
+kind_number kind.WordCount = 3
+kind_number kind.BadName = 4
+kind_number kind.NameTaken = 5
+kind_number kind.UnknownName = 6
+kind_number kind.NotANumber = 7
+kind_number kind.OutOfRange = 8
+kind_number kind.ZeroNormal = 9
+kind_number kind.BadMode = 10
+kind_number kind.BadWeight = 11
+kind_number kind.ZeroDirection = 12
+kind_number kind.TooManyNames = 13
+kind_number kind.ScriptTooLong = 14
 
 -- the first kind of refusal that holds, of the kinds that are tested on a command and its words
-abbrev pub first_of : (ScriptKind → Bool) → Option ScriptKind
-first_of holds = find holds kinds
+abbrev pub first_kind_of : (ScriptKind → Bool) → Option ScriptKind
+first_kind_of holds = find holds kinds
 
 -- the earlier of two kinds in the order of the tests
 abbrev pub earlier : ScriptKind → ScriptKind → ScriptKind
-earlier j k = if nat_le (place j) (place k) then j else k
+earlier j k = if nat_le (kind_number j) (kind_number k) then j else k
 
 -- both values, or the earlier of the refusals
 abbrev pub both : {X Y : Type 0} → Result X ScriptKind → Result Y ScriptKind → Result (X × Y) ScriptKind
@@ -57,7 +57,7 @@ refused {X} (Err k) = Some k
 
 -- r is the refusal of the first kind that holds, or a value with Means where no kind holds
 pub record IsRead {X : Type 0} (holds : ScriptKind → Bool) (Means : X → Type 0) (r : Result X ScriptKind) : Type 0 where
-  pub refusal : refused r ≡ first_of holds
+  pub refusal : refused r ≡ first_kind_of holds
   pub value : IfOk r Means
 
 -- ---- tests on words in their roles, beside those on one word
@@ -97,7 +97,7 @@ roles_test names roles words k = (not (nat_eq (length words) (length roles)) && 
 -- ---- what words mean
 
 -- the first word is a name that isn't bound yet, and the script has room for one more name
-pub record IsNew (names args : List (List ℕ)) (name : List ℕ) : Type 0 where
+pub record IsNewName (names args : List (List ℕ)) (name : List ℕ) : Type 0 where
   pub some : 0 < length args
   pub first : name ≡ get_or args 0 []
   pub free : position (bytes_eq name) names ≡ None
@@ -105,20 +105,20 @@ pub record IsNew (names args : List (List ℕ)) (name : List ℕ) : Type 0 where
 
 -- the statement binds a new name to a node with IsIt
 abbrev pub BindsNew : List (List ℕ) → List (List ℕ) → (Node → Type 0) → Statement → Type 0
-BindsNew names args IsIt (Bind name n) = IsNew names args name.now × IsIt n
+BindsNew names args IsIt (Bind name n) = IsNewName names args name.now × IsIt n
 BindsNew names args IsIt s = ⊥
 
 -- the second word names node `from`, and the third is the number of the turn
-pub record IsTurned (names : List (List ℕ)) (bound : List ℕ) (args : List (List ℕ)) (from turn : ℕ) : Type 0 where
+pub record IsTurnOfNode (names : List (List ℕ)) (bound : List ℕ) (args : List (List ℕ)) (from turn : ℕ) : Type 0 where
   pub count : length args ≡ 3
-  pub named : Names names bound (get_or args 1 []) from
+  pub named : NamesNode names bound (get_or args 1 []) from
   pub number : number_or_zero (get_or args 2 []) ≡ pos turn
   pub below : turn < 48
 
 -- the statement is what the command and the words after it mean
 abbrev pub IsStatement : List (List ℕ) → List ℕ → ℕ → Verb → List (List ℕ) → Statement → Type 0
-IsStatement names bound line v args (Bind name n) = (is_own v ≡ true) × IsNew names args name.now × IsNode names bound v args n
-IsStatement names bound line v args (Turn name from t) = (v ≡ verb.Turn) × IsNew names args name.now × IsTurned names bound args from t
+IsStatement names bound line v args (Bind name n) = (is_own v ≡ true) × IsNewName names args name.now × IsNodeOfLine names bound v args n
+IsStatement names bound line v args (Turn name from t) = (v ≡ verb.Turn) × IsNewName names args name.now × IsTurnOfNode names bound args from t
 IsStatement names bound line v args (Ask c) = (binds v ≡ false) × IsQuestion names bound line v args c × KeepsRayLimits c
 IsStatement names bound line v args (Print k name) = (binds v ≡ false) × IsQuestion names bound line v args (command.Print line k name.now)
 

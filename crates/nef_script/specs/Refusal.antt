@@ -29,14 +29,14 @@ abbrev pub RefusalAt : List (List ℕ) → ℕ → Option ScriptKind → Type 0
 RefusalAt lines n r = (line : List ℕ) × (slice_get lines n ≡ Some line) × (line_refusal (names_of (take n lines)) line ≡ r)
 
 -- none of the first n lines is refused
-abbrev pub Passes : List (List ℕ) → ℕ → Type 0
-Passes lines n = (m : ℕ) → m < n → RefusalAt lines m None
+abbrev pub NoneRefused : List (List ℕ) → ℕ → Type 0
+NoneRefused lines n = (m : ℕ) → m < n → RefusalAt lines m None
 
 pub data FirstRefusal (bytes : List ℕ) : ℕ → ScriptKind → Type 0 where
   too_long : script_limit < length bytes → FirstRefusal bytes 0 kind.ScriptTooLong
-  at_line : (n : ℕ) (k : ScriptKind) → length bytes ≤ script_limit → RefusalAt (lines_of bytes) n (Some k) → Passes (lines_of bytes) n → FirstRefusal bytes (n + 1) k
+  at_line : (n : ℕ) (k : ScriptKind) → length bytes ≤ script_limit → RefusalAt (lines_of bytes) n (Some k) → NoneRefused (lines_of bytes) n → FirstRefusal bytes (n + 1) k
 
 -- no line of the script is refused, and the script isn't too long
 pub record IsAccepted (bytes : List ℕ) : Type 0 where
   pub short : length bytes ≤ script_limit
-  pub passes : Passes (lines_of bytes) (length (lines_of bytes))
+  pub passes : NoneRefused (lines_of bytes) (length (lines_of bytes))

@@ -1,7 +1,7 @@
 //! The arguments of a line: what the words after the command give, or the first kind of refusal for these words.
 
 ghost use Rattle.std.specs.Prelude.{◌≡◌, ◌<◌, ◌≤◌, ◌<ℤ◌, ◌&&◌, ◌||◌, ◌∷◌};
-ghost use Rattle.nef_script.specs.Prelude.{List, ℕ, [], codes, length, nat_abs, None, pos, position, find, bytes_eq, normal_limit, number_limit, offset_limit, query_limit, query_weight_limit, ray_direction_limit, IsAtMost, IsPlaceAtMost, place_of, vector_of, Names as IsNamed, IsGiven, IsQuotient, IsToward, name_count_limit, number_or_zero, word_test, earlier, both, IsRead, is_normal, is_direction, are_zero, no_room, some_fails, option_map, verb_of};
+ghost use Rattle.nef_script.specs.Prelude.{List, ℕ, [], codes, length, nat_abs, None, pos, position, find, bytes_eq, normal_limit, number_limit, offset_limit, query_limit, query_weight_limit, ray_direction_limit, IsAtMost, IsPointAtMost, point_of, vector_of, NamesNode as IsNamed, IsGiven, IsQuotient, IsToward, name_count_limit, number_or_zero, word_test, earlier, both, IsRead, is_normal, is_direction, are_zero, no_room, some_fails, option_map, verb_of};
 ghost use Rattle.nef_script.specs.Table as role;
 
 use crate::script::{Names, ScriptKind};
@@ -212,7 +212,7 @@ pub(crate) fn point(
 ) -> Result<Point, ScriptKind>
     requires place { limits.0 ≤ query_limit }
     requires weight { limits.1 ≤ query_weight_limit }
-    ensures read { (names : List (List ℕ)) → IsRead (some_fails names (role.Coefficient limits.0 ∷ role.Coefficient limits.0 ∷ role.Coefficient limits.0 ∷ role.Weight limits.1 ∷ []) (x.now ∷ y.now ∷ z.now ∷ w.now ∷ [])) (λ p. IsQuotient p (number_or_zero x.now) (number_or_zero y.now) (number_or_zero z.now) (number_or_zero w.now) × IsPlaceAtMost limits.0 limits.1 (place_of p)) result }
+    ensures read { (names : List (List ℕ)) → IsRead (some_fails names (role.Coefficient limits.0 ∷ role.Coefficient limits.0 ∷ role.Coefficient limits.0 ∷ role.Weight limits.1 ∷ []) (x.now ∷ y.now ∷ z.now ∷ w.now ∷ [])) (λ p. IsQuotient p (number_or_zero x.now) (number_or_zero y.now) (number_or_zero z.now) (number_or_zero w.now) × IsPointAtMost limits.0 limits.1 (point_of p)) result }
 {
     let numbers = both(
         coefficient(limits.0, x),

@@ -1,7 +1,7 @@
 //! Reads a script line by line, and states laws of all scripts.
 
 ghost use Rattle.std.specs.Prelude.{◌≡◌, ◌*◌, ◌≤◌, ◌∷◌, ◌++◌};
-ghost use Rattle.nef_script.specs.Prelude.{ℕ, length, IfOk, OnOk, Some, None, [], All, position, bytes_eq, lines_of, FirstRefusal, IsAccepted, line_refusal, MeansScript, IsWithin, bases_of, TurnsRight, AreBoundBefore, IsStatement, IsSound, AddsLine, AddsWords, state, ScriptKind as Kind, Verb as Said, CommandsFound, OneRefusal, NeverBoth, Decided, UnknownCommandExample, WordCountExample, BadNameExample, NameTakenExample, UnknownNameExample, OwnNameExample, NotANumberExample, ZeroNormalExample, BadModeExample, OutOfRangeExample, BadWeightExample, ZeroDirectionExample, LongDirectionExample, FarPointExample, FirstLineExample, AcceptedExample};
+ghost use Rattle.nef_script.specs.Prelude.{ℕ, length, IfOk, OnOk, Some, None, [], All, position, bytes_eq, lines_of, FirstRefusal, IsAccepted, line_refusal, MeansScript, SpeaksOfFirst, bases_of, TurnsRight, AreBoundBefore, IsStatement, IsSoundState, AddsLine, AddsWords, state, ScriptKind as Kind, Verb as Said, CommandsFound, OneRefusal, NeverBoth, AcceptedOrRefused, UnknownCommandExample, WordCountExample, BadNameExample, NameTakenExample, UnknownNameExample, OwnNameExample, NotANumberExample, ZeroNormalExample, BadModeExample, OutOfRangeExample, BadWeightExample, ZeroDirectionExample, LongDirectionExample, FarPointExample, FirstLineExample, AcceptedExample};
 
 use crate::script::{Command, Name, Names, Script, ScriptFault, ScriptKind};
 use crate::statement::{Statement, read_statement};
@@ -25,7 +25,7 @@ struct Reader<'a> {
 
 impl<'a> Reader<'a> {
     fn read_line(&mut self, alloc: Global, line: Line<'a>) -> Result<(), ScriptFault>
-        requires sound { IsSound (state self.old.names self.old.bound.items self.old.sets self.old.commands) }
+        requires sound { IsSoundState (state self.old.names self.old.bound.items self.old.sets self.old.commands) }
         ensures adds { IfOk result (λ _. AddsLine line.entry.number line.entry.text.now (state self.old.names self.old.bound.items self.old.sets self.old.commands) (state self.new.names self.new.bound.items self.new.sets self.new.commands)) }
         ensures refused { (n : ℕ) (kind : Kind) → result ≡ Err (ScriptFault.Refused n kind) → (n ≡ line.entry.number) × (line_refusal self.old.names line.entry.text.now ≡ Some kind) }
     {
@@ -42,7 +42,7 @@ impl<'a> Reader<'a> {
 
     // Adds what a line says to what the lines before it say.
     fn add(&mut self, alloc: Global, line: u64, statement: Statement<'a>) -> Result<(), AllocError>
-        requires sound { IsSound (state self.old.names self.old.bound.items self.old.sets self.old.commands) }
+        requires sound { IsSoundState (state self.old.names self.old.bound.items self.old.sets self.old.commands) }
         requires says { (v : Said) × (args : List (List ℕ)) × IsStatement self.old.names self.old.bound.items line v args statement }
         ensures adds { IfOk result (λ _. (v : Said) (args : List (List ℕ)) → IsStatement self.old.names self.old.bound.items line v args statement.entry → AddsWords line v args (state self.old.names self.old.bound.items self.old.sets self.old.commands) (state self.new.names self.new.bound.items self.new.sets self.new.commands)) }
     {
@@ -99,7 +99,7 @@ impl<'a> Reader<'a> {
 /// that memory was wanted and not found.
 pub fn parse(alloc: Global, bytes: &[u8]) -> Result<Script, ScriptFault>
     ensures script { IfOk result (λ s. IsAccepted bytes.now × MeansScript bytes.now s.nodes s.commands) }
-    ensures in_range { IfOk result (λ s. All (IsWithin (length s.nodes)) s.commands) }
+    ensures in_range { IfOk result (λ s. All (SpeaksOfFirst (length s.nodes)) s.commands) }
     ensures turned { IfOk result (λ s. All (TurnsRight s.nodes) s.commands) }
     ensures bound_before { IfOk result (λ s. AreBoundBefore s.nodes s.commands) }
     ensures few { IfOk result (λ s. length s.nodes ≤ 48 * bases_of (lines_of bytes.now)) }
@@ -136,7 +136,7 @@ pub fn parse(alloc: Global, bytes: &[u8]) -> Result<Script, ScriptFault>
 pub fn refusal_laws()
     ensures one { OneRefusal }
     ensures never_both { NeverBoth }
-    ensures decided { Decided }
+    ensures decided { AcceptedOrRefused }
     ensures commands { CommandsFound }
 {}
 

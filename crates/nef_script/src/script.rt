@@ -198,13 +198,13 @@ pub(crate) struct Names<'a> {
 
 impl<'a> Model for Names<'a> {
     ghost use Rattle.std.specs.Prelude.{List as Seq, ℕ};
-    ghost use Rattle.nef_script.specs.Names.{pointed, HasPlaces};
+    ghost use Rattle.nef_script.specs.Names.{pointed, HasNumbers};
 
     ghost Value = { Seq (Seq ℕ) };
 
     ghost view = { λ n. pointed n.order.items };
 
-    ghost invariant = { λ n. HasPlaces n.places (pointed n.order.items) };
+    ghost invariant = { λ n. HasNumbers n.places (pointed n.order.items) };
 }
 
 impl<'a> Names<'a> {

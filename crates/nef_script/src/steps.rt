@@ -1,7 +1,7 @@
 //! The script of boxes that stand as stairs.
 
 ghost use Rattle.std.specs.Prelude.{◌≡◌, ◌<◌, ◌≤◌, ◌∷◌, ◌++◌};
-ghost use Rattle.nef_script.specs.Prelude.{[], IfOk, OnOk, most_stairs, script_of, IsAccepted, box_name, whole_name, stairs_text, bytes_of, filled, count_line, step_box, join_lines};
+ghost use Rattle.nef_script.specs.Prelude.{[], IfOk, OnOk, most_stairs, script_of, IsAccepted, box_name, whole_name, stairs_text, bytes_of, filled, count_command, step_box, join_lines};
 
 use crate::OutOfMemory;
 use itoa::Buffer;
@@ -28,35 +28,35 @@ const COUNT: &[u8] = b"count @\n";
 
 // A word: bytes followed by a number.
 #[derive(Clone, Copy)]
-struct Word<'a> {
+struct NumberedWord<'a> {
     front: &'a [u8],
     number: u32,
 }
 
-fn box_name(i: u32) -> Word<'static>
+fn box_name(i: u32) -> NumberedWord<'static>
     ensures name { bytes_of result ≡ box_name i }
 {
-    Word {
+    NumberedWord {
         front: b"b",
         number: i,
     }
 }
 
 // The name of the union of the first i + 1 boxes.
-fn whole_name(i: u32) -> Word<'static>
+fn whole_name(i: u32) -> NumberedWord<'static>
     ensures name { bytes_of result ≡ whole_name i }
 {
     if i == 0 {
         box_name(i)
     } else {
-        Word {
+        NumberedWord {
             front: b"u",
             number: i,
         }
     }
 }
 
-fn add_word(text: &mut Vec<u8>, word: Word) -> Result<(), OutOfMemory>
+fn add_word(text: &mut Vec<u8>, word: NumberedWord) -> Result<(), OutOfMemory>
     ensures added { OnOk result (text.new.items ≡ text.old.items ++ bytes_of word.entry) }
 {
     let mut buffer = Buffer::new();
@@ -68,9 +68,9 @@ fn add_word(text: &mut Vec<u8>, word: Word) -> Result<(), OutOfMemory>
 fn add_filled(
     text: &mut Vec<u8>,
     template: &[u8],
-    at: Word,
-    low: Word,
-    high: Word,
+    at: NumberedWord,
+    low: NumberedWord,
+    high: NumberedWord,
 ) -> Result<(), OutOfMemory>
     ensures added { OnOk result (text.new.items ≡ text.old.items ++ filled (bytes_of at.entry) (bytes_of low.entry) (bytes_of high.entry) template.now) }
 {
@@ -89,11 +89,11 @@ fn add_box(text: &mut Vec<u8>, i: u32) -> Result<(), OutOfMemory>
     requires small { i < most_stairs }
     ensures added { OnOk result (text.new.items ≡ text.old.items ++ script_of (step_box i)) }
 {
-    let low = Word {
+    let low = NumberedWord {
         front: b"",
         number: 8 * i,
     };
-    let high = Word {
+    let high = NumberedWord {
         front: b"",
         number: 8 * i + 12,
     };
@@ -112,7 +112,7 @@ fn add_join(text: &mut Vec<u8>, i: u32) -> Result<(), OutOfMemory>
 
 // Adds the question for the numbers of the union of the first i + 1 boxes.
 fn add_count(text: &mut Vec<u8>, i: u32) -> Result<(), OutOfMemory>
-    ensures added { OnOk result (text.new.items ≡ text.old.items ++ script_of (count_line (whole_name i) ∷ [])) }
+    ensures added { OnOk result (text.new.items ≡ text.old.items ++ script_of (count_command (whole_name i) ∷ [])) }
 {
     let whole = whole_name(i);
     add_filled(text, COUNT, whole, whole, whole)

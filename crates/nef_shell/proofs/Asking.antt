@@ -1,5 +1,5 @@
 -- Questions about values are those of their commands about nodes.
-use Rattle.nef_shell.proofs.Prelude.{◌≡◌, ◌∙◌, ℕ, ◌+◌, ◌<◌, ap, refl, sym, subst, arith, List, [], ◌∷◌, ◌++◌, length, Option, Some, None, IfSome, Ok, Result, inl, inr, Bor, Box, slice_get, TextVersion, Set, Node, node_set, Command, IsWithin, Status, IsSameAnswer, Step, Task, Make, Turn, Ask, AreAlike, first_asked, second_asked, AreSteps, AsksRight, IsValueOf, LooksAtValue, MakesValue, asked_values, questions_of, value_set, Held, AreAsked, AsksOf, IsAskedOf, IsAskedOfOther, IsHeld, IsHeldAt, AreHeld, AreStill, AreReady, HasDone, IsPiece, WorkEnds}
+use Rattle.nef_shell.proofs.Prelude.{◌≡◌, ◌∙◌, ℕ, ◌+◌, ◌<◌, ap, refl, sym, subst, arith, List, [], ◌∷◌, ◌++◌, length, Option, Some, None, IfSome, Ok, Result, inl, inr, Bor, Box, slice_get, TextVersion, Set, Node, node_set, Command, SpeaksOfFirst, Status, IsSameAnswer, Step, Task, Make, Turn, Ask, AreAlike, first_asked, second_asked, AreSteps, AsksRight, IsValueOf, LooksAtValue, MakesValue, asked_values, questions_of, value_set, Held, AreAsked, AsksOf, IsAskedOf, IsAskedOfOther, IsHeld, IsHeldAt, AreHeld, AreStill, AreAwaitedKept, HasDone, IsPiece, WorkEnds}
 use Rattle.nef_script.specs.declared.script.Command.TheVariants as command
 use Rattle.nef_shell.proofs.Outputs.{grows-none}
 use Rattle.nef_shell.proofs.ShownAlike.{shown-alike}
@@ -25,7 +25,7 @@ module _ {Z : Type 0} (version : TextVersion) (nodes : List Node) (steps : List 
       of (Some n) e None is held = absurd is
       of (Some n) e (Some j) is held = let (b, at, right) = held j refl in (n, e, (b, at, held-alike version _ _ b.value is right))
 
-  module _ (now : ℕ) (s : Step) (right : AreSteps steps) (at : slice_get steps now ≡ Some s) (ready : AreReady steps now list) (held : AreHeld version steps list) where
+  module _ (now : ℕ) (s : Step) (right : AreSteps steps) (at : slice_get steps now ≡ Some s) (ready : AreAwaitedKept steps now list) (held : AreHeld version steps list) where
     -- what the step looks at is kept
     pub looked-held : (k : ℕ) → LooksAtValue s.task k → IsHeldAt version (value_set steps k) list k
     looked-held k looks =
@@ -47,10 +47,10 @@ module _ {Z : Type 0} (version : TextVersion) (nodes : List Node) (steps : List 
           of None h = tt
           of (Some j) h = (value_set steps j, h j refl)
 
-      asks : AreAsked nodes steps → AsksRight nodes steps c.now first second × IsWithin (length nodes) c.now
+      asks : AreAsked nodes steps → AsksRight nodes steps c.now first second × SpeaksOfFirst (length nodes) c.now
       asks asked = subst (AsksOf nodes steps) is (asked now s at)
 
-      pub question-within : AreAsked nodes steps → (count : ℕ) × IsWithin count c.now
+      pub question-within : AreAsked nodes steps → (count : ℕ) × SpeaksOfFirst count c.now
       question-within asked = (length nodes, (asks asked).1)
 
       pub question-first : AreAsked nodes steps → IsAskedOf nodes c.now (λ s. IsHeldAt version s list first)

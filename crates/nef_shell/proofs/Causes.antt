@@ -1,5 +1,5 @@
 -- Why there is no script to work.
-use Rattle.nef_shell.proofs.Prelude.{◌≡◌, ℕ, ◌+◌, List, Option, None, Result, Err, length, arith, inr, Rose, script_limit, FirstRefusal, ScriptKind, IsRead, unread, unaccepted, HasNoScript}
+use Rattle.nef_shell.proofs.Prelude.{◌≡◌, ℕ, ◌+◌, List, Option, None, Result, Err, length, arith, inr, Rose, script_limit, FirstRefusal, ScriptKind, AreBytesRead, unread, unaccepted, HasNoScript}
 use Rattle.std.specs.Io.KnownBytes.{Consumes}
 use Rattle.nef_io.specs.declared.traits.ReadAll.{ReadAll}
 use Rattle.nef_io.specs.declared.traits.ReadAll.TheVariants as read
@@ -22,7 +22,7 @@ none-read stairs old new faults faults' r read.OutOfMemory was none rose long qu
 
 -- its bytes are refused, which the source had
 pub none-accepted : {X : Type 0} (stairs : Option ℕ) (old new : Option (List ℕ)) (faults faults' : ℕ) (bytes : List ℕ) (r : Result X ScriptFault) (e : ScriptFault) → r ≡ Err e → ((line : ℕ) (kind : ScriptKind) → r ≡ Err (fault.Refused line kind) → FirstRefusal bytes line kind)
-    → ((line : ℕ) (kind : ScriptKind) → FirstRefusal bytes line kind → (stairs ≡ None) × IsRead old new bytes) → faults' ≡ faults → HasNoScript stairs old new faults faults' (unaccepted e)
+    → ((line : ℕ) (kind : ScriptKind) → FirstRefusal bytes line kind → (stairs ≡ None) × AreBytesRead old new bytes) → faults' ≡ faults → HasNoScript stairs old new faults faults' (unaccepted e)
 none-accepted stairs old new faults faults' bytes r (fault.Refused line kind) was refused had quiet =
     let first = refused line kind was in
     let (none, taken) = had line kind first in

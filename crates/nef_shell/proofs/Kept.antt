@@ -1,5 +1,5 @@
 -- What is kept of values, and what goes.
-use Rattle.nef_shell.proofs.Prelude.{◌≡◌, ◌⊎◌, ◌∙◌, ℕ, zero, suc, ◌+◌, ◌<◌, Bool, true, false, arith, ap, refl, sym, subst, List, [], ◌∷◌, length, Option, Some, None, IsSomeAnd, slice_set, inl, inr, Box, is_some, option_and_then, cases_eq, length-set, slice_get_within, get_set_here, get_set_other, TextVersion, Set, ShowsSet, operand, Step, first_value, second_value, value_set, Held, IsHeld, IsHeldAt, IsNew, IsThere, AreHeld, AreStill, complex_in, complex_at, IsShownAt, cleared, IsSpent, handed_complex, AreLess, IsLet, IsShown, IsLent}
+use Rattle.nef_shell.proofs.Prelude.{◌≡◌, ◌⊎◌, ◌∙◌, ℕ, zero, suc, ◌+◌, ◌<◌, Bool, true, false, arith, ap, refl, sym, subst, List, [], ◌∷◌, length, Option, Some, None, IsSomeAnd, slice_set, inl, inr, Box, is_some, option_and_then, cases_eq, length-set, slice_get_within, get_set_here, get_set_other, TextVersion, Set, ShowsSet, operand, Step, first_value, second_value, value_set, Held, IsHeld, IsHeldAt, IsNewlyHeld, IsThere, AreHeld, AreStill, complex_in, complex_at, IsShownAt, cleared, IsSpent, handed_complex, AreLess, IsLet, IsShown, IsLent}
 use Rattle.std.proofs.Common.{slice_get}
 
 module _ {X : Type 0} where
@@ -97,7 +97,7 @@ module _ {X : Type 0} where
   ]
 
 -- what is new is right
-pub new-held : (version : TextVersion) (s : Set) (h : Held) → IsNew s h → IsHeld version s h
+pub new-held : (version : TextVersion) (s : Set) (h : Held) → IsNewlyHeld s h → IsHeld version s h
 new-held version s h (shows, parts, text) = record { shows = shows; parts = rw parts tt; text = rw text tt }
 
 module _ {Z : Type 0} where
@@ -148,10 +148,10 @@ module _ {Z : Type 0} where
   pub held-less : (version : TextVersion) (steps : List Step) (P : ℕ → Type 0) (old new : List (Option (Box Held Z))) → AreLess P old new → AreHeld version steps old → AreHeld version steps new
   held-less version steps P old new less held k b at = held k b (less.only k b at)
 
-  pub held-put : (version : TextVersion) (steps : List Step) (list : List (Option (Box Held Z))) (n : ℕ) (o : Option (Box Held Z)) → n < length list → IsSomeAnd o (λ b. IsNew (value_set steps n) b.value) → AreHeld version steps list → AreHeld version steps (slice_set list n o)
+  pub held-put : (version : TextVersion) (steps : List Step) (list : List (Option (Box Held Z))) (n : ℕ) (o : Option (Box Held Z)) → n < length list → IsSomeAnd o (λ b. IsNewlyHeld (value_set steps n) b.value) → AreHeld version steps list → AreHeld version steps (slice_set list n o)
   held-put version steps list n o within is held k b at = elim (put-only list n o k (Some b) within at) [
     | inl (here, same) ↦
-        let new : IsNew (value_set steps n) b.value = subst (λ z. IsSomeAnd z (λ c. IsNew (value_set steps n) c.value)) (sym same) is in
+        let new : IsNewlyHeld (value_set steps n) b.value = subst (λ z. IsSomeAnd z (λ c. IsNewlyHeld (value_set steps n) c.value)) (sym same) is in
         subst (λ z. IsHeld version (value_set steps z) b.value) (sym here) (new-held version _ b.value new)
     | inr (other, was) ↦ held k b was
   ]

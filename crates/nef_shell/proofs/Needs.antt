@@ -1,5 +1,5 @@
 -- Values that are worked ahead, and what they need.
-use Rattle.nef_shell.proofs.Prelude.{◌≡◌, ◌⊎◌, ◌∙◌, ℕ, zero, suc, ◌+◌, ◌<◌, ◌≤◌, arith, ap, refl, sym, subst, List, [], ◌∷◌, ◌++◌, length, Option, Some, None, IfSome, IsSomeAnd, slice_set, inl, inr, Box, is_some, option_and_then, length-set, slice_get_cases, slice_get_within, TextVersion, operand, kept, IsReady, Step, AreSteps, IsAwaited, IsEndedAt, MakesValue, first_value, made_of, second_value, value_set, values_after, Early, Held, IsEarlyAt, IsIndex, IsNeeded, IsEarly, AreEarly, AreLate, first_need, second_need, needed_complex, Fits, ArePut, IsHeld, IsNew, IsThere, AreHeld, complex_at, complex_in, AreMore, IsShown, IsLent}
+use Rattle.nef_shell.proofs.Prelude.{◌≡◌, ◌⊎◌, ◌∙◌, ℕ, zero, suc, ◌+◌, ◌<◌, ◌≤◌, arith, ap, refl, sym, subst, List, [], ◌∷◌, ◌++◌, length, Option, Some, None, IfSome, IsSomeAnd, slice_set, inl, inr, Box, is_some, option_and_then, length-set, slice_get_cases, slice_get_within, TextVersion, operand, kept, IsReady, Step, AreSteps, IsAwaited, IsEndedAt, MakesValue, first_value, task_set, second_value, value_set, values_after, Early, Held, IsEarlyAt, IsIndex, IsOperandKept, IsEarly, AreEarly, AreLate, first_need, second_need, needed_complex, ShowsItsSet, ArePut, IsHeld, IsNewlyHeld, IsThere, AreHeld, complex_at, complex_in, AreMore, IsShown, IsLent}
 use Rattle.std.proofs.Common.{slice_get}
 use Rattle.std.specs.Prelude.{true, false}
 use Rattle.nef_shell.proofs.Kept.{new-held, put-only, there-shown}
@@ -32,7 +32,7 @@ at-more : (old : List Early) (e : Early) (n k : ℕ) → IsEarlyAt old n k → I
 at-more old e n k (d, at, is) = (d, kept-left old (e ∷ []) n d at, is)
 
 module _ {X : Type 0} (steps : List Step) (values : List (Option X)) where
-  needed-more : (old : List Early) (e : Early) (n : ℕ) (operand need : Option ℕ) → IsNeeded values old n operand need → IsNeeded values (old ++ e ∷ []) n operand need
+  needed-more : (old : List Early) (e : Early) (n : ℕ) (operand need : Option ℕ) → IsOperandKept values old n operand need → IsOperandKept values (old ++ e ∷ []) n operand need
   needed-more old e n None need h = h
   needed-more old e n (Some i) None h = h
   needed-more old e n (Some i) (Some j) (low, at) = (low, at-more old e j i at)
@@ -49,7 +49,7 @@ module _ {X : Type 0} (steps : List Step) (values : List (Option X)) where
 
   -- an operand is needed where it has a number, or is kept
   pub needed-by : (now : ℕ) (index : List (Option ℕ)) (early : List Early) (operand need : Option ℕ) → IsIndex now index early → IfSome need (λ n. (k o : ℕ) × (operand ≡ Some k) × (k ≡ now + o) × (slice_get index o ≡ Some (Some n))) → (need ≡ None → IfSome operand (IsThere values))
-      → IsNeeded values early (length early) operand need
+      → IsOperandKept values early (length early) operand need
   needed-by now index early None None is named there = refl
   needed-by now index early None (Some j) is (k, o, e, place, at) there = let f : None ≡ Some k = e in cc
   needed-by now index early (Some i) None is named there = there refl
@@ -59,7 +59,7 @@ module _ {X : Type 0} (steps : List Step) (values : List (Option X)) where
       same = cc
 
   -- the value of a step that doesn't end it is one
-  pub is-early : (early : List Early) (s : Step) (e : Early) → AreSteps steps → slice_get steps e.value ≡ Some s → IsEndedAt steps e.value s → (s.ends_made ≡ true → ⊥) → IsNeeded values early (length early) (first_value s.task) e.needs.first → IsNeeded values early (length early) (second_value s.task) e.needs.second
+  pub is-early : (early : List Early) (s : Step) (e : Early) → AreSteps steps → slice_get steps e.value ≡ Some s → IsEndedAt steps e.value s → (s.ends_made ≡ true → ⊥) → IsOperandKept values early (length early) (first_value s.task) e.needs.first → IsOperandKept values early (length early) (second_value s.task) e.needs.second
       → IsEarly steps values early (length early) e
   is-early early s e right at ended not first second =
       let awaited = awaited-made steps e.value s ended not in
@@ -96,7 +96,7 @@ operand-there {Z} list (Some k) e = go (slice_get list k) refl e
     go (Some (Some c)) at e = (c, at)
 
 -- ---- what is needed
-need-below : {X : Type 0} (values : List (Option X)) (early : List Early) (n : ℕ) (operand need : Option ℕ) → IsNeeded values early n operand need → IfSome need (λ k. k < n)
+need-below : {X : Type 0} (values : List (Option X)) (early : List Early) (n : ℕ) (operand need : Option ℕ) → IsOperandKept values early n operand need → IfSome need (λ k. k < n)
 need-below values early n None None h = tt
 need-below values early n None (Some m) h = let f : Some m ≡ None = h in cc
 need-below values early n (Some i) None h = tt
@@ -107,36 +107,36 @@ needs-below steps values early n e are at = let h = are n e at in (need-below va
 
 module _ {Z : Type 0} (version : TextVersion) (steps : List Step) (values : List (Option (Box Held Z))) (early : List Early) (held : AreHeld version steps values) where
   -- what is needed is lent to the operation
-  lent-of : (n : ℕ) (results : List (Option (Option (Box Held Z)))) (operand need : Option ℕ) → IsNeeded values early n operand need → IfSome need (λ k. IsSomeAnd (kept results k) (Fits steps early k)) → IsLent (values_after [] steps) operand (needed_complex values results operand need)
+  lent-of : (n : ℕ) (results : List (Option (Option (Box Held Z)))) (operand need : Option ℕ) → IsOperandKept values early n operand need → IfSome need (λ k. IsSomeAnd (kept results k) (ShowsItsSet steps early k)) → IsLent (values_after [] steps) operand (needed_complex values results operand need)
   lent-of n results None need h there = tt
   lent-of n results (Some i) None (b, at) there = there-shown _ values i b at (held i b at).shows
   lent-of n results (Some i) (Some m) (low, (e, at, is)) there = go (kept results m) there
     where
-      inner : (o : Option (Box Held Z)) → IsSomeAnd o (λ b. IsNew (value_set steps e.value) b.value) → IsShown (operand (values_after [] steps) i) (complex_in o)
+      inner : (o : Option (Box Held Z)) → IsSomeAnd o (λ b. IsNewlyHeld (value_set steps e.value) b.value) → IsShown (operand (values_after [] steps) i) (complex_in o)
       inner None h = absurd h
       inner (Some b) h = subst (λ k. IsShown (value_set steps k) (Some b.value.complex)) is h.0
 
-      go : (o : Option (Option (Box Held Z))) → IsSomeAnd o (Fits steps early m) → IsShown (operand (values_after [] steps) i) (option_and_then complex_in o)
+      go : (o : Option (Option (Box Held Z))) → IsSomeAnd o (ShowsItsSet steps early m) → IsShown (operand (values_after [] steps) i) (option_and_then complex_in o)
       go None h = absurd h
       go (Some o) h = inner o (h e at)
 
-  pub lent-both : (n : ℕ) (e : Early) (s : Step) (results : List (Option (Option (Box Held Z)))) → AreEarly steps values early → slice_get early n ≡ Some e → slice_get steps e.value ≡ Some s → IsReady (Fits steps early) (first_need early n) (second_need early n) results
+  pub lent-both : (n : ℕ) (e : Early) (s : Step) (results : List (Option (Option (Box Held Z)))) → AreEarly steps values early → slice_get early n ≡ Some e → slice_get steps e.value ≡ Some s → IsReady (ShowsItsSet steps early) (first_need early n) (second_need early n) results
       → IsLent (values_after [] steps) (first_value s.task) (needed_complex values results (first_value s.task) e.needs.first) × IsLent (values_after [] steps) (second_value s.task) (needed_complex values results (second_value s.task) e.needs.second)
   lent-both n e s results are at seen there =
       let is = are n e at in
       let both : Some is.step ≡ Some s = sym is.at ∙ seen in
       let same : is.step ≡ s = cc in
-      let here = subst (λ z. IsReady (Fits steps early) (option_and_then (λ (d : Early). d.needs.first) z) (option_and_then (λ (d : Early). d.needs.second) z) results) at there in (
-        lent-of n results _ _ (subst (λ (z : Step). IsNeeded values early n (first_value z.task) e.needs.first) same is.first) here.0,
-        lent-of n results _ _ (subst (λ (z : Step). IsNeeded values early n (second_value z.task) e.needs.second) same is.second) here.1,
+      let here = subst (λ z. IsReady (ShowsItsSet steps early) (option_and_then (λ (d : Early). d.needs.first) z) (option_and_then (λ (d : Early). d.needs.second) z) results) at there in (
+        lent-of n results _ _ (subst (λ (z : Step). IsOperandKept values early n (first_value z.task) e.needs.first) same is.first) here.0,
+        lent-of n results _ _ (subst (λ (z : Step). IsOperandKept values early n (second_value z.task) e.needs.second) same is.second) here.1,
       )
 
   -- what the task of the n-th one makes fits it
-  pub fits-of : (n : ℕ) (e : Early) (s : Step) (o : Option (Box Held Z)) → AreSteps steps → slice_get early n ≡ Some e → slice_get steps e.value ≡ Some s → IsSomeAnd o (λ b. IsNew (made_of (values_after [] steps) s.task) b.value) → Fits steps early n o
+  pub fits-of : (n : ℕ) (e : Early) (s : Step) (o : Option (Box Held Z)) → AreSteps steps → slice_get early n ≡ Some e → slice_get steps e.value ≡ Some s → IsSomeAnd o (λ b. IsNewlyHeld (task_set (values_after [] steps) s.task) b.value) → ShowsItsSet steps early n o
   fits-of n e s o right at seen is d at-d =
       let both : Some e ≡ Some d = sym at ∙ at-d in
       let same : e ≡ d = cc in
-      subst (λ (z : Early). IsSomeAnd o (λ b. IsNew (value_set steps z.value) b.value)) same (subst (λ s. IsSomeAnd o (λ b. IsNew s b.value)) (sym (value-at steps e.value s right seen)) is)
+      subst (λ (z : Early). IsSomeAnd o (λ b. IsNewlyHeld (value_set steps z.value) b.value)) same (subst (λ s. IsSomeAnd o (λ b. IsNewlyHeld s b.value)) (sym (value-at steps e.value s right seen)) is)
 
 -- ---- what is made comes to its places
 pub put-none : {X : Type 0} (early : List Early) (things list : List (Option X)) → ArePut early things list list
@@ -152,7 +152,7 @@ put-more early things old list n e x at seen within put = record {
 }
 
 module _ {Z : Type 0} (version : TextVersion) (steps : List Step) (now : ℕ) (early : List Early) (things old new : List (Option (Box Held Z))) (are : AreEarly steps old early)
-    (fits : (n : ℕ) (o : Option (Box Held Z)) → slice_get things n ≡ Some o → Fits steps early n o) (put : ArePut early things old new) where
+    (fits : (n : ℕ) (o : Option (Box Held Z)) → slice_get things n ≡ Some o → ShowsItsSet steps early n o) (put : ArePut early things old new) where
   -- what is kept is right
   pub placed-held : AreHeld version steps old → AreHeld version steps new
   placed-held held k b at = elim (put.only k (Some b) at) [

@@ -1,5 +1,5 @@
 -- Output that grows by one piece after another.
-use Rattle.nef_shell.proofs.Prelude.{◌≡◌, ◌↔◌, ℕ, zero, suc, ◌+◌, ◌<◌, Bool, true, false, refl, sym, ap, ◌∙◌, List, [], ◌∷◌, ◌++◌, length, take, Option, Some, None, Result, Err, append_assoc, append-nil, subst, get_or, inl, inr, take_more, take-append-drop, IsTrue, SameSet, Place, InFrame, Set, Grows, GrowsWithin, TextVersion, Node, Step, asked_values, asked_values-append, Command, Status, OutOfMemory, FrontOf, WorkEnds, IsSameAnswer, IsJoinedAnswer, grows_within-none, IsPiece, IsOutput, same_answer, joined_answer}
+use Rattle.nef_shell.proofs.Prelude.{◌≡◌, ◌↔◌, ℕ, zero, suc, ◌+◌, ◌<◌, Bool, true, false, refl, sym, ap, ◌∙◌, List, [], ◌∷◌, ◌++◌, length, take, Option, Some, None, Result, Err, append_assoc, append-nil, subst, get_or, inl, inr, take_more, take-append-drop, IsTrue, SameSet, SpacePoint, InFrame, Set, Grows, GrowsWithin, TextVersion, Node, Step, asked_values, asked_values-append, Command, Status, OutOfMemory, FrontOf, WorkEnds, IsSameAnswer, IsJoinedAnswer, grows_within-none, IsPiece, IsOutput, same_answer, joined_answer}
 use Rattle.std.proofs.Common.{drop}
 use Rattle.std.proofs.Math.Seq.{take-append-add}
 use Rattle.nef_space.specs.Local.{Joined}
@@ -76,6 +76,6 @@ same-piece s t true e = inl (e.0 refl, refl)
 same-piece s t false e = inr (λ h. (let f : false ≡ true = e.1 h in cc), refl)
 
 -- the answer says whether the two points are joined
-pub joined-piece : (s : Set) (p q : Place) (joined : Bool) → InFrame p → InFrame q → IsTrue joined ↔ Joined s p q → IsJoinedAnswer s p q (joined_answer joined)
+pub joined-piece : (s : Set) (p q : SpacePoint) (joined : Bool) → InFrame p → InFrame q → IsTrue joined ↔ Joined s p q → IsJoinedAnswer s p q (joined_answer joined)
 joined-piece s p q true P Q e = IsJoinedAnswer.joined P Q (e.0 refl) refl
 joined-piece s p q false P Q e = IsJoinedAnswer.apart P Q (λ h. (let f : false ≡ true = e.1 h in cc)) refl

@@ -1,5 +1,5 @@
 -- A command has one piece, and the text in it tells its set.
-use Rattle.nef_shell.proofs.Prelude.{◌≡◌, ℕ, refl, ap, sym, ◌∙◌, subst, List, [], ◌∷◌, ◌++◌, length, codes, append_assoc, append_cancel_left, append_cancel_right, SameSet, Set, label-one, place_of, vector_of, TextVersion, text, Node, node_set, Command, Bind, Has, Joined, Ray, Same, Count, Print, framed, line_end, answer_of, IsWrittenOf, same-texts, counted-one, text-spells, text-holds, IsPiece, IsOutput, printed}
+use Rattle.nef_shell.proofs.Prelude.{◌≡◌, ℕ, refl, ap, sym, ◌∙◌, subst, List, [], ◌∷◌, ◌++◌, length, codes, append_assoc, append_cancel_left, append_cancel_right, SameSet, Set, label-one, point_of, vector_of, TextVersion, text, Node, node_set, Command, Bind, Has, Joined, Ray, Same, Count, Print, framed, line_end, answer_of, IsWrittenOf, same-texts, counted-one, text-spells, text-holds, IsPiece, IsOutput, printed}
 use Rattle.nef_script.specs.declared.script.Command.TheVariants.{Turn}
 use Rattle.nef_statement.proofs.Alike.{same-self}
 use Rattle.nef_statement.proofs.Answered.{answered-one, joined-one, ended-one}
@@ -17,9 +17,9 @@ printed-one version s t name x y same (c, p, S, P, e) (d, q, T, Q, f) =
 piece-one : (version : TextVersion) (nodes : List Node) (c : Command) (x y : List ℕ) → IsPiece version nodes c x → IsPiece version nodes c y → x ≡ y
 piece-one version nodes (Bind _ k) x y a b = a ∙ sym b
 piece-one version nodes (Turn _ k i t) x y a b = a ∙ sym b
-piece-one version nodes (Has _ k p) x y (l, has, e) (m, also, f) = e ∙ ap answer_of (label-one (node_set nodes k) (place_of p) l m has also) ∙ sym f
-piece-one version nodes (Joined _ k p q) x y a b = joined-one (node_set nodes k) (place_of p) (place_of q) x y a b
-piece-one version nodes (Ray _ k p d) x y a b = ended-one (node_set nodes k) (place_of p) (vector_of d) x y a b
+piece-one version nodes (Has _ k p) x y (l, has, e) (m, also, f) = e ∙ ap answer_of (label-one (node_set nodes k) (point_of p) l m has also) ∙ sym f
+piece-one version nodes (Joined _ k p q) x y a b = joined-one (node_set nodes k) (point_of p) (point_of q) x y a b
+piece-one version nodes (Ray _ k p d) x y a b = ended-one (node_set nodes k) (point_of p) (vector_of d) x y a b
 piece-one version nodes (Same _ i j) x y a b = answered-one (node_set nodes i) (node_set nodes j) x y a b
 piece-one version nodes (Count _ k) x y a b = counted-one (node_set nodes k) (node_set nodes k) x y (same-self (node_set nodes k)) a b
 piece-one version nodes (Print _ k name) x y a b = printed-one version (node_set nodes k) (node_set nodes k) name x y (same-self (node_set nodes k)) a b

@@ -1,5 +1,5 @@
 -- What is written of the questions among commands is what is written of all of them.
-use Rattle.nef_shell.proofs.Prelude.{◌≡◌, ℕ, zero, suc, Bool, true, false, refl, sym, subst, List, [], ◌∷◌, ◌++◌, length, take, Option, None, Some, Result, Ok, Err, arith, All, cond, filter, slice_get, TextVersion, Node, Step, Task, Make, Ask, is_question, AreAnswered, IsAnswered, asked_values, questions_of, AreAsked, AsksOf, Command, Bind, Has, Joined, Ray, Same, Count, Print, IsWithin, Status, IsPiece, IsOutput, WorkEnds}
+use Rattle.nef_shell.proofs.Prelude.{◌≡◌, ℕ, zero, suc, Bool, true, false, refl, sym, subst, List, [], ◌∷◌, ◌++◌, length, take, Option, None, Some, Result, Ok, Err, arith, All, cond, filter, slice_get, TextVersion, Node, Step, Task, Make, Ask, is_question, AreAnswered, IsAnswered, asked_values, questions_of, AreAsked, AsksOf, Command, Bind, Has, Joined, Ray, Same, Count, Print, SpeaksOfFirst, Status, IsPiece, IsOutput, WorkEnds}
 use Rattle.nef_plan.specs.declared.step.Task.TheVariants as task
 use Rattle.nef_script.specs.declared.script.Command.TheVariants.{Turn}
 
@@ -84,10 +84,10 @@ each-asked P (d ∷ steps) all i s e = by d.task refl all i e (λ others j f. ea
     by (task.Turn j t) is all (suc i) e later = later all i e
     by (Ask c j second) is all (suc i) e later = later (all-tail P c.now _ all) i e
 
-pub are-asked : (nodes : List Node) (commands : List Command) (steps : List Step) → All (IsWithin (length nodes)) commands → AreAnswered nodes commands steps → AreAsked nodes steps
-are-asked nodes commands steps within answered i s at = both s.task (answered.right i s at) (each-asked (IsWithin (length nodes)) steps (subst (All (IsWithin (length nodes))) (sym answered.asked) (all-filter (IsWithin (length nodes)) commands within)) i s at)
+pub are-asked : (nodes : List Node) (commands : List Command) (steps : List Step) → All (SpeaksOfFirst (length nodes)) commands → AreAnswered nodes commands steps → AreAsked nodes steps
+are-asked nodes commands steps within answered i s at = both s.task (answered.right i s at) (each-asked (SpeaksOfFirst (length nodes)) steps (subst (All (SpeaksOfFirst (length nodes))) (sym answered.asked) (all-filter (SpeaksOfFirst (length nodes)) commands within)) i s at)
   where
-    both : (t : Task) → IsAnswered nodes steps t → HasEach (IsWithin (length nodes)) t → AsksOf nodes steps t
+    both : (t : Task) → IsAnswered nodes steps t → HasEach (SpeaksOfFirst (length nodes)) t → AsksOf nodes steps t
     both (Make m) a b = tt
     both (task.Turn j t) a b = tt
     both (Ask c j second) a b = (a, b)

@@ -1,5 +1,5 @@
 -- The sets of values, of which tasks make others.
-use Rattle.nef_shell.proofs.Prelude.{◌≡◌, ◌⊎◌, ◌∙◌, ℕ, zero, suc, ◌+◌, ◌<◌, arith, ap, refl, sym, subst, List, [], ◌∷◌, ◌++◌, length, Option, Some, None, inl, inr, Bor, turned_set, Set, Shape, shape_of, operand, UsesBelow, Uses, set_of-same, Step, Task, Make, Turn, Ask, AreSteps, LooksAtValue, MakesValue, first_of, first_value, made_of, second_of, second_value, value_set, values_after, value-before, value-here, Command}
+use Rattle.nef_shell.proofs.Prelude.{◌≡◌, ◌⊎◌, ◌∙◌, ℕ, zero, suc, ◌+◌, ◌<◌, arith, ap, refl, sym, subst, List, [], ◌∷◌, ◌++◌, length, Option, Some, None, inl, inr, Bor, turned_set, Set, Shape, shape_of, operand, UsesBelow, Uses, set_of-same, Step, Task, Make, Turn, Ask, AreSteps, LooksAtValue, MakesValue, first_of, first_value, task_set, second_of, second_value, value_set, values_after, value-before, value-here, Command}
 use Rattle.std.proofs.Common.{slice_get}
 
 -- ---- what a task looks at
@@ -45,7 +45,7 @@ makes-unless (Turn j n) h = tt
 makes-unless (Ask c i second) h = h c i second refl
 
 -- ---- what it makes
-same-made : (n : ℕ) (ss ts : List Set) (t : Task) → ((k : ℕ) → k < n → operand ss k ≡ operand ts k) → ((k : ℕ) → LooksAtValue t k → k < n) → made_of ss t ≡ made_of ts t
+same-made : (n : ℕ) (ss ts : List Set) (t : Task) → ((k : ℕ) → k < n → operand ss k ≡ operand ts k) → ((k : ℕ) → LooksAtValue t k → k < n) → task_set ss t ≡ task_set ts t
 same-made n ss ts (Make m) same below = set_of-same n ss ts m same (uses-below n (shape_of m) below)
 same-made n ss ts (Turn j k) same below = ap (turned_set k) (same j (below j refl))
 same-made n ss ts (Ask c i second) same below = refl
@@ -56,8 +56,8 @@ split (y ∷ xs) zero x e = ([], xs, (let same : y ≡ x = cc in ap (λ z. z ∷
 split (y ∷ xs) (suc i) x e = let (front, rest, whole, place) = split xs i x e in (y ∷ front, rest, ap (λ z. y ∷ z) whole, ap suc place)
 
 -- the value of a step is what its task makes of the values of all
-pub value-at : (steps : List Step) (i : ℕ) (s : Step) → AreSteps steps → slice_get steps i ≡ Some s → value_set steps i ≡ made_of (values_after [] steps) s.task
+pub value-at : (steps : List Step) (i : ℕ) (s : Step) → AreSteps steps → slice_get steps i ≡ Some s → value_set steps i ≡ task_set (values_after [] steps) s.task
 value-at steps i s right at =
     let (front, rest, whole, place) = split steps i s at in
-    subst (λ (z : List Step × ℕ). value_set z.0 z.1 ≡ made_of (values_after [] z.0) s.task) (λ t. (sym whole t, place t))
+    subst (λ (z : List Step × ℕ). value_set z.0 z.1 ≡ task_set (values_after [] z.0) s.task) (λ t. (sym whole t, place t))
     (value-here front rest s ∙ same-made (length front) _ _ s.task (λ k low. sym (value-before front (s ∷ rest) k low)) (λ k looks. let low = (right.made_before i s at k looks).1 in omega (arith, low, place)))

@@ -1,12 +1,12 @@
 -- What each status says, from what the calls below say.
-use Rattle.nef_shell.proofs.Prelude.{◌≡◌, ℕ, refl, ap, ◌∙◌, sym, subst, List, [], Option, Some, None, inl, inr, Rose, Grows, GrowsWithin, lines_of, ScriptKind, FirstRefusal, IsAccepted, Options, options_in, Status, Done, Refused, Words, ReadFault, WriteFault, OutOfMemory, ReadSource, IsRead, Means, refusal_line, words_line, AreSaid, IsMeant, WroteFront, Ended, RunSays, IsText, Traffic, Streams, grows_within-longer, source-read, read-none, read-not_refused, IsScriptFor, HasNoScript, HasOutput, HasFront, HasEnded, RunEnds}
+use Rattle.nef_shell.proofs.Prelude.{◌≡◌, ℕ, refl, ap, ◌∙◌, sym, subst, List, [], Option, Some, None, inl, inr, Rose, Grows, GrowsWithin, lines_of, ScriptKind, FirstRefusal, IsAccepted, Options, options_in, Status, Done, Refused, Words, ReadFault, WriteFault, OutOfMemory, ReadSource, AreBytesRead, Means, refusal_line, words_line, AreSaid, IsMeant, WroteFront, Ended, RunSays, IsText, Traffic, Streams, grows_within-longer, source-read, read-none, read-not_refused, IsScriptFor, HasNoScript, HasOutput, HasFront, HasEnded, RunEnds}
 use Rattle.nef_statement.proofs.Stated.{whole-output}
 use Rattle.nef_shell.specs.Status.{MatchStatus}
 use Rattle.nef_shell.proofs.Pieces.{texts-compared, texts-meant}
 use Rattle.nef_shell.proofs.Walk.{output-said, front-said}
 
 -- the statuses of a refused script
-pub refused-status : (words : List (List ℕ)) (s : Status) (io : Traffic) (bytes : List ℕ) (line : ℕ) (kind : ScriptKind) → ReadSource words → IsRead io.before.rest io.after.rest bytes → FirstRefusal bytes line kind → io.after.read_faults ≡ io.before.read_faults
+pub refused-status : (words : List (List ℕ)) (s : Status) (io : Traffic) (bytes : List ℕ) (line : ℕ) (kind : ScriptKind) → ReadSource words → AreBytesRead io.before.rest io.after.rest bytes → FirstRefusal bytes line kind → io.after.read_faults ≡ io.before.read_faults
     → MatchStatus s ⊥ (λ l k. (l ≡ line) × (k ≡ kind) × Grows io.before.written io.after.written (refusal_line line kind) × (io.after.write_faults ≡ io.before.write_faults)) ⊥ ⊥ (Rose io.before.write_faults io.after.write_faults × GrowsWithin io.before.written io.after.written (refusal_line line kind)) ((io.after.written ≡ io.before.written) × (io.after.write_faults ≡ io.before.write_faults))
     → HasEnded words s io
 refused-status words Done io bytes line kind source read refused reads h = absurd h

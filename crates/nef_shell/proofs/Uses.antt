@@ -1,5 +1,5 @@
 -- At which values later steps look, and what is kept when a step is worked.
-use Rattle.nef_shell.proofs.Prelude.{◌≡◌, ◌⊎◌, ◌∙◌, ℕ, zero, suc, ◌+◌, ◌<◌, ◌≤◌, true, arith, ap, refl, sym, subst, List, [], ◌∷◌, length, Option, Some, None, IsSomeAnd, slice_set, inl, inr, cases_eq, cases_lt, length-set, get_set_here, get_set_other, Shape, shape_of, Uses, Step, Task, Make, Turn, Ask, AreSteps, IsAwaited, IsEndedAt, LooksAtValue, MakesValue, first_value, second_value, IsThere, AreLess, AreMore, AreReady, HasDone, IsLastUse, IsLean, IsLet}
+use Rattle.nef_shell.proofs.Prelude.{◌≡◌, ◌⊎◌, ◌∙◌, ℕ, zero, suc, ◌+◌, ◌<◌, ◌≤◌, true, arith, ap, refl, sym, subst, List, [], ◌∷◌, length, Option, Some, None, IsSomeAnd, slice_set, inl, inr, cases_eq, cases_lt, length-set, get_set_here, get_set_other, Shape, shape_of, Uses, Step, Task, Make, Turn, Ask, AreSteps, IsAwaited, IsEndedAt, LooksAtValue, MakesValue, first_value, second_value, IsThere, AreLess, AreMore, AreAwaitedKept, HasDone, IsLastUse, IsLean, IsLet}
 use Rattle.std.proofs.Common.{slice_get}
 use Rattle.nef_shell.proofs.Kept.{put-only}
 use Rattle.nef_shell.proofs.Sets.{looks-some}
@@ -70,7 +70,7 @@ module _ (steps : List Step) (n : ℕ) (s : Step) (ended : IsEndedAt steps n s) 
   awaited-made not = elim (awaited-or-not steps (n + 1) n) [ inl awaited ↦ awaited | inr none ↦ absurd (not (ended.made.1 (one-value n (Some n) refl none))) ]
 
   module _ {X : Type 0} (at : slice_get steps n ≡ Some s) (right : AreSteps steps) (old mid new : List (Option X)) (done : HasDone steps n old mid) (less : AreLess (IsLet s n) mid new) where
-    pub ready-next : AreReady steps n old → AreReady steps (n + 1) new
+    pub ready-next : AreAwaitedKept steps n old → AreAwaitedKept steps (n + 1) new
     ready-next ready k low awaited = let (x, there) = before in (x, less.stays k x (λ lets. let-ends k lets awaited) there)
       where
         before : IsThere mid k
@@ -117,7 +117,7 @@ done-put steps n s old mid (Some x) P ended within less is = record {
 }
 
 -- ---- values that are worked ahead
-pub ready-more : {X : Type 0} (steps : List Step) (n : ℕ) (old new : List (Option X)) → AreMore steps n old new → AreReady steps n old → AreReady steps n new
+pub ready-more : {X : Type 0} (steps : List Step) (n : ℕ) (old new : List (Option X)) → AreMore steps n old new → AreAwaitedKept steps n old → AreAwaitedKept steps n new
 ready-more steps n old new more ready k low awaited = more.stays k (ready k low awaited)
 
 pub lean-more : {X : Type 0} (steps : List Step) (n : ℕ) (old new : List (Option X)) → AreMore steps n old new → IsLean steps n old → IsLean steps n new

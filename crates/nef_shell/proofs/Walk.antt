@@ -1,5 +1,5 @@
 -- What the commands of a script write is what its lines say.
-use Rattle.nef_shell.proofs.Prelude.{◌≡◌, ℕ, zero, suc, ◌+◌, Bool, true, false, List, [], ◌∷◌, ◌++◌, length, take, Some, refl, sym, subst, Set, vector, place_at, place_of, vector_of, same-place_sym, lines_of, words_of, TextVersion, Node, node_set, IsOrdered, binds, Names, Sets, IsBinding, MeansCommand, MeansWords, MeansLines, MeansScript, has_words, bases_of, Verb, Command, Bind, Has, Joined, Ray, Same, Count, Print, text, Bindings, bound_set, bound_after, IsSaid, IsSaidBy, AreSaid, IsText, count-tells, IsPiece, IsOutput, SameDirection-turned}
+use Rattle.nef_shell.proofs.Prelude.{◌≡◌, ℕ, zero, suc, ◌+◌, Bool, true, false, List, [], ◌∷◌, ◌++◌, length, take, Some, refl, sym, subst, Set, vector, point_at, point_of, vector_of, same-point_sym, lines_of, words_of, TextVersion, Node, node_set, IsOrdered, binds, NamesNode, Sets, IsBinding, MeansCommand, MeansWords, MeansLines, MeansScript, has_words, bases_of, Verb, Command, Bind, Has, Joined, Ray, Same, Count, Print, text, Bindings, bound_set, bound_after, IsSaid, IsSaidBy, AreSaid, IsText, count-tells, IsPiece, IsOutput, SameDirection-turned}
 use Rattle.nef_script.specs.declared.arguments.Verb.TheVariants as verb
 use Rattle.nef_script.specs.declared.script.Command.TheVariants.{Turn}
 use Rattle.nef_statement.proofs.Bound.{names_in, Agree, IsFound, named, bound-same}
@@ -9,7 +9,7 @@ use Rattle.nef_statement.proofs.Walk.{no-words, Walked, begun, next, after-empty
 
 -- ---- one line
 module _ (version : TextVersion) (ss : Sets) (ordered : IsOrdered ss.nodes) (sets : Bindings) (agree : Agree ss.nodes sets ss.bound) where
-  of : (word : List ℕ) (k : ℕ) → Names (names_in sets) ss.bound word k → IsFound ss.nodes sets word k
+  of : (word : List ℕ) (k : ℕ) → NamesNode (names_in sets) ss.bound word k → IsFound ss.nodes sets word k
   of word k h = named ss.nodes word sets ss.bound k agree h
 
   like : (c d : Command) (x : List ℕ) → c ≡ d → IsPiece version ss.nodes c x → IsPiece version ss.nodes d x
@@ -37,15 +37,15 @@ module _ (version : TextVersion) (ss : Sets) (ordered : IsOrdered ss.nodes) (set
   says bases line verb.Has (name ∷ x ∷ y ∷ z ∷ w ∷ []) c r (k, p, is, (proper, at), e) h =
       let (s, found, same) = of name k is in
       let (l, has, f) = like c (Has line k p) r e h in
-      (s, found, (proper, (l, label-moved s (place_of p) (place_at _ _ _ _ proper) l (same-place_sym _ _ at) ((same (place_of p) l).1 has), f)))
+      (s, found, (proper, (l, label-moved s (point_of p) (point_at _ _ _ _ proper) l (same-point_sym _ _ at) ((same (point_of p) l).1 has), f)))
   says bases line verb.Joined (name ∷ x ∷ y ∷ z ∷ w ∷ x2 ∷ y2 ∷ z2 ∷ w2 ∷ []) c r (k, p, q, is, (proper, at), (proper', at'), e) h =
       let (s, found, same) = of name k is in
-      let answer = joined-answer s (node_set ss.nodes k) (place_of p) (place_of q) r same (like c (Joined line k p q) r e h) in
-      (s, found, (proper, (proper', joined-answer-moved s (place_of p) (place_of q) (place_at _ _ _ _ proper) (place_at _ _ _ _ proper') r (same-place_sym _ _ at) (same-place_sym _ _ at') answer)))
+      let answer = joined-answer s (node_set ss.nodes k) (point_of p) (point_of q) r same (like c (Joined line k p q) r e h) in
+      (s, found, (proper, (proper', joined-answer-moved s (point_of p) (point_of q) (point_at _ _ _ _ proper) (point_at _ _ _ _ proper') r (same-point_sym _ _ at) (same-point_sym _ _ at') answer)))
   says bases line verb.Ray (name ∷ x ∷ y ∷ z ∷ w ∷ dx ∷ dy ∷ dz ∷ []) c r (k, p, d, is, (proper, at), toward, e) h =
       let (s, found, same) = of name k is in
-      let answer = ray-answer s (node_set ss.nodes k) (place_of p) (vector_of d) r same (like c (Ray line k p d) r e h) in
-      (s, found, (proper, ray-answer-moved s (place_of p) (place_at _ _ _ _ proper) (vector_of d) (vector _ _ _) r (same-place_sym _ _ at) (SameDirection-turned _ _ toward) answer))
+      let answer = ray-answer s (node_set ss.nodes k) (point_of p) (vector_of d) r same (like c (Ray line k p d) r e h) in
+      (s, found, (proper, ray-answer-moved s (point_of p) (point_at _ _ _ _ proper) (vector_of d) (vector _ _ _) r (same-point_sym _ _ at) (SameDirection-turned _ _ toward) answer))
   says bases line verb.Same (left ∷ right ∷ []) c r (i, j, is, also, e) h =
       let (s, found, same) = of left i is in
       let (t, there, one) = of right j also in

@@ -9,7 +9,7 @@ use Rattle.nef_script.specs.declared.script.ScriptKind.{ScriptKind}
 use Rattle.nef_script.specs.Prelude.{FirstRefusal, IsAccepted, MeansScript, stairs_text}
 use Rattle.nef_statement.specs.declared.status.Status.{Status}
 use Rattle.nef_statement.specs.Output.{refusal_line}
-use Rattle.nef_statement.specs.Means.{ReadSource, IsRead}
+use Rattle.nef_statement.specs.Means.{ReadSource, AreBytesRead}
 use Rattle.nef_statement.specs.Traffic.{Traffic}
 use Rattle.nef_shell.specs.Output.{IsOutput}
 use Rattle.nef_shell.specs.Status.{MatchStatus}
@@ -29,7 +29,7 @@ IsScriptFor (Some n) old new bytes = (bytes ≡ stairs_text n) × (new ≡ old)
 pub record HasNoScript (stairs : Option ℕ) (old new : Option (List ℕ)) (faults faults' : ℕ) (status : Status) : Type 0 where
   pub said : MatchStatus status
       ⊥
-      (λ line kind. (stairs ≡ None) × ((bytes : List ℕ) × IsRead old new bytes × FirstRefusal bytes line kind × (faults' ≡ faults)))
+      (λ line kind. (stairs ≡ None) × ((bytes : List ℕ) × AreBytesRead old new bytes × FirstRefusal bytes line kind × (faults' ≡ faults)))
       ⊥
       ((stairs ≡ None) × Rose faults faults')
       ⊥
@@ -44,7 +44,7 @@ pub record IsQuiet (io : Traffic) : Type 0 where
 pub record HasRefusal (words : List (List ℕ)) (io : Traffic) (line : ℕ) (kind : ScriptKind) : Type 0 where
   pub source : ReadSource words
   pub bytes : List ℕ
-  pub read : IsRead io.before.rest io.after.rest bytes
+  pub read : AreBytesRead io.before.rest io.after.rest bytes
   pub refused : FirstRefusal bytes line kind
   pub written : Grows io.before.written io.after.written (refusal_line line kind)
 
@@ -63,7 +63,7 @@ pub record HasOutput (words : List (List ℕ)) (io : Traffic) : Type 0 where
 
 -- some front of what the script defines: of the line of its refusal, where the source had it, or of the output of some number of its first commands
 pub data HasFront (words : List (List ℕ)) (io : Traffic) : Type 0 where
-  of_refusal : (bytes : List ℕ) (line : ℕ) (kind : ScriptKind) → ReadSource words → IsRead io.before.rest io.after.rest bytes → FirstRefusal bytes line kind → GrowsWithin io.before.written io.after.written (refusal_line line kind) → HasFront words io
+  of_refusal : (bytes : List ℕ) (line : ℕ) (kind : ScriptKind) → ReadSource words → AreBytesRead io.before.rest io.after.rest bytes → FirstRefusal bytes line kind → GrowsWithin io.before.written io.after.written (refusal_line line kind) → HasFront words io
   of_output : (options : Options) (bytes : List ℕ) (nodes : List Node) (commands : List Command) (count : ℕ) (output : List ℕ) → options_in words ≡ Some options → IsScriptFor options.stairs io.before.rest io.after.rest bytes → IsWorked bytes nodes commands → IsOutput options.text nodes (take count commands) output → GrowsWithin io.before.written io.after.written output → HasFront words io
 
 -- what each status says of a run with accepted words

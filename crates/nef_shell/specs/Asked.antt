@@ -1,6 +1,6 @@
 -- What the questions of steps ask about.
 use Rattle.std.specs.Prelude.{◌≡◌, ℕ, List, Option, Some, None, length, slice_get}
-use Rattle.nef_plan.specs.Prelude.{Set, Node, node_set, Command, IsWithin, first_asked, second_asked}
+use Rattle.nef_plan.specs.Prelude.{Set, Node, node_set, Command, SpeaksOfFirst, first_asked, second_asked}
 use Rattle.nef_plan.specs.declared.step.Step.{Step}
 use Rattle.nef_plan.specs.declared.step.Task.{Task}
 use Rattle.nef_plan.specs.declared.step.Task.TheVariants.{Make, Turn, Ask}
@@ -10,7 +10,7 @@ use Rattle.nef_plan.specs.Values.{AsksRight}
 abbrev pub AsksOf : List Node → List Step → Task → Type 0
 AsksOf nodes steps (Make m) = Unit {0}
 AsksOf nodes steps (Turn j t) = Unit {0}
-AsksOf nodes steps (Ask c i second) = AsksRight nodes steps c.now i second × IsWithin (length nodes) c.now
+AsksOf nodes steps (Ask c i second) = AsksRight nodes steps c.now i second × SpeaksOfFirst (length nodes) c.now
 
 abbrev pub AreAsked : List Node → List Step → Type 0
 AreAsked nodes steps = (i : ℕ) (s : Step) → slice_get steps i ≡ Some s → AsksOf nodes steps s.task

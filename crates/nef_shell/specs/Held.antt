@@ -15,8 +15,8 @@ pub record IsHeld (version : TextVersion) (s : Set) (h : Held) : Type 0 where
   pub text : IfSome h.text (λ x. Text version h.complex x.items)
 
 -- the complex shows the set, and neither parts nor text are kept
-abbrev pub IsNew : Set → Held → Type 0
-IsNew s h = ShowsSet s h.complex × (h.parts ≡ None) × (h.text ≡ None)
+abbrev pub IsNewlyHeld : Set → Held → Type 0
+IsNewlyHeld s h = ShowsSet s h.complex × (h.parts ≡ None) × (h.text ≡ None)
 
 -- the same without parts
 abbrev pub without_parts : Held → Held

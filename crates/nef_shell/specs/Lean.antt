@@ -2,7 +2,7 @@
 use Rattle.std.specs.Prelude.{◌≡◌, ◌⊎◌, ℕ, ◌+◌, ◌<◌, true, List, Option, Some, Box, length, slice_get}
 use Rattle.nef_core.specs.declared.work.TextVersion.{TextVersion}
 use Rattle.nef_plan.specs.declared.step.Step.{Step}
-use Rattle.nef_plan.specs.Values.{AreEnds, AreSteps, IsAwaited, MakesValue, first_value, second_value}
+use Rattle.nef_plan.specs.Values.{AreEndedAt, AreSteps, IsAwaited, MakesValue, first_value, second_value}
 use Rattle.nef_shell.specs.declared.held.Held.{Held}
 use Rattle.nef_shell.specs.Held.{AreHeld, IsThere}
 
@@ -11,20 +11,20 @@ abbrev pub IsLean : {X : Type 0} → List Step → ℕ → List (Option X) → T
 IsLean steps n list = (k : ℕ) → IsThere list k → IsAwaited steps n k
 
 -- and each value of these steps at which a later one looks is kept
-abbrev pub AreReady : {X : Type 0} → List Step → ℕ → List (Option X) → Type 0
-AreReady steps n list = (k : ℕ) → k < n → IsAwaited steps n k → IsThere list k
+abbrev pub AreAwaitedKept : {X : Type 0} → List Step → ℕ → List (Option X) → Type 0
+AreAwaitedKept steps n list = (k : ℕ) → k < n → IsAwaited steps n k → IsThere list k
 
 -- the steps look at values of earlier ones, and say which they end; each has a place among the values, and what is kept there is right
 pub record ArePlaced {Z : Type 0} (version : TextVersion) (steps : List Step) (values : List (Option (Box Held Z))) : Type 0 where
   pub right : AreSteps steps
-  pub ends : AreEnds steps
+  pub ends : AreEndedAt steps
   pub count : length values ≡ length steps
   pub held : AreHeld version steps values
 
 -- so the values stand when the first n steps are worked, and what later ones need of these is kept
 pub record StandAt {Z : Type 0} (version : TextVersion) (steps : List Step) (n : ℕ) (values : List (Option (Box Held Z))) : Type 0 where
   pub placed : ArePlaced version steps values
-  pub ready : AreReady steps n values
+  pub ready : AreAwaitedKept steps n values
 
 -- nothing comes, and nothing goes but under these numbers
 pub record AreLess {X : Type 0} (MayGo : ℕ → Type 0) (old new : List (Option X)) : Type 0 where

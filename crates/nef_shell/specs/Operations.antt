@@ -5,12 +5,12 @@ use Rattle.law_turns.specs.Turned.{turned_set}
 use Rattle.nef_complex.specs.declared.complex.Complex.{Complex}
 use Rattle.nef_expr.specs.Nodes.{operand}
 use Rattle.nef_ops.specs.Nodes.{constant_set, unary_set}
-use Rattle.nef_shell.specs.declared.operation.Means.{Means}
+use Rattle.nef_shell.specs.declared.operation.Resources.{Resources}
 use Rattle.nef_shell.specs.declared.operation.Operation.{Operation}
 use Rattle.nef_shell.specs.declared.operation.Operation.TheVariants.{Constant, Half, Unary, Binary, Turned}
 
 -- what operations are worked with: a complex of the whole frame
-abbrev pub AreMeans : {G : Type 0} → Means G → Type 0
+abbrev pub AreMeans : {G : Type 0} → Resources G → Type 0
 AreMeans means = ShowsSet Set.full means.whole.now
 
 -- the complex is there, and shows the set

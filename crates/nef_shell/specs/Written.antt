@@ -1,6 +1,6 @@
 -- What is written of sets tells which sets are one, and which points belong to them.
 use Rattle.std.specs.Prelude.{◌≡◌, ◌↔◌}
-use Rattle.nef_space.specs.Prelude.{ℕ, List, SameSet, Place, InFrame, Set, Holds}
+use Rattle.nef_space.specs.Prelude.{ℕ, List, SameSet, SpacePoint, InFrame, Set, Holds}
 use Rattle.law_complex.specs.Belongs.{Belongs}
 use Rattle.nef_complex.specs.declared.complex.Complex.{Complex}
 use Rattle.nef_complex.specs.Complexes.{complex_of}
@@ -21,7 +21,7 @@ PiecesAreOne = (version : TextVersion) (s t : Set) (name x y : List ℕ) → Sam
 -- the text spells some complex, and a point of the frame belongs to each complex that it spells exactly where the set holds
 pub record TextTells (version : TextVersion) (s : Set) (x : List ℕ) : Type 0 where
   pub spelled : (d : Complex) × Spells version x d
-  pub holds : (d : Complex) (y : Place) → Spells version x d → InFrame y → Belongs (complex_of d) y ↔ Holds s y
+  pub holds : (d : Complex) (y : SpacePoint) → Spells version x d → InFrame y → Belongs (complex_of d) y ↔ Holds s y
 
 -- so does the text of each set
 abbrev pub TextHolds : Type 0

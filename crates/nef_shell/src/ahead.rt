@@ -1,11 +1,11 @@
 //! Works values of a block of steps ahead of it, side by side.
 
 ghost use Rattle.std.specs.Prelude.{◌≡◌, ◌≤◌, ◌<◌};
-ghost use Rattle.nef_shell.specs.Prelude.{ℕ, IfOk, OnOk, length, slice_get, vec_len, Some, AreEnds, AreSteps, Early, AreEarly, AreLate, ArePut, AreMore, ArePlaced, AreMeans};
+ghost use Rattle.nef_shell.specs.Prelude.{ℕ, IfOk, OnOk, length, slice_get, vec_len, Some, AreEndedAt, AreSteps, Early, AreEarly, AreLate, ArePut, AreMore, ArePlaced, AreMeans};
 
 use crate::early::{Early, add_early, of_block, work_early};
 use crate::held::Value;
-use crate::operation::Means;
+use crate::operation::Resources;
 use crate::values::put_at;
 use nef_io::Gate;
 use nef_plan::Step;
@@ -85,7 +85,7 @@ fn early_values(
     now: usize,
 ) -> Result<Vec<Early>, AllocError>
     requires steps { AreSteps steps.now }
-    requires ends { AreEnds steps.now }
+    requires ends { AreEndedAt steps.now }
     ensures early { IfOk result (λ v. AreEarly steps.now values.now v.items) }
     ensures late { IfOk result (λ v. AreLate now v.items) }
 {
@@ -122,7 +122,7 @@ pub(crate) fn work_ahead<R: Threads + Wait + Sync, G: Gate + Sync>(
     values: &mut [Value],
     steps: &[Step],
     now: usize,
-    means: &Means<G>,
+    means: &Resources<G>,
 ) -> Result<(), AllocError>
     requires means { AreMeans means.now }
     requires placed { ArePlaced means.now.options.text steps.now values.old }

@@ -3,15 +3,15 @@
 ghost use Rattle.std.specs.Prelude.{◌≡◌, ◌+◌, ◌<◌, ◌∷◌, ◌++◌};
 ghost use Rattle.nef_complex.specs.Prelude.{ℕ, true, IfOk, IfSome, OnOk, Some, None, length, slice_get, vec_len, [], option_copied};
 ghost use Rattle.nef_plan.specs.declared.step.Step.{Step as PlannedStep};
-ghost use Rattle.nef_plan.specs.Values.{AreEnds, AreSteps};
+ghost use Rattle.nef_plan.specs.Values.{AreEndedAt, AreSteps};
 ghost use Rattle.nef_sched.specs.Results.{IsReady};
-ghost use Rattle.nef_shell.specs.Early.{AreEarly, AreLate, IsIndex, first_need, second_need, needed_complex, Fits};
+ghost use Rattle.nef_shell.specs.Early.{AreEarly, AreLate, IsIndex, first_need, second_need, needed_complex, ShowsItsSet};
 ghost use Rattle.nef_shell.specs.Held.{IsThere};
 ghost use Rattle.nef_shell.specs.Lean.{ArePlaced};
 ghost use Rattle.nef_shell.specs.Operations.{AreMeans};
 
 use crate::held::{Value, complex_at, complex_in};
-use crate::operation::{Means, made};
+use crate::operation::{Resources, made};
 use nef_complex::Complex;
 use nef_io::Gate;
 use nef_plan::{Step, Task};
@@ -62,7 +62,7 @@ pub(crate) fn add_early(
     is_wanted: bool,
 ) -> Result<Option<usize>, AllocError>
     requires steps { AreSteps steps.now }
-    requires ends { AreEnds steps.now }
+    requires ends { AreEndedAt steps.now }
     requires value { value < length steps.now }
     requires place { value ≡ now + length index.now }
     requires index { IsIndex now index.now early.old.items }
@@ -94,7 +94,7 @@ pub(crate) fn add_early(
 /// The call is no method, since a method of a stage can't hand the stage's own runtime to a thread.
 /// Where the gate holds jobs back, each value counts as heavy.
 #[derive(Drop)]
-struct Block<'v, 's, 'a, 'e, F> {
+struct StepBlock<'v, 's, 'a, 'e, F> {
     values: &'v [Value],
     steps: &'s [Step<'a>],
     list: &'e [Early],
@@ -103,12 +103,12 @@ struct Block<'v, 's, 'a, 'e, F> {
 }
 
 impl<F: Fn(usize, bool, &Results<Value>) -> Result<Value, AllocError> + Sync + Drop> Stage
-    for Block<'_, '_, '_, '_, F> {
+    for StepBlock<'_, '_, '_, '_, F> {
     type Out = Value;
 
     ghost use Rattle.std.specs.Prelude.{◌<◌, ℕ, IfOk, length};
     ghost use Rattle.nef_sched.specs.Results.{IsReady};
-    ghost use Rattle.nef_shell.specs.Early.{AreEarly, first_need, second_need, Fits};
+    ghost use Rattle.nef_shell.specs.Early.{AreEarly, first_need, second_need, ShowsItsSet};
 
     ghost size = { λ s. length s.list.now };
 
@@ -116,9 +116,9 @@ impl<F: Fn(usize, bool, &Results<Value>) -> Result<Value, AllocError> + Sync + D
 
     ghost second = { λ s n. second_need s.list.now n };
 
-    ghost fits = { λ s n o. Fits s.steps.now s.list.now n o };
+    ghost fits = { λ s n o. ShowsItsSet s.steps.now s.list.now n o };
 
-    ghost workable = { λ s. AreEarly s.steps.now s.values.now s.list.now × ((n : ℕ) (alone : _) (done : _) → n < length s.list.now → IsReady (Fits s.steps.now s.list.now) (first_need s.list.now n) (second_need s.list.now n) done.now.list.items → F.pre s.work n alone done × ((r : _) → F.post s.work n alone done r → IfOk r (Fits s.steps.now s.list.now n))) };
+    ghost workable = { λ s. AreEarly s.steps.now s.values.now s.list.now × ((n : ℕ) (alone : _) (done : _) → n < length s.list.now → IsReady (ShowsItsSet s.steps.now s.list.now) (first_need s.list.now n) (second_need s.list.now n) done.now.list.items → F.pre s.work n alone done × ((r : _) → F.post s.work n alone done r → IfOk r (ShowsItsSet s.steps.now s.list.now n))) };
 
     fn count(&self) -> usize {
         self.list.len()
@@ -193,14 +193,14 @@ fn work_value<R: Threads + Wait + Sync, G: Gate + Sync>(
     n: usize,
     alone: bool,
     done: &Results<Value>,
-    means: &Means<G>,
+    means: &Resources<G>,
 ) -> Result<Value, AllocError>
     requires means { AreMeans means.now }
     requires placed { ArePlaced means.now.options.text steps.now values.now }
     requires early { AreEarly steps.now values.now early.now }
     requires number { n < length early.now }
-    requires there { IsReady (Fits steps.now early.now) (first_need early.now n) (second_need early.now n) done.now.list.items }
-    ensures fits { IfOk result (Fits steps.now early.now n) }
+    requires there { IsReady (ShowsItsSet steps.now early.now) (first_need early.now n) (second_need early.now n) done.now.list.items }
+    ensures fits { IfOk result (ShowsItsSet steps.now early.now n) }
 {
     let item = &early[n];
     let task = task_of(steps, item.value);
@@ -211,7 +211,7 @@ fn work_value<R: Threads + Wait + Sync, G: Gate + Sync>(
     if !alone {
         options.how.workers = 1;
     }
-    let means = Means {
+    let means = Resources {
         whole: means.whole,
         options,
         gate: means.gate,
@@ -229,19 +229,19 @@ pub(crate) fn work_early<R: Threads + Wait + Sync, G: Gate + Sync>(
     values: &[Value],
     steps: &[Step],
     early: &[Early],
-    means: &Means<G>,
+    means: &Resources<G>,
 ) -> Result<Vec<Value>, AllocError>
     requires means { AreMeans means.now }
     requires placed { ArePlaced means.now.options.text steps.now values.now }
     requires early { AreEarly steps.now values.now early.now }
     ensures len { IfOk result (λ v. vec_len v ≡ length early.now) }
-    ensures fits { IfOk result (λ v. (n : ℕ) (o : _) → slice_get v.items n ≡ Some o → Fits steps.now early.now n o) }
+    ensures fits { IfOk result (λ v. (n : ℕ) (o : _) → slice_get v.items n ≡ Some o → ShowsItsSet steps.now early.now n o) }
 {
     let work = |n: usize, alone: bool, done: &Results<Value>| -> Result<Value, AllocError>
-        requires { AreMeans means.now × ArePlaced means.now.options.text steps.now values.now × AreEarly steps.now values.now early.now × (n < length early.now) × IsReady (Fits steps.now early.now) (first_need early.now n) (second_need early.now n) done.now.list.items }
-        ensures { IfOk result (Fits steps.entry.now early.entry.now n) }
+        requires { AreMeans means.now × ArePlaced means.now.options.text steps.now values.now × AreEarly steps.now values.now early.now × (n < length early.now) × IsReady (ShowsItsSet steps.now early.now) (first_need early.now n) (second_need early.now n) done.now.list.items }
+        ensures { IfOk result (ShowsItsSet steps.entry.now early.entry.now n) }
     { work_value(rt, alloc, values, steps, early, n, alone, done, means) };
-    let stage = Block {
+    let stage = StepBlock {
         values,
         steps,
         list: early,

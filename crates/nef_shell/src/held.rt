@@ -1,6 +1,6 @@
 //! What is kept of the sets that steps make.
 
-ghost use Rattle.nef_shell.specs.Prelude.{IsSomeAnd, IfOk, IfSome, OnOk, Set, ShowsSet, complex_of, IsParts, Text, option_copied, IsHeld, IsNew, complex_in, complex_at, without_parts};
+ghost use Rattle.nef_shell.specs.Prelude.{IsSomeAnd, IfOk, IfSome, OnOk, Set, ShowsSet, complex_of, IsParts, Text, option_copied, IsHeld, IsNewlyHeld, complex_in, complex_at, without_parts};
 ghost use Rattle.std.specs.Prelude.{◌≡◌};
 
 use nef_canon::write_text;
@@ -23,7 +23,7 @@ pub type Value = Option<Box<Held>>;
 
 /// What is kept of a set whose complex this is. `AllocError` says that memory was wanted and not found.
 pub(crate) fn kept(alloc: Global, complex: Complex) -> Result<Value, AllocError>
-    ensures new { IfOk result (λ o. (s : Set) → ShowsSet s complex → IsSomeAnd o (λ b. IsNew s b.value)) }
+    ensures new { IfOk result (λ o. (s : Set) → ShowsSet s complex → IsSomeAnd o (λ b. IsNewlyHeld s b.value)) }
 {
     let made = Held {
         complex,

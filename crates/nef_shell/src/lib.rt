@@ -21,6 +21,6 @@ mod work;
 pub use comparison::{same_text, written_laws};
 pub use held::{Held, Value};
 pub use nef_statement::Status;
-pub use operation::Means;
+pub use operation::Resources;
 pub use top::{code, program, run};
 pub use work::{work_step, work_steps};

@@ -1,6 +1,6 @@
 //! What steps work: the operation that makes a set of the complexes of its operands.
 
-ghost use Rattle.nef_shell.specs.Prelude.{IsSomeAnd, List, Some, IfOk, IfSome, option_copied, Set, ShowsSet, operand, set_of, shape_of, unary_set, IsTask, MakesValue, first_of, first_value, made_of, second_of, second_value, IsNew, AreMeans, IsLent, IsShown, MakesSet, op_set};
+ghost use Rattle.nef_shell.specs.Prelude.{IsSomeAnd, List, Some, IfOk, IfSome, option_copied, Set, ShowsSet, operand, set_of, shape_of, unary_set, IsTask, MakesValue, first_of, first_value, task_set, second_of, second_value, IsNewlyHeld, AreMeans, IsLent, IsShown, MakesSet, op_set};
 ghost use Rattle.std.specs.Prelude.{◌≡◌};
 
 use crate::held::{Value, kept};
@@ -20,7 +20,7 @@ use std::thread::Threads;
 /// What operations are worked with: the complex of the whole frame, of which each half is cut, the options that the words
 /// choose, of which some say how candidates are worked, and the gate that is told of each job.
 #[derive(Drop)]
-pub struct Means<'a, G> {
+pub struct Resources<'a, G> {
     pub whole: &'a Complex,
     pub options: Options,
     pub gate: &'a G,
@@ -87,7 +87,7 @@ fn of_task<'a>(
     first: Option<&'a Complex>,
     second: Option<&'a Complex>,
 ) -> Option<Operation<'a>>
-    ensures makes { (ss : List Set) → IsTask task.now → MakesValue task.now → IsLent ss (first_value task.now) (option_copied first.entry) → IsLent ss (second_value task.now) (option_copied second.entry) → IsSomeAnd result (λ o. MakesSet o (made_of ss task.now)) }
+    ensures makes { (ss : List Set) → IsTask task.now → MakesValue task.now → IsLent ss (first_value task.now) (option_copied first.entry) → IsLent ss (second_value task.now) (option_copied second.entry) → IsSomeAnd result (λ o. MakesSet o (task_set ss task.now)) }
 {
     match task {
         Task::Make(made) => of_expression(made, first, second),
@@ -99,7 +99,7 @@ fn of_task<'a>(
 /// The operation on two sets by which the task makes a set, and the numbers of their values, if it is one on two.
 pub(crate) fn combination(task: &Task) -> Option<(Op, usize, usize)>
     ensures operands { IfSome result (λ c. (first_value task.now ≡ Some c.1) × (second_value task.now ≡ Some c.2)) }
-    ensures set { IfSome result (λ c. (ss : List Set) → made_of ss task.now ≡ op_set c.0 (operand ss c.1) (operand ss c.2)) }
+    ensures set { IfSome result (λ c. (ss : List Set) → task_set ss task.now ≡ op_set c.0 (operand ss c.1) (operand ss c.2)) }
 {
     match task {
         Task::Make(made) => combined_by(made),
@@ -126,7 +126,7 @@ fn worked_by<R: Threads + Wait + Sync, G: Gate + Sync>(
     rt: &R,
     alloc: Global,
     operation: Operation,
-    means: &Means<G>,
+    means: &Resources<G>,
 ) -> Result<Complex, AllocError>
     requires means { AreMeans means.now }
     requires operands { (s : Set) × MakesSet operation s }
@@ -152,12 +152,12 @@ pub(crate) fn made<R: Threads + Wait + Sync, G: Gate + Sync>(
     task: &Task,
     first: Option<&Complex>,
     second: Option<&Complex>,
-    means: &Means<G>,
+    means: &Resources<G>,
 ) -> Result<Value, AllocError>
     requires means { AreMeans means.now }
     requires task { IsTask task.now × MakesValue task.now }
     requires operands { (ss : List Set) × IsLent ss (first_value task.now) (option_copied first) × IsLent ss (second_value task.now) (option_copied second) }
-    ensures new { IfOk result (λ o. (ss : List Set) → IsLent ss (first_value task.now) (option_copied first.entry) → IsLent ss (second_value task.now) (option_copied second.entry) → IsSomeAnd o (λ b. IsNew (made_of ss task.now) b.value)) }
+    ensures new { IfOk result (λ o. (ss : List Set) → IsLent ss (first_value task.now) (option_copied first.entry) → IsLent ss (second_value task.now) (option_copied second.entry) → IsSomeAnd o (λ b. IsNewlyHeld (task_set ss task.now) b.value)) }
 {
     match of_task(task, first, second) {
         Some(operation) => {

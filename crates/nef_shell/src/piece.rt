@@ -1,7 +1,7 @@
 //! What is written of a command that asks.
 
 ghost use Rattle.std.specs.Prelude.{◌≡◌, ◌++◌};
-ghost use Rattle.nef_shell.specs.Prelude.{ℕ, List, None, Some, IfOk, IfSome, OnOk, HasLabel, Set, place_of, vector_of, ShowsSet, IsRayWithin, IsWithin, second_asked, IsAskedOf, IsAskedOfOther, IsHeld, IsHeldAt, AreStill, complex_at, IsShown, Node as Expression, IsPiece, printed, piece_bytes, same_answer, joined_answer, answer_of, spaced, end_line, framed, IsJoinedAnswer, IsRayAnswer, IsSameAnswer, IsWrittenOf, count_line};
+ghost use Rattle.nef_shell.specs.Prelude.{ℕ, List, None, Some, IfOk, IfSome, OnOk, HasLabel, Set, point_of, vector_of, ShowsSet, IsRayWithin, SpeaksOfFirst, second_asked, IsAskedOf, IsAskedOfOther, IsHeld, IsHeldAt, AreStill, complex_at, IsShown, Node as Expression, IsPiece, printed, piece_bytes, same_answer, joined_answer, answer_of, number_and_blank, end_line, framed, IsJoinedAnswer, IsRayAnswer, IsSameAnswer, IsWrittenOf, count_line};
 
 use crate::held::{Held, Value, complex_at};
 use crate::values::{put_at, taken_from};
@@ -66,7 +66,7 @@ fn joined_answer(joined: bool) -> &'static [u8]
 // The label of the point in the set that the complex shows.
 fn label_at(complex: &Complex, point: &Point) -> Label
     requires shows { (s : Set) × ShowsSet s complex.now }
-    ensures label { (s : Set) → ShowsSet s complex.now → HasLabel s (place_of point.now) result }
+    ensures label { (s : Set) → ShowsSet s complex.now → HasLabel s (point_of point.now) result }
 {
     if point.in_frame() {
         place_label(complex, &locate(complex, point))
@@ -86,7 +86,7 @@ fn joined_piece<R: Threads + Sync>(
     options: &Options,
 ) -> Result<&'static [u8], AllocError>
     requires held { (s : Set) × IsHeld options.now.text s held.old }
-    ensures piece { IfOk result (λ v. (s : Set) → IsHeld options.now.text s held.old → IsJoinedAnswer s (place_of first.now) (place_of second.now) v.now) }
+    ensures piece { IfOk result (λ v. (s : Set) → IsHeld options.now.text s held.old → IsJoinedAnswer s (point_of first.now) (point_of second.now) v.now) }
     ensures held { OnOk result ((s : Set) → IsHeld options.now.text s held.old → IsHeld options.now.text s held.new) }
 {
     if !first.in_frame() {
@@ -103,7 +103,7 @@ fn joined_piece<R: Threads + Sync>(
 
 // Adds the number and a blank.
 fn add_number(text: &mut Vec<u8>, n: i64) -> Result<(), AllocError>
-    ensures added { OnOk result (text.new.items ≡ text.old.items ++ spaced n) }
+    ensures added { OnOk result (text.new.items ≡ text.old.items ++ number_and_blank n) }
 {
     let mut number = Buffer::new();
     text.extend_from_slice(number.format(n).as_bytes())?;
@@ -135,7 +135,7 @@ fn ray_piece(
 ) -> Result<Vec<u8>, AllocError>
     requires shows { (s : Set) × ShowsSet s complex.now }
     requires within { IsRayWithin point.now dir.now }
-    ensures piece { IfOk result (λ v. (s : Set) → ShowsSet s complex.now → IsRayAnswer s (place_of point.now) (vector_of dir.now) v.items) }
+    ensures piece { IfOk result (λ v. (s : Set) → ShowsSet s complex.now → IsRayAnswer s (point_of point.now) (vector_of dir.now) v.items) }
 {
     if !point.in_frame() {
         return Vec::from_slice(alloc, answer(Label::Out));
@@ -216,7 +216,7 @@ fn single_piece<R: Threads + Sync>(
     command: &Command,
     options: &Options,
 ) -> Result<Piece, AllocError>
-    requires within { (count : ℕ) × IsWithin count command.now }
+    requires within { (count : ℕ) × SpeaksOfFirst count command.now }
     requires held { (s : Set) × IsHeld options.now.text s held.old }
     ensures piece { IfOk result (λ p. (nodes : List Expression) → IsAskedOf nodes command.now (λ s. IsHeld options.now.text s held.old) → second_asked command.now ≡ None → IsPiece options.now.text nodes command.now (piece_bytes p)) }
     ensures held { OnOk result ((s : Set) → IsHeld options.now.text s held.old → IsHeld options.now.text s held.new) }
@@ -268,7 +268,7 @@ pub(crate) fn piece_of<R: Threads + Sync>(
     second: Option<usize>,
     options: &Options,
 ) -> Result<Piece, AllocError>
-    requires within { (count : ℕ) × IsWithin count command.now }
+    requires within { (count : ℕ) × SpeaksOfFirst count command.now }
     requires first { (s : Set) × IsHeldAt options.now.text s values.old first }
     requires second { IfSome second (λ j. (t : Set) × IsHeldAt options.now.text t values.old j) }
     ensures piece { IfOk result (λ p. (nodes : List Expression) → IsAskedOf nodes command.now (λ s. IsHeldAt options.now.text s values.old first) → IsAskedOfOther nodes command.now second (λ j s. IsHeldAt options.now.text s values.old j) → IsPiece options.now.text nodes command.now (piece_bytes p)) }

@@ -1,10 +1,10 @@
 //! The values of a script's work: the sets that its steps make, each under the number of its step.
 
-ghost use Rattle.nef_shell.specs.Prelude.{IsSomeAnd, true, ℕ, List, Some, None, IfOk, IfSome, OnOk, length, option_map, slice_get, slice_set, Set, operand, Step, IsTask, LooksAtValue, MakesValue, first_value, made_of, second_value, given_of, AreHeld, IsNew, IsShownAt, IsSpent, IsThere, cleared, handed_complex, AreLess, HasDone, IsLastUse, IsLet, StandAt, AreMeans, IsShown, op_set};
+ghost use Rattle.nef_shell.specs.Prelude.{IsSomeAnd, true, ℕ, List, Some, None, IfOk, IfSome, OnOk, length, option_map, slice_get, slice_set, Set, operand, Step, IsTask, LooksAtValue, MakesValue, first_value, task_set, second_value, given_of, AreHeld, IsNewlyHeld, IsShownAt, IsSpent, IsThere, cleared, handed_complex, AreLess, HasDone, IsLastUse, IsLet, StandAt, AreMeans, IsShown, op_set};
 ghost use Rattle.std.specs.Prelude.{◌≡◌, ◌<◌};
 
 use crate::held::{Held, Value, complex_at, kept};
-use crate::operation::{Means, combination, made};
+use crate::operation::{Resources, combination, made};
 use nef_complex::Complex;
 use nef_io::Gate;
 use nef_ops::{Given, binary_given};
@@ -101,11 +101,11 @@ fn joined<R: Threads + Wait + Sync, G: Gate + Sync>(
     op: Op,
     first: Option<Given>,
     second: Option<Given>,
-    means: &Means<G>,
+    means: &Resources<G>,
 ) -> Result<Value, AllocError>
     requires first { (s : Set) × IsShown s (option_map given_of first) }
     requires second { (t : Set) × IsShown t (option_map given_of second) }
-    ensures new { IfOk result (λ o. (s t : Set) → IsShown s (option_map given_of first.entry) → IsShown t (option_map given_of second.entry) → IsSomeAnd o (λ b. IsNew (op_set op s t) b.value)) }
+    ensures new { IfOk result (λ o. (s t : Set) → IsShown s (option_map given_of first.entry) → IsShown t (option_map given_of second.entry) → IsSomeAnd o (λ b. IsNewlyHeld (op_set op s t) b.value)) }
 {
     match first.zip(second) {
         Some((a, b)) => {
@@ -126,11 +126,11 @@ fn combined<R: Threads + Wait + Sync, G: Gate + Sync>(
     op: Op,
     i: usize,
     j: usize,
-    means: &Means<G>,
+    means: &Resources<G>,
 ) -> Result<Value, AllocError>
     requires first { (s : Set) × IsShownAt s values.old i }
     requires second { (t : Set) × IsShownAt t values.old j }
-    ensures new { IfOk result (λ o. (s t : Set) → IsShownAt s values.old i → IsShownAt t values.old j → IsSomeAnd o (λ b. IsNew (op_set op s t) b.value)) }
+    ensures new { IfOk result (λ o. (s t : Set) → IsShownAt s values.old i → IsShownAt t values.old j → IsSomeAnd o (λ b. IsNewlyHeld (op_set op s t) b.value)) }
     ensures less { AreLess (IsLastUse step.now (Some i) (Some j)) values.old values.new }
 {
     let first = spend(values, i, j, step.ends_first);
@@ -146,12 +146,12 @@ fn worked<R: Threads + Wait + Sync, G: Gate + Sync>(
     alloc: Global,
     values: &mut [Value],
     step: &Step,
-    means: &Means<G>,
+    means: &Resources<G>,
 ) -> Result<Value, AllocError>
     requires means { AreMeans means.now }
     requires task { IsTask step.now.task × MakesValue step.now.task }
     requires operands { (ss : List Set) × ((k : ℕ) → LooksAtValue step.now.task k → IsShownAt (operand ss k) values.old k) }
-    ensures new { IfOk result (λ o. (ss : List Set) → ((k : ℕ) → LooksAtValue step.now.task k → IsShownAt (operand ss k) values.old k) → IsSomeAnd o (λ b. IsNew (made_of ss step.now.task) b.value)) }
+    ensures new { IfOk result (λ o. (ss : List Set) → ((k : ℕ) → LooksAtValue step.now.task k → IsShownAt (operand ss k) values.old k) → IsSomeAnd o (λ b. IsNewlyHeld (task_set ss step.now.task) b.value)) }
     ensures less { AreLess (IsLastUse step.now (first_value step.now.task) (second_value step.now.task)) values.old values.new }
 {
     if let Some((op, i, j)) = combination(&step.task) {
@@ -171,7 +171,7 @@ pub(crate) fn make_value<R: Threads + Wait + Sync, G: Gate + Sync>(
     values: &mut [Value],
     steps: &[Step],
     now: usize,
-    means: &Means<G>,
+    means: &Resources<G>,
 ) -> Result<(), AllocError>
     requires means { AreMeans means.now }
     requires stand { StandAt means.now.options.text steps.now now values.old }

@@ -1,11 +1,11 @@
 //! Works a script: the steps of its plan, in order.
 
 ghost use Rattle.std.specs.Prelude.{◌≡◌, ◌+◌, ◌<◌, ◌∷◌};
-ghost use Rattle.nef_shell.specs.Prelude.{ℕ, List, [], Some, IfSome, OnOk, Set, length, slice_get, Node as Expression, AreWorkable, AreEnds, AreSteps, asked_values, Step, IsWithin, AreAsked, IsAskedOf, IsAskedOfOther, AreHeld, AreStill, IsHeldAt, ArePlaced, HasDone, IsLean, StandAt, AreMeans, WorkEnds};
+ghost use Rattle.nef_shell.specs.Prelude.{ℕ, List, [], Some, IfSome, OnOk, Set, length, slice_get, Node as Expression, AreWorkable, AreEndedAt, AreSteps, asked_values, Step, SpeaksOfFirst, AreAsked, IsAskedOf, IsAskedOfOther, AreHeld, AreStill, IsHeldAt, ArePlaced, HasDone, IsLean, StandAt, AreMeans, WorkEnds};
 
 use crate::ahead::work_ahead;
 use crate::held::Value;
-use crate::operation::Means;
+use crate::operation::Resources;
 use crate::piece::piece_of;
 use crate::values::{make_value, release};
 use nef_io::{Gate, Sink, put_all};
@@ -30,7 +30,7 @@ fn write_answer<R: Threads + Sync, K: Sink>(
     options: &Options,
     sink: &mut K,
 ) -> Result<(), Status>
-    requires within { (count : ℕ) × IsWithin count command.now }
+    requires within { (count : ℕ) × SpeaksOfFirst count command.now }
     requires first { (s : Set) × IsHeldAt options.now.text s values.old first }
     requires second { IfSome second (λ j. (t : Set) × IsHeldAt options.now.text t values.old j) }
     ensures ends { (nodes : List Expression) → IsAskedOf nodes command.now (λ s. IsHeldAt options.now.text s values.old first) → IsAskedOfOther nodes command.now second (λ j s. IsHeldAt options.now.text s values.old j) → WorkEnds options.now.text nodes (command.now ∷ []) (K.written sink.old) (K.written sink.new) (K.faults sink.old) (K.faults sink.new) result }
@@ -48,7 +48,7 @@ fn do_task<R: Threads + Wait + Sync, K: Sink, G: Gate + Sync>(
     values: &mut [Value],
     steps: &[Step],
     now: usize,
-    means: &Means<G>,
+    means: &Resources<G>,
     sink: &mut K,
 ) -> Result<(), Status>
     requires means { AreMeans means.now }
@@ -93,7 +93,7 @@ pub fn work_step<R: Threads + Wait + Sync, K: Sink, G: Gate + Sync>(
     values: &mut [Value],
     steps: &[Step],
     now: usize,
-    means: &Means<G>,
+    means: &Resources<G>,
     sink: &mut K,
 ) -> Result<(), Status>
     requires means { AreMeans means.now }
@@ -118,7 +118,7 @@ pub fn work_steps<R: Threads + Wait + Sync, K: Sink, G: Gate + Sync>(
     alloc: Global,
     values: &mut [Value],
     steps: &[Step],
-    means: &Means<G>,
+    means: &Resources<G>,
     sink: &mut K,
 ) -> Result<(), Status>
     requires means { AreMeans means.now }
@@ -140,12 +140,12 @@ fn work_all<R: Threads + Wait + Sync, K: Sink, G: Gate + Sync>(
     rt: &R,
     alloc: Global,
     steps: &[Step],
-    means: &Means<G>,
+    means: &Resources<G>,
     sink: &mut K,
 ) -> Result<(), Status>
     requires means { AreMeans means.now }
     requires steps { AreSteps steps.now }
-    requires ends { AreEnds steps.now }
+    requires ends { AreEndedAt steps.now }
     requires asked { (nodes : List Expression) × AreAsked nodes steps.now }
     ensures ends { (nodes : List Expression) → AreAsked nodes steps.now → WorkEnds means.now.options.text nodes (asked_values steps.now) (K.written sink.old) (K.written sink.new) (K.faults sink.old) (K.faults sink.new) result }
 {
@@ -168,7 +168,7 @@ pub(crate) fn work<R: Threads + Wait + Sync, K: Sink, G: Gate + Sync>(
 {
     let plan = plan(alloc, script)?;
     let whole = constant(alloc, true)?;
-    let means = Means {
+    let means = Resources {
         whole: &whole,
         options: *options,
         gate,

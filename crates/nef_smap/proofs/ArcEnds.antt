@@ -1,5 +1,5 @@
 -- The ends of the program's arcs.
-use Rattle.nef_smap.proofs.Prelude.{◌≡◌, ℕ, ◌<◌, pos, length, map, Some, arith, subst, slice_get, length-map, normal_limit, svertex_limit, Vector, IsDirection, IsAtMost, dot, IsOnCircle, vector_of, At, arc_item, items, dir_of, normal-is, dir-at, Ends, ends-of, at-arc, SVertex, SArc, SphereMap, svertex_of, arc_of, map_of, IsSphereMap}
+use Rattle.nef_smap.proofs.Prelude.{◌≡◌, ℕ, ◌<◌, pos, length, map, Some, arith, subst, slice_get, length-map, normal_limit, svertex_limit, Vector, IsDirection, IsAtMost, dot, IsOnCircle, vector_of, IsAt, arc_item, items, dir_of, normal-is, dir-at, Ends, ends-of, at-arc, SVertex, SArc, SphereMap, svertex_of, arc_of, map_of, IsSphereMap}
 use Rattle.nef_smap.proofs.Lists.{map-from_get, at-within}
 
 -- what holds of the svertex at an end of an arc
@@ -8,11 +8,11 @@ pub record EndOf (m : SphereMap) (a : SArc) (k : ℕ) (v : SVertex) : Type 0 whe
   pub on : IsOnCircle (vector_of a.normal) (vector_of v.dir)
   pub small : IsAtMost svertex_limit (vector_of v.dir)
 
-module _ (m : SphereMap) (S : IsSphereMap m) (i : ℕ) (a : SArc) (h : At (map_of m).arcs i (arc_of a)) where
+module _ (m : SphereMap) (S : IsSphereMap m) (i : ℕ) (a : SArc) (h : IsAt (map_of m).arcs i (arc_of a)) where
   ends : Ends (map_of m) (arc_of a)
   ends = ends-of (map_of m) S.valid.shaped i (arc_of a) h
 
-  listed : At (items (map_of m)) i (arc_item (arc_of a))
+  listed : IsAt (items (map_of m)) i (arc_item (arc_of a))
   listed = at-arc (map_of m).arcs (map_of m).sloop i (arc_of a) h
 
   pub normal-direction : IsDirection (vector_of a.normal)

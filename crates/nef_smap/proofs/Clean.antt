@@ -1,19 +1,19 @@
 -- Close to a direction that is free, on an item, or on a svertex without arcs: what lies over close directions lies over it, but for its item seen from below.
-use Rattle.nef_smap.proofs.Prelude.{◌≡◌, ℕ, pos, ◌+ℤ◌, ◌-ℤ◌, ◌*ℤ◌, ◌≤ℤ◌, ◌<ℤ◌, arith, ap, sym, ◌∙◌, inl, inr, ⊎_elim, [], ◌∷◌, subst, ints, ring, at, num, ◌⊕◌, ◌⊖◌, ◌⊗◌, sign, by_order, mul_pos, sign-scaled, Vector, IsDirection, cross, dot, SameDirection, At, MapVertex, Map, Item, items, item_normal, OnItem, IsFree, HasArc, Shaped, Keeps, forms, at-one, kept-plus, item-forms, normal-form, on-direction, on-level, OnItem-stays, product-off, arc-at, rise, rise_form, over_forms, IsOver, IsFirstItem}
+use Rattle.nef_smap.proofs.Prelude.{◌≡◌, ℕ, pos, ◌+ℤ◌, ◌-ℤ◌, ◌*ℤ◌, ◌≤ℤ◌, ◌<ℤ◌, arith, ap, sym, ◌∙◌, inl, inr, ⊎_elim, [], ◌∷◌, subst, ints, ring, at, num, ◌⊕◌, ◌⊖◌, ◌⊗◌, sign, by_order, mul_pos, sign-scaled, Vector, IsDirection, cross, dot, SameDirection, IsAt, MapVertex, Map, Item, items, item_normal, OnItem, IsFree, HasArc, Shaped, Keeps, forms, at-one, kept-plus, item-forms, normal-form, on-direction, on-level, OnItem-stays, product-off, arc-at, rise, rise_form, over_forms, IsOver, IsFirstItem}
 use Rattle.nef_smap.proofs.Rise.{rise-is, rise-level, rise_form-value, rise-meridian, form-over, meridian-over}
 use Rattle.nef_smap.proofs.Over.{Touches, meets, ends, touches-back, touches-on}
 use Rattle.nef_smap.proofs.Close.{Clean}
 
 -- no item touches a svertex without arcs
-pub lone-untouched : (M : Map) (V : Shaped M) (d : Vector) (i : ℕ) (v : MapVertex) → At M.svertices i v → v.dir ≡ d → (HasArc M i → ⊥) → (k : ℕ) (y : Item) → At (items M) k y → Touches M y d → ⊥
+pub lone-untouched : (M : Map) (V : Shaped M) (d : Vector) (i : ℕ) (v : MapVertex) → IsAt M.svertices i v → v.dir ≡ d → (HasArc M i → ⊥) → (k : ℕ) (y : Item) → IsAt (items M) k y → Touches M y d → ⊥
 lone-untouched M V d i v a e n k y b (meets p) = V.no_svertex_on_item i k v y a b (subst (OnItem M y) (sym e) p)
 lone-untouched M V d i v a e n k y b (ends j w r c s t x) =
     let m = V.svertices_apart j i w v c a (subst (SameDirection w.dir) (sym e) x) in
-    n (k, r, arc-at M.arcs M.sloop k r (subst (At (items M) k) s b), ⊎_elim (λ p. inl (p ∙ m)) (λ p. inr (p ∙ m)) t)
+    n (k, r, arc-at M.arcs M.sloop k r (subst (IsAt (items M) k) s b), ⊎_elim (λ p. inl (p ∙ m)) (λ p. inr (p ∙ m)) t)
 
-module _ (M : Map) (V : Shaped M) (u : Vector) (ahead : (k : ℕ) (x : Item) → At (items M) k x → pos 0 <ℤ dot (item_normal x) u) (d z : Vector) (near : Keeps (over_forms M u) d z) where
+module _ (M : Map) (V : Shaped M) (u : Vector) (ahead : (k : ℕ) (x : Item) → IsAt (items M) k x → pos 0 <ℤ dot (item_normal x) u) (d z : Vector) (near : Keeps (over_forms M u) d z) where
   -- the meet with a plane that holds d keeps the signs of d
-  rise-near : (k : ℕ) (y : Item) → At (items M) k y → dot (item_normal y) d ≡ pos 0 → Keeps (forms M) d (rise u (item_normal y) z)
+  rise-near : (k : ℕ) (y : Item) → IsAt (items M) k y → dot (item_normal y) d ≡ pos 0 → Keeps (forms M) d (rise u (item_normal y) z)
   rise-near k y a q g l f =
       let n = item_normal y in
       let v : dot (rise_form u n g) d ≡ dot n u *ℤ dot g d = rise_form-value u n g d ∙ ap (λ r. dot n u *ℤ dot g d +ℤ (pos 0 -ℤ dot g u) *ℤ r) q ∙ ring (dot n u ∷ dot g d ∷ dot g u ∷ []) (at 0 ⊗ at 1 ⊕ (num (pos 0) ⊖ at 2) ⊗ num (pos 0)) (at 0 ⊗ at 1) tt in
@@ -21,7 +21,7 @@ module _ (M : Map) (V : Shaped M) (u : Vector) (ahead : (k : ℕ) (x : Item) →
       ∙ ap sign v ∙ sign-scaled (dot n u) (dot g d) (ahead k y a)
 
   -- an item over z whose plane holds d touches d
-  pub over-at : IsDirection d → (k : ℕ) (y : Item) → At (items M) k y → dot (item_normal y) d ≡ pos 0 → IsOver M u y z → Touches M y d
+  pub over-at : IsDirection d → (k : ℕ) (y : Item) → IsAt (items M) k y → dot (item_normal y) d ≡ pos 0 → IsOver M u y z → Touches M y d
   over-at h k y a q o = touches-back M V d (rise u (item_normal y) z) (rise-near k y a q) k y a h o.on
 
   module _ (f : IsDirection (cross u d)) where
@@ -32,18 +32,18 @@ module _ (M : Map) (V : Shaped M) (u : Vector) (ahead : (k : ℕ) (x : Item) →
         by (meets p) = F.off_items k y a p
         by (ends j v r b e t w) = F.off_svertices j v b w
 
-    pub item-clean : (i : ℕ) (x : Item) → At (items M) i x → OnItem M x d → pos 0 <ℤ dot (item_normal x) z → Clean M V u ahead d f z
+    pub item-clean : (i : ℕ) (x : Item) → IsAt (items M) i x → OnItem M x d → pos 0 <ℤ dot (item_normal x) z → Clean M V u ahead d f z
     item-clean i x a p h k y b q o =
         let e = touches-on M V i k x y d a b p (over-at (on-direction M x d p) k y b q o) in
-        let w = at-one (items M) k x y (subst (λ (j : ℕ). At (items M) j x) e a) b in
+        let w = at-one (items M) k x y (subst (λ (j : ℕ). IsAt (items M) j x) e a) b in
         let c = subst (λ (r : Item). pos 0 <ℤ dot (item_normal r) z) w h in
         let l = o.below in omega (arith, ints)
 
-    pub lone-clean : (i : ℕ) (v : MapVertex) → At M.svertices i v → v.dir ≡ d → (HasArc M i → ⊥) → Clean M V u ahead d f z
+    pub lone-clean : (i : ℕ) (v : MapVertex) → IsAt M.svertices i v → v.dir ≡ d → (HasArc M i → ⊥) → Clean M V u ahead d f z
     lone-clean i v a e n k y b q o = lone-untouched M V d i v a e n k y b (over-at (subst IsDirection e (V.svertex_dirs i v a)) k y b q o)
 
   -- below a direction on an item that item is first
-  pub lower-first : (i : ℕ) (x : Item) → At (items M) i x → OnItem M x d → dot (item_normal x) z <ℤ pos 0 → IsFirstItem M u z i
+  pub lower-first : (i : ℕ) (x : Item) → IsAt (items M) i x → OnItem M x d → dot (item_normal x) z <ℤ pos 0 → IsFirstItem M u z i
   lower-first i x a p h = record {
     item = x;
     listed = a;
@@ -54,7 +54,7 @@ module _ (M : Map) (V : Shaped M) (u : Vector) (ahead : (k : ℕ) (x : Item) →
       m : Vector
       m = item_normal x
 
-      farther : (k : ℕ) (y : Item) → At (items M) k y → dot (item_normal y) d <ℤ pos 0 → pos 0 ≤ℤ dot (item_normal x) (rise u (item_normal y) z)
+      farther : (k : ℕ) (y : Item) → IsAt (items M) k y → dot (item_normal y) d <ℤ pos 0 → pos 0 ≤ℤ dot (item_normal x) (rise u (item_normal y) z)
       farther k y b l =
           let n = item_normal y in
           let n' = item_normal x in
@@ -65,14 +65,14 @@ module _ (M : Map) (V : Shaped M) (u : Vector) (ahead : (k : ℕ) (x : Item) →
           let r = rise-is u n n' z in
           omega (arith, ints)
 
-      at-x : (k : ℕ) (y : Item) → At (items M) k y → Touches M y d → pos 0 ≤ℤ dot (item_normal x) (rise u (item_normal y) z)
+      at-x : (k : ℕ) (y : Item) → IsAt (items M) k y → Touches M y d → pos 0 ≤ℤ dot (item_normal x) (rise u (item_normal y) z)
       at-x k y b t =
           let e = touches-on M V i k x y d a b p t in
-          let w = at-one (items M) k x y (subst (λ (j : ℕ). At (items M) j x) e a) b in
+          let w = at-one (items M) k x y (subst (λ (j : ℕ). IsAt (items M) j x) e a) b in
           let c = rise-level u (item_normal x) z in
           subst (λ (r : Item). pos 0 ≤ℤ dot (item_normal x) (rise u (item_normal r) z)) w (omega (arith, ints))
 
-      over-none : (k : ℕ) (y : Item) → At (items M) k y → IsOver M u y z → pos 0 <ℤ dot (item_normal y) d → pos 0 ≤ℤ dot (item_normal x) (rise u (item_normal y) z)
+      over-none : (k : ℕ) (y : Item) → IsAt (items M) k y → IsOver M u y z → pos 0 <ℤ dot (item_normal y) d → pos 0 ≤ℤ dot (item_normal x) (rise u (item_normal y) z)
       over-none k y b o l =
           let n = item_normal y in
           let c = kept-plus n d z (near n (form-over M u n (item-forms M k y n b (normal-form M y)))) l in

@@ -1,5 +1,5 @@
 -- What lies over directions close to d: what meets or ends over d.
-use Rattle.nef_smap.proofs.Prelude.{◌≡◌, ℕ, ℤ, pos, ◌+ℤ◌, ◌-ℤ◌, ◌*ℤ◌, ◌≤ℤ◌, ◌<ℤ◌, arith, ap, sym, ◌∙◌, [], ◌∷◌, subst, None, ints, ring, at, num, ◌⊕◌, ◌⊖◌, ◌⊗◌, follows, given, none, sign, by_order, mul_pos, Vector, IsDirection, cross, dot, SameDirection, same-nought, At, MapVertex, Map, Item, items, item_normal, Shaped, Keeps, same-plus, same-minus, at-one, kept-plus, kept-minus, item-forms, normal-form, OnItem-stays, OnItem-by_signs, IsZero-times, cross-self, rise, over_forms, IsOver, IsFirst, IsFirstItem, self-pos, dir-signs}
+use Rattle.nef_smap.proofs.Prelude.{◌≡◌, ℕ, ℤ, pos, ◌+ℤ◌, ◌-ℤ◌, ◌*ℤ◌, ◌≤ℤ◌, ◌<ℤ◌, arith, ap, sym, ◌∙◌, [], ◌∷◌, subst, None, ints, ring, at, num, ◌⊕◌, ◌⊖◌, ◌⊗◌, follows, given, none, sign, by_order, mul_pos, Vector, IsDirection, cross, dot, SameDirection, same-nought, IsAt, MapVertex, Map, Item, items, item_normal, Shaped, Keeps, same-plus, same-minus, at-one, kept-plus, kept-minus, item-forms, normal-form, OnItem-stays, OnItem-by_signs, IsZero-times, cross-self, rise, over_forms, IsOver, IsFirst, IsFirstItem, self-pos, dir-signs}
 use Rattle.nef_smap.proofs.Rise.{rise-is, rise-level, rise_form-value, rise-keeps, form-over, meridian-over}
 use Rattle.nef_smap.proofs.Over.{Touches, meets, ends, touches-back, touches-on, rises-together}
 use Rattle.nef_smap.proofs.Lowest.{share_d, share_u, LiesOver}
@@ -72,31 +72,31 @@ rise-over u n d v h l f hv w =
       of_u = subst (λ (z : ℤ). pos 0 <ℤ z) (sym (share_u-form u d v)) (same-plus (dot b r) (dot b v) (sym (same b)) (omega (arith, ints)));
     }
 
-module _ (M : Map) (V : Shaped M) (u : Vector) (ahead : (k : ℕ) (x : Item) → At (items M) k x → pos 0 <ℤ dot (item_normal x) u) (d : Vector) (f : IsDirection (cross u d)) where
+module _ (M : Map) (V : Shaped M) (u : Vector) (ahead : (k : ℕ) (x : Item) → IsAt (items M) k x → pos 0 <ℤ dot (item_normal x) u) (d : Vector) (f : IsDirection (cross u d)) where
   -- nothing on whose plane d lies is over e
   abbrev pub Clean : Vector → Type 0
-  Clean e = (k : ℕ) (x : Item) → At (items M) k x → dot (item_normal x) d ≡ pos 0 → IsOver M u x e → ⊥
+  Clean e = (k : ℕ) (x : Item) → IsAt (items M) k x → dot (item_normal x) d ≡ pos 0 → IsOver M u x e → ⊥
 
   -- a svertex that ends an item over d
-  pub end-over : (k j : ℕ) (x : Item) (v : MapVertex) → At (items M) k x → At M.svertices j v → dot (item_normal x) d <ℤ pos 0 → SameDirection v.dir (rise u (item_normal x) d) → LiesOver u d v.dir
+  pub end-over : (k j : ℕ) (x : Item) (v : MapVertex) → IsAt (items M) k x → IsAt M.svertices j v → dot (item_normal x) d <ℤ pos 0 → SameDirection v.dir (rise u (item_normal x) d) → LiesOver u d v.dir
   end-over k j x v a b l w = rise-over u (item_normal x) d v.dir (ahead k x a) l f (V.svertex_dirs j v b) w
 
   module _ (e : Vector) (near : Keeps (over_forms M u) d e) (clean : Clean e) where
-    near-normal : (k : ℕ) (x : Item) → At (items M) k x → (dot (item_normal x) d ≡ pos 0 → ⊥) → sign (dot (item_normal x) e) ≡ sign (dot (item_normal x) d)
+    near-normal : (k : ℕ) (x : Item) → IsAt (items M) k x → (dot (item_normal x) d ≡ pos 0 → ⊥) → sign (dot (item_normal x) e) ≡ sign (dot (item_normal x) d)
     near-normal k x a g = near (item_normal x) (form-over M u (item_normal x) (item-forms M k x (item_normal x) a (normal-form M x))) g
 
-    pub over-below : (k : ℕ) (x : Item) → At (items M) k x → IsOver M u x e → dot (item_normal x) d <ℤ pos 0
+    pub over-below : (k : ℕ) (x : Item) → IsAt (items M) k x → IsOver M u x e → dot (item_normal x) d <ℤ pos 0
     over-below k x a o = by_order (dot (item_normal x) d) (pos 0)
         (λ l. l)
         (λ z. absurd (clean k x a z o))
         (λ l. let b = o.below in let c = kept-plus (item_normal x) d e (near-normal k x a) l in absurd (omega (arith, ints)))
 
-    pub over-touches : (k : ℕ) (x : Item) → At (items M) k x → IsOver M u x e → Touches M x (rise u (item_normal x) d)
+    pub over-touches : (k : ℕ) (x : Item) → IsAt (items M) k x → IsOver M u x e → Touches M x (rise u (item_normal x) d)
     over-touches k x a o = touches-back M V (rise u (item_normal x) d) (rise u (item_normal x) e) (rise-keeps M u d e k x a (λ m l. near m (meridian-over M u m l))) k x a
         (rise-direction u (item_normal x) d (ahead k x a) f) o.on
 
     -- nothing meets or ends over d: nothing lies over e
-    pub none-near : IsFirst M u d None → ((k : ℕ) (v : MapVertex) → At M.svertices k v → LiesOver u d v.dir → ⊥) → IsFirst M u e None
+    pub none-near : IsFirst M u d None → ((k : ℕ) (v : MapVertex) → IsAt M.svertices k v → LiesOver u d v.dir → ⊥) → IsFirst M u e None
     none-near n s k x a o = by (over-touches k x a o)
       where
         by : Touches M x (rise u (item_normal x) d) → ⊥
@@ -104,7 +104,7 @@ module _ (M : Map) (V : Shaped M) (u : Vector) (ahead : (k : ℕ) (x : Item) →
         by (ends j v r b q t w) = s j v b (end-over k j x v a b (over-below k x a o) w)
 
     -- an item meets before anything ends
-    pub first-near : (i : ℕ) (F : IsFirstItem M u d i) → ((k : ℕ) (v : MapVertex) → At M.svertices k v → LiesOver u d v.dir → dot (item_normal F.item) v.dir <ℤ pos 0 → ⊥) → IsFirstItem M u e i
+    pub first-near : (i : ℕ) (F : IsFirstItem M u d i) → ((k : ℕ) (v : MapVertex) → IsAt M.svertices k v → LiesOver u d v.dir → dot (item_normal F.item) v.dir <ℤ pos 0 → ⊥) → IsFirstItem M u e i
     first-near i F s = record {
       item = F.item;
       listed = F.listed;
@@ -118,7 +118,7 @@ module _ (M : Map) (V : Shaped M) (u : Vector) (ahead : (k : ℕ) (x : Item) →
         n : Vector
         n = item_normal F.item
 
-        after : (k : ℕ) (y : Item) → At (items M) k y → IsOver M u y e → Touches M y (rise u (item_normal y) d) → pos 0 ≤ℤ dot (item_normal F.item) (rise u (item_normal y) e)
+        after : (k : ℕ) (y : Item) → IsAt (items M) k y → IsOver M u y e → Touches M y (rise u (item_normal y) d) → pos 0 ≤ℤ dot (item_normal F.item) (rise u (item_normal y) e)
         after k y a o t = by_order (dot m r) (pos 0)
             (λ l. absurd (lower l t))
             (λ z. level z)
@@ -141,6 +141,6 @@ module _ (M : Map) (V : Shaped M) (u : Vector) (ahead : (k : ℕ) (x : Item) →
             level z =
                 let on : _ = OnItem-by_signs M F.item (rise u m d) r (λ g l. sym (rises-together u d m (item_normal y) g (ahead i F.item F.listed) (ahead k y a) z)) F.over.on in
                 let q = touches-on M V i k F.item y r F.listed a on t in
-                let w = at-one (items M) k F.item y (subst (λ (j : ℕ). At (items M) j F.item) q F.listed) a in
+                let w = at-one (items M) k F.item y (subst (λ (j : ℕ). IsAt (items M) j F.item) q F.listed) a in
                 let c = rise-level u m e in
                 subst (λ (x : Item). pos 0 ≤ℤ dot m (rise u (item_normal x) e)) w (omega (arith, ints))

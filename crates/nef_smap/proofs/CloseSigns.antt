@@ -1,5 +1,5 @@
 -- The signs of directions close to one on the forms that say what lies over them, as the program computes them.
-use Rattle.nef_smap.proofs.Prelude.{◌≡◌, ℕ, zero, suc, ℤ, pos, negsuc, ◌<ℤ◌, arith, refl, ap, sym, ◌∙◌, inl, inr, ⊎_elim, List, [], ◌∷◌, map, slice_get, Some, ◌↔◌, subst, Bool, IsTrue, ints, ring, at, num, ◌⊕◌, ◌⊖◌, ◌⊗◌, Sign, minus, nought, plus, sign, sign-plus, sign-minus, Vector, dot, cross, triple, opposite, up, sign_of, vector_of, Minus, Zero, Plus, Close, rise_form, first_sign, geo_sign, toward, then_toward, beyond_sign, close_sign, ArcPasses, dir_of, SVertex, svertex_of, triple-middle as turn-form}
+use Rattle.nef_smap.proofs.Prelude.{◌≡◌, ℕ, zero, suc, ℤ, pos, negsuc, ◌<ℤ◌, arith, refl, ap, sym, ◌∙◌, inl, inr, ⊎_elim, List, [], ◌∷◌, map, slice_get, Some, ◌↔◌, subst, Bool, IsTrue, ints, ring, at, num, ◌⊕◌, ◌⊖◌, ◌⊗◌, Sign, minus, nought, plus, sign, sign-plus, sign-minus, Vector, dot, cross, triple, opposite, up, sign_of, vector_of, Minus, Zero, Plus, Close, rise_form, first_sign, geo_sign, lean_direction, then_toward, beyond_sign, close_sign, ArcPasses, dir_of, SVertex, svertex_of, triple-middle as turn-form}
 use Rattle.nef_geo.specs.declared.sign.Sign.{Sign as GeoSign}
 use Rattle.nef_smap.specs.declared.above.Lean.{Lean}
 use Rattle.nef_smap.specs.declared.above.Lean.TheVariants.{Down, Up, Along}
@@ -12,20 +12,20 @@ geo-of (pos (suc n)) = refl
 geo-of (negsuc n) = refl
 
 -- ---- a normal
-pub side-down : (n a : Vector) → pos 0 <ℤ dot n up → first_sign (sign (dot n (toward Down a))) (sign (dot n (then_toward Down a))) ≡ minus
+pub side-down : (n a : Vector) → pos 0 <ℤ dot n up → first_sign (sign (dot n (lean_direction Down a))) (sign (dot n (then_toward Down a))) ≡ minus
 side-down n a h = let e = dot-opposite n up in ap (λ s. first_sign s (sign (dot n a))) (sign-minus (dot n (opposite up)) (omega (arith, ints)))
 
-pub side-up : (n a : Vector) → pos 0 <ℤ dot n up → first_sign (sign (dot n (toward Up a))) (sign (dot n (then_toward Up a))) ≡ plus
+pub side-up : (n a : Vector) → pos 0 <ℤ dot n up → first_sign (sign (dot n (lean_direction Up a))) (sign (dot n (then_toward Up a))) ≡ plus
 side-up n a h = ap (λ s. first_sign s (sign (dot n a))) (sign-plus (dot n up) h)
 
-pub side-along : (n a : Vector) → pos 0 <ℤ dot n up → first_sign (sign (dot n (toward Along a))) (sign (dot n (then_toward Along a))) ≡ first_sign (sign (dot n a)) plus
+pub side-along : (n a : Vector) → pos 0 <ℤ dot n up → first_sign (sign (dot n (lean_direction Along a))) (sign (dot n (then_toward Along a))) ≡ first_sign (sign (dot n a)) plus
 side-along n a h = ap (first_sign (sign (dot n a))) (sign-plus (dot n up) h)
 
 -- ---- a form that is nought at up
 pub level-sign : (m : Vector) (w : Close) → dot m up ≡ pos 0 → close_sign m w ≡ first_sign (sign (dot m (vector_of w.at))) (sign (dot m (vector_of w.aside)))
 level-sign m w z = ap (first_sign (sign (dot m (vector_of w.at)))) (by w.lean (vector_of w.aside))
   where
-    by : (l : Lean) (a : Vector) → first_sign (sign (dot m (toward l a))) (sign (dot m (then_toward l a))) ≡ sign (dot m a)
+    by : (l : Lean) (a : Vector) → first_sign (sign (dot m (lean_direction l a))) (sign (dot m (then_toward l a))) ≡ sign (dot m a)
     by Down a = let e = dot-opposite m up in let f : dot m (opposite up) ≡ pos 0 = omega (arith, ints) in ap (λ s. first_sign s (sign (dot m a))) (ap sign f)
     by Up a = ap (λ s. first_sign s (sign (dot m a))) (ap sign z)
     by Along a = ap (first_sign (sign (dot m a))) (ap sign z) ∙ first-last (sign (dot m a))

@@ -1,8 +1,8 @@
 -- What lies over the directions close to one direction has one label.
-use Rattle.nef_smap.proofs.Prelude.{◌≡◌, ℕ, ℤ, pos, ◌+ℤ◌, ◌-ℤ◌, ◌*ℤ◌, ◌≤ℤ◌, ◌<ℤ◌, arith, ap, sym, ◌∙◌, ◌⊎◌, inl, inr, ⊎_elim, [], ◌∷◌, subst, Option, Some, None, ints, ring, at, num, ◌⊕◌, ◌⊖◌, ◌⊗◌, minus, sign, sign-plus, sign-minus, by_order, mul_pos, cancel_lt, sign-scaled, Lies, Vector, IsDirection, cross, dot, SameDirection, opposite, Label, Decided, same-off, same-nought, At, MapVertex, Map, Item, items, item_normal, Side, Shaped, Keeps, same-plus, same-minus, negative-or, item-forms, normal-form, cross-self, rise, meridians, over_forms, IsFirst, IsFirstItem, first_sign, Stands, met, FirstNear, BelowFirsts, self-pos, dir-signs}
+use Rattle.nef_smap.proofs.Prelude.{◌≡◌, ℕ, ℤ, pos, ◌+ℤ◌, ◌-ℤ◌, ◌*ℤ◌, ◌≤ℤ◌, ◌<ℤ◌, arith, ap, sym, ◌∙◌, ◌⊎◌, inl, inr, ⊎_elim, [], ◌∷◌, subst, Option, Some, None, ints, ring, at, num, ◌⊕◌, ◌⊖◌, ◌⊗◌, minus, sign, sign-plus, sign-minus, by_order, mul_pos, cancel_lt, sign-scaled, Lies, Vector, IsDirection, cross, dot, SameDirection, opposite, Label, Decided, same-off, same-nought, IsAt, MapVertex, Map, Item, items, item_normal, Side, Shaped, Keeps, same-plus, same-minus, negative-or, item-forms, normal-form, cross-self, rise, meridians, over_forms, IsFirst, IsFirstItem, first_sign, Stands, met, FirstNear, BelowFirsts, self-pos, dir-signs}
 use Rattle.nef_smap.proofs.Rise.{rise-is, rise_form-value, meridian-level, form-over, meridian-over, svertex-meridian, meridians-same}
 use Rattle.nef_smap.proofs.Over.{Touches, meets, ends, touches-level, Alike, one_side, over_none, moved, first-one}
-use Rattle.nef_smap.proofs.Lowest.{Least, least_or, first-exists, share_d, share_u, LiesOver, over-value, lies_over-decided}
+use Rattle.nef_smap.proofs.Lowest.{LeastElement, least_or, first-exists, share_d, share_u, LiesOver, over-value, lies_over-decided}
 use Rattle.nef_smap.proofs.Stands.{dot-opposite, stand, stands, stands-keeps, stands-second, stands-third}
 use Rattle.nef_smap.proofs.Close.{cross-last, Clean, end-over, over-touches, none-near, first-near}
 
@@ -28,7 +28,7 @@ lower-end a b c e p q ha hc hq h k =
     let z = ring (a ∷ []) (at 0 ⊗ num (pos 0)) (num (pos 0)) tt in
     cancel_lt (e *ℤ a) (b *ℤ c) q hq (omega (arith, ints))
 
-module _ (M : Map) (V : Shaped M) (u : Vector) (ahead : (k : ℕ) (x : Item) → At (items M) k x → pos 0 <ℤ dot (item_normal x) u) (d : Vector) (f : IsDirection (cross u d)) where
+module _ (M : Map) (V : Shaped M) (u : Vector) (ahead : (k : ℕ) (x : Item) → IsAt (items M) k x → pos 0 <ℤ dot (item_normal x) u) (d : Vector) (f : IsDirection (cross u d)) where
   abbrev l : Vector
   l = cross u d
 
@@ -59,7 +59,7 @@ module _ (M : Map) (V : Shaped M) (u : Vector) (ahead : (k : ℕ) (x : Item) →
       by (inr n) b = inr (λ c. n c.0)
 
   abbrev Lowest : (r : Option ℕ) → IsFirst M u d r → Type 0
-  Lowest r F = Least (λ (v : MapVertex). share_u u d v.dir) (λ (v : MapVertex). share_d u d v.dir) M.svertices (λ k v. Candidate r F v.dir)
+  Lowest r F = LeastElement (λ (v : MapVertex). share_u u d v.dir) (λ (v : MapVertex). share_d u d v.dir) M.svertices (λ k v. Candidate r F v.dir)
 
   -- ---- w is the lowest svertex over d, before the first item
   module _ (r : Option ℕ) (F : IsFirst M u d r) (w : Lowest r F) where
@@ -73,7 +73,7 @@ module _ (M : Map) (V : Shaped M) (u : Vector) (ahead : (k : ℕ) (x : Item) →
     value g = over-value u d way g over-w.level
 
     -- a plane that parts d from w has no item over d
-    unparted : (k : ℕ) (z : Item) → At (items M) k z → dot (item_normal z) d <ℤ pos 0 → pos 0 <ℤ dot (item_normal z) way → Touches M z (rise u (item_normal z) d) → ⊥
+    unparted : (k : ℕ) (z : Item) → IsAt (items M) k z → dot (item_normal z) d <ℤ pos 0 → pos 0 <ℤ dot (item_normal z) way → Touches M z (rise u (item_normal z) d) → ⊥
     unparted k z a lt gt t = by r F w.holds.1 w.least t
       where
         n : Vector
@@ -82,7 +82,7 @@ module _ (M : Map) (V : Shaped M) (u : Vector) (ahead : (k : ℕ) (x : Item) →
         above : pos 0 <ℤ (share_d u d way *ℤ dot n d +ℤ share_u u d way *ℤ dot n u)
         above = let p = mul_pos ll (dot n way) some-ll gt in let e = value n in omega (arith, ints)
 
-        too_low : (j : ℕ) (v : MapVertex) → At M.svertices j v → SameDirection v.dir (rise u n d) → (share_u u d way *ℤ share_d u d v.dir) ≤ℤ (share_u u d v.dir *ℤ share_d u d way) → ⊥
+        too_low : (j : ℕ) (v : MapVertex) → IsAt M.svertices j v → SameDirection v.dir (rise u n d) → (share_u u d way *ℤ share_d u d v.dir) ≤ℤ (share_u u d v.dir *ℤ share_d u d way) → ⊥
         too_low j v b q le =
             let o = end-over M V u ahead d f k j z v a b lt q in
             let e = over-value u d v.dir n o.level in
@@ -102,7 +102,7 @@ module _ (M : Map) (V : Shaped M) (u : Vector) (ahead : (k : ℕ) (x : Item) →
             let c = lower-meet (share_d u d way) (share_u u d way) (dot n d) (dot n u) (dot m d) (dot m u) over-w.of_d (ahead k z a) (ahead i F.item F.listed) above (omega (arith, ints)) in
             subst (λ (s : ℤ). s <ℤ pos 0) (sym (rise-is u n m d ∙ rise_form-value u n m d)) c
 
-        by : (r : Option ℕ) (F : IsFirst M u d r) → Before r F way → ((j : ℕ) (v : MapVertex) → At M.svertices j v → Candidate r F v.dir → (share_u u d way *ℤ share_d u d v.dir) ≤ℤ (share_u u d v.dir *ℤ share_d u d way))
+        by : (r : Option ℕ) (F : IsFirst M u d r) → Before r F way → ((j : ℕ) (v : MapVertex) → IsAt M.svertices j v → Candidate r F v.dir → (share_u u d way *ℤ share_d u d v.dir) ≤ℤ (share_u u d v.dir *ℤ share_d u d way))
             → Touches M z (rise u n d) → ⊥
         by None F b low (meets p) = F k z a (record { below = lt; on = p })
         by None F b low (ends j v r c q g s) = too_low j v c s (low j v c (end-over M V u ahead d f k j z v a c lt s, tt))
@@ -116,10 +116,10 @@ module _ (M : Map) (V : Shaped M) (u : Vector) (ahead : (k : ℕ) (x : Item) →
 
     -- e lies close to d, and o close to w and below it
     module _ (e : Vector) (near : Keeps (over_forms M u) d e) (clean : Clean M V u ahead d f e) (c o : Vector) (s : Stands (over_forms M u) way (opposite u) c o) where
-      normal-in : (k : ℕ) (z : Item) → At (items M) k z → Lies (over_forms M u) (item_normal z)
+      normal-in : (k : ℕ) (z : Item) → IsAt (items M) k z → Lies (over_forms M u) (item_normal z)
       normal-in k z a = form-over M u (item_normal z) (item-forms M k z (item_normal z) a (normal-form M z))
 
-      alike : (k : ℕ) (z : Item) → At (items M) k z → Alike M u e o z
+      alike : (k : ℕ) (z : Item) → IsAt (items M) k z → Alike M u e o z
       alike k z a = by_order (dot n d) (pos 0) below level above
         where
           n : Vector
@@ -207,7 +207,7 @@ module _ (M : Map) (V : Shaped M) (u : Vector) (ahead : (k : ℕ) (x : Item) →
       same-side t q x = moved M u e o (meridians-same (meridians M u) u d e o f (meridian-level M u) (λ m i. near m (meridian-over M u m i)) near-o (t ∙ sym side-o)) alike q x
 
   -- ---- all that lies over directions close to d
-  module _ (G : Side → Label) (top : Label) (firsts : (k : ℕ) (v : MapVertex) → At M.svertices k v → BelowFirsts M u v.dir) (joins : (k : ℕ) (v : MapVertex) (a : At M.svertices k v) → (let j = firsts k v a in met G top j.left ≡ met G top j.right)) where
+  module _ (G : Side → Label) (top : Label) (firsts : (k : ℕ) (v : MapVertex) → IsAt M.svertices k v → BelowFirsts M u v.dir) (joins : (k : ℕ) (v : MapVertex) (a : IsAt M.svertices k v) → (let j = firsts k v a in met G top j.left ≡ met G top j.right)) where
     abbrev pub AllMeet : Label → Type 0
     AllMeet c = (e : Vector) → Keeps (over_forms M u) d e → Clean M V u ahead d f e → (dot l e ≡ pos 0 → ⊥) → (q : Option ℕ) → IsFirst M u e q → met G top q ≡ c
 
@@ -244,7 +244,7 @@ module _ (M : Map) (V : Shaped M) (u : Vector) (ahead : (k : ℕ) (x : Item) →
                 (sides (dot l e) (dot m j.aside) g j.off)
 
         -- no svertex is first
-        no_svertex : (r : Option ℕ) (F : IsFirst M u d r) → ((k : ℕ) (v : MapVertex) → At M.svertices k v → Candidate r F v.dir → ⊥) → (c : Label) × AllMeet c
+        no_svertex : (r : Option ℕ) (F : IsFirst M u d r) → ((k : ℕ) (v : MapVertex) → IsAt M.svertices k v → Candidate r F v.dir → ⊥) → (c : Label) × AllMeet c
         no_svertex None F n = (top, λ e near clean g q x. ap (met G top) (first-one M V u ahead e q None x (none-near M V u ahead d f e near clean F (λ k v a o. n k v a (o, tt)))))
         no_svertex (Some i) F n = (met G top (Some i), λ e near clean g q x. ap (met G top) (first-one M V u ahead e q (Some i) x (first-near M V u ahead d f e near clean i F (λ k v a o b. n k v a (o, b)))))
 

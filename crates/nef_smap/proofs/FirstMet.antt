@@ -1,9 +1,9 @@
 -- The way to the first item that is met is clear; and of three meets, the first is before the last.
-use Rattle.nef_smap.proofs.Prelude.{◌≡◌, ℕ, ◌<◌, ℤ, pos, ◌+ℤ◌, ◌*ℤ◌, ◌-ℤ◌, ◌<ℤ◌, arith, ap, sym, ◌∙◌, [], ◌∷◌, length, subst, ints, ring, at, num, ◌⊕◌, ◌⊖◌, ◌⊗◌, follows, given, none, sign, by_order, mul_pos, mul_nonneg, square_nonneg, sign-scaled, square_pos, Vector, IsDirection, cross, dot, blend, At, MapVertex, Map, Item, items, item_normal, OnItem, IsFree, IsClear, Shaped, dot-comb, direction-by, same-plus, same-minus, on-level, on-direction, OnItem-by_signs, product-off, slid-level, slid-square, cross-self, miss-between, between-off_target, meet_of, IsMetBefore, IsFirstMet, apart}
+use Rattle.nef_smap.proofs.Prelude.{◌≡◌, ℕ, ◌<◌, ℤ, pos, ◌+ℤ◌, ◌*ℤ◌, ◌-ℤ◌, ◌<ℤ◌, arith, ap, sym, ◌∙◌, [], ◌∷◌, length, subst, ints, ring, at, num, ◌⊕◌, ◌⊖◌, ◌⊗◌, follows, given, none, sign, by_order, mul_pos, mul_nonneg, square_nonneg, sign-scaled, square_pos, Vector, IsDirection, cross, dot, blend, IsAt, MapVertex, Map, Item, items, item_normal, OnItem, IsFree, IsClear, Shaped, dot-comb, direction-by, same-plus, same-minus, on-level, on-direction, OnItem-by_signs, product-off, slid-level, slid-square, cross-self, miss-between, between-off_target, way_meet, IsMetBefore, IsFirstMet, apart}
 use Rattle.nef_smap.proofs.Lists.{at-within}
 
 -- ---- the order of meets
-pub meet-is : (n g a b : Vector) → dot g (meet_of n a b) ≡ dot n a *ℤ (dot n a *ℤ dot g b -ℤ dot n b *ℤ dot g a)
+pub meet-is : (n g a b : Vector) → dot g (way_meet n a b) ≡ dot n a *ℤ (dot n a *ℤ dot g b -ℤ dot n b *ℤ dot g a)
 meet-is n g a b = dot-comb g (dot n a *ℤ dot n a) b (pos 0 -ℤ dot n a *ℤ dot n b) a
     ∙ ring (dot n a ∷ dot n b ∷ dot g a ∷ dot g b ∷ []) ((at 0 ⊗ at 0) ⊗ at 3 ⊕ (num (pos 0) ⊖ at 0 ⊗ at 1) ⊗ at 2) (at 0 ⊗ (at 0 ⊗ at 3 ⊖ at 1 ⊗ at 2)) tt
 
@@ -39,9 +39,9 @@ before-self a b x p =
 
 -- ---- the first of all
 module _ (M : Map) (V : Shaped M) (a b : Vector) (F : IsFree M a)
-    (planes : (l : ℕ) (x : Item) → At (items M) l x → dot (item_normal x) a ≡ pos 0 → ⊥)
-    (off : (l : ℕ) (v : MapVertex) → At M.svertices l v → IsDirection (cross a v.dir) → dot (cross a v.dir) b ≡ pos 0 → ⊥)
-    (k : ℕ) (first : Item) (listed : At (items M) k first) (f : IsFirstMet M a b (length (items M)) first) where
+    (planes : (l : ℕ) (x : Item) → IsAt (items M) l x → dot (item_normal x) a ≡ pos 0 → ⊥)
+    (off : (l : ℕ) (v : MapVertex) → IsAt M.svertices l v → IsDirection (cross a v.dir) → dot (cross a v.dir) b ≡ pos 0 → ⊥)
+    (k : ℕ) (first : Item) (listed : IsAt (items M) k first) (f : IsFirstMet M a b (length (items M)) first) where
   abbrev n : Vector
   n = item_normal first
 
@@ -52,7 +52,7 @@ module _ (M : Map) (V : Shaped M) (a b : Vector) (F : IsFree M a)
   end = dot n b
 
   abbrev c : Vector
-  c = meet_of n a b
+  c = way_meet n a b
 
   u : start ≡ pos 0 → ⊥
   u = planes k first listed
@@ -63,10 +63,10 @@ module _ (M : Map) (V : Shaped M) (a b : Vector) (F : IsFree M a)
   apart-c : IsDirection (cross a c)
   apart-c = apart n a c u level (on-direction M first c f.on)
 
-  off_c : (l : ℕ) (v : MapVertex) → At M.svertices l v → IsDirection (cross a v.dir) → dot (cross a v.dir) c ≡ pos 0 → ⊥
+  off_c : (l : ℕ) (v : MapVertex) → IsAt M.svertices l v → IsDirection (cross a v.dir) → dot (cross a v.dir) c ≡ pos 0 → ⊥
   off_c l v h g z = product-off (start *ℤ start) (dot (cross a v.dir) b) (square_pos start u) (off l v h g) (sym (slid-square n a (cross a v.dir) b (cross-self a v.dir)) ∙ z)
 
-  module _ (i j : ℕ) (si : 0 < i) (sj : 0 < j) (l : ℕ) (y : Item) (h : At (items M) l y) (o : OnItem M y (blend i a j c)) where
+  module _ (i j : ℕ) (si : 0 < i) (sj : 0 < j) (l : ℕ) (y : Item) (h : IsAt (items M) l y) (o : OnItem M y (blend i a j c)) where
     abbrev m : Vector
     m = item_normal y
 
@@ -99,14 +99,14 @@ module _ (M : Map) (V : Shaped M) (a b : Vector) (F : IsFree M a)
     m-off = planes l y h
 
     -- (m.a)^2 w = j' meet
-    scaled : (g : Vector) → (dot m a *ℤ dot m a) *ℤ dot g w ≡ j' *ℤ dot g (meet_of m a b)
+    scaled : (g : Vector) → (dot m a *ℤ dot m a) *ℤ dot g w ≡ j' *ℤ dot g (way_meet m a b)
     scaled g = ap (λ r. (dot m a *ℤ dot m a) *ℤ r) (w-is g)
         ∙ follows (dot m a ∷ dot m b ∷ dot g a ∷ dot g b ∷ i' ∷ j' ∷ []) ((at 0 ⊗ at 0) ⊗ (at 4 ⊗ at 2 ⊕ at 5 ⊗ at 3)) (at 5 ⊗ (at 0 ⊗ (at 0 ⊗ at 3 ⊖ at 1 ⊗ at 2)))
         (given (at 0 ⊗ at 2) (at 4 ⊗ at 0 ⊕ at 5 ⊗ at 1) (num (pos 0)) m-level none) tt
         ∙ ap (λ r. j' *ℤ r) (sym (meet-is m g a b))
 
-    signs : (g : Vector) → sign (dot g (meet_of m a b)) ≡ sign (dot g w)
-    signs g = sym (sign-scaled j' (dot g (meet_of m a b)) some-j) ∙ ap sign (sym (scaled g)) ∙ sign-scaled (dot m a *ℤ dot m a) (dot g w) (square_pos (dot m a) m-off)
+    signs : (g : Vector) → sign (dot g (way_meet m a b)) ≡ sign (dot g w)
+    signs g = sym (sign-scaled j' (dot g (way_meet m a b)) some-j) ∙ ap sign (sym (scaled g)) ∙ sign-scaled (dot m a *ℤ dot m a) (dot g w) (square_pos (dot m a) m-off)
 
     -- (m.a)(m.b) < 0: j' (m.a)(m.b) = - i' (m.a)^2
     parted : (dot m a *ℤ dot m b) <ℤ pos 0
@@ -120,18 +120,18 @@ module _ (M : Map) (V : Shaped M) (a b : Vector) (F : IsFree M a)
         let e = dot-comb n (pos i) a (pos j) c ∙ ap (λ r. pos i *ℤ start +ℤ pos j *ℤ r) level ∙ ring (pos i ∷ pos j ∷ start ∷ []) (at 0 ⊗ at 2 ⊕ at 1 ⊗ num (pos 0)) (at 0 ⊗ at 2) tt in
         let s = signs n ∙ ap sign e ∙ sign-scaled (pos i) start (omega (arith, ints)) in
         by_order start (pos 0)
-        (λ l. mul_minus start (dot n (meet_of m a b)) l (same-minus start (dot n (meet_of m a b)) s l))
+        (λ l. mul_minus start (dot n (way_meet m a b)) l (same-minus start (dot n (way_meet m a b)) s l))
         (λ z. absurd (u z))
-        (λ l. mul_pos start (dot n (meet_of m a b)) l (same-plus start (dot n (meet_of m a b)) s l))
+        (λ l. mul_pos start (dot n (way_meet m a b)) l (same-plus start (dot n (way_meet m a b)) s l))
       where
         mul_minus : (x y : ℤ) → x <ℤ pos 0 → y <ℤ pos 0 → pos 0 <ℤ (x *ℤ y)
         mul_minus x y h k = let p = mul_pos (pos 0 -ℤ x) (pos 0 -ℤ y) (omega (arith, ints)) (omega (arith, ints)) in let e = ring (x ∷ y ∷ []) ((num (pos 0) ⊖ at 0) ⊗ (num (pos 0) ⊖ at 1)) (at 0 ⊗ at 1) tt in omega (arith, ints)
 
     unmet : ⊥
-    unmet = f.none_before l y (at-within (items M) l y h) h (record { parted = parted; on = OnItem-by_signs M y w (meet_of m a b) (λ g x. signs g) o }) earlier
+    unmet = f.none_before l y (at-within (items M) l y h) h (record { parted = parted; on = OnItem-by_signs M y w (way_meet m a b) (λ g x. signs g) o }) earlier
 
   -- the way to where it is met is clear
-  pub first-clear : IsClear M a (meet_of (item_normal first) a b)
+  pub first-clear : IsClear M a (way_meet (item_normal first) a b)
   first-clear = record {
     start = F;
     direction = on-direction M first c f.on;

@@ -1,19 +1,19 @@
 -- What is met first over a free direction sees it: the lower side of an item, or u.
-use Rattle.nef_smap.proofs.Prelude.{◌≡◌, ℕ, ◌+◌, ◌*◌, ◌<◌, ℤ, pos, ◌+ℤ◌, ◌-ℤ◌, ◌*ℤ◌, ◌<ℤ◌, nat_abs, arith, ap, sym, ◌∙◌, [], ◌∷◌, subst, None, ints, mul-pos, ring, at, num, ◌⊕◌, ◌⊖◌, ◌⊗◌, follows, given, none, sign, mul_pos, mul_neg, sign-scaled, nought-is, Vector, IsDirection, cross, dot, SameDirection, blend, At, MapVertex, Map, Item, items, item_normal, OnItem, IsFree, neg_item, IsClear, Sees, directly, Shaped, dot-comb, same-minus, on-direction, on-level, OnItem-by_signs, cross-self, IsZero-times, product-off, rise, IsOver, IsFirst, IsFirstItem, vector-same, cross-turned, dir-signs, apart}
+use Rattle.nef_smap.proofs.Prelude.{◌≡◌, ℕ, ◌+◌, ◌*◌, ◌<◌, ℤ, pos, ◌+ℤ◌, ◌-ℤ◌, ◌*ℤ◌, ◌<ℤ◌, nat_abs, arith, ap, sym, ◌∙◌, [], ◌∷◌, subst, None, ints, mul-pos, ring, at, num, ◌⊕◌, ◌⊖◌, ◌⊗◌, follows, given, none, sign, mul_pos, mul_neg, sign-scaled, nought-is, Vector, IsDirection, cross, dot, SameDirection, blend, IsAt, MapVertex, Map, Item, items, item_normal, OnItem, IsFree, neg_item, IsClear, Sees, directly, Shaped, dot-comb, same-minus, on-direction, on-level, OnItem-by_signs, cross-self, IsZero-times, product-off, rise, IsOver, IsFirst, IsFirstItem, vector-same, cross-turned, dir-signs, apart}
 use Rattle.nef_smap.proofs.Rise.{rise-is, rise-level, rise_form-value}
 use Rattle.nef_smap.proofs.Close.{cross-last}
 
 -- no svertex lies over d or under it
 pub record Generic (M : Map) (u d : Vector) : Type 0 where
   pub apart : IsDirection (cross u d)
-  pub off : (k : ℕ) (v : MapVertex) → At M.svertices k v → dot (cross u v.dir) d ≡ pos 0 → ⊥
+  pub off : (k : ℕ) (v : MapVertex) → IsAt M.svertices k v → dot (cross u v.dir) d ≡ pos 0 → ⊥
 
-module _ (M : Map) (V : Shaped M) (u : Vector) (ahead : (k : ℕ) (x : Item) → At (items M) k x → pos 0 <ℤ dot (item_normal x) u) (hu : IsDirection u) (d : Vector) (D : IsFree M d) (H : Generic M u d) where
+module _ (M : Map) (V : Shaped M) (u : Vector) (ahead : (k : ℕ) (x : Item) → IsAt (items M) k x → pos 0 <ℤ dot (item_normal x) u) (hu : IsDirection u) (d : Vector) (D : IsFree M d) (H : Generic M u d) where
   value : (g : Vector) (i j : ℕ) → dot g (blend i d j u) ≡ pos i *ℤ dot g d +ℤ pos j *ℤ dot g u
   value g i j = dot-comb g (pos i) d (pos j) u
 
   -- an item on the way is over d, at the same place
-  module _ (k : ℕ) (z : Item) (a : At (items M) k z) (i j : ℕ) (si : 0 < i) (sj : 0 < j) (o : OnItem M z (blend i d j u)) where
+  module _ (k : ℕ) (z : Item) (a : IsAt (items M) k z) (i j : ℕ) (si : 0 < i) (sj : 0 < j) (o : OnItem M z (blend i d j u)) where
     abbrev n : Vector
     n = item_normal z
 
@@ -45,7 +45,7 @@ module _ (M : Map) (V : Shaped M) (u : Vector) (ahead : (k : ℕ) (x : Item) →
       one a b x y p q = let o = num (pos 0) in follows (pos i ∷ pos j ∷ a ∷ b ∷ x ∷ y ∷ []) (at 0 ⊗ (at 2 ⊗ at 5 ⊖ at 3 ⊗ at 4)) o
           (given (at 2) (at 0 ⊗ at 5 ⊕ at 1 ⊗ at 3) o q (given (o ⊖ at 3) (at 0 ⊗ at 4 ⊕ at 1 ⊗ at 2) o p none)) tt
 
-  way-off : (i j : ℕ) → 0 < i → (k : ℕ) (v : MapVertex) → At M.svertices k v → SameDirection v.dir (blend i d j u) → ⊥
+  way-off : (i j : ℕ) → 0 < i → (k : ℕ) (v : MapVertex) → IsAt M.svertices k v → SameDirection v.dir (blend i d j u) → ⊥
   way-off i j si k v a w =
       let m = cross u v.dir in
       let s = dir-signs v.dir (blend i d j u) m (V.svertex_dirs k v a) w in
@@ -100,7 +100,7 @@ module _ (M : Map) (V : Shaped M) (u : Vector) (ahead : (k : ℕ) (x : Item) →
       some-q : 0 < q
       some-q = let h = F.over.below in omega (arith, ints)
 
-      unmet : (i j : ℕ) → 0 < i → 0 < j → (l : ℕ) (z : Item) → At (items M) l z → OnItem M z (blend (i + j * p) d (j * q) u) → ⊥
+      unmet : (i j : ℕ) → 0 < i → 0 < j → (l : ℕ) (z : Item) → IsAt (items M) l z → OnItem M z (blend (i + j * p) d (j * q) u) → ⊥
       unmet i j si sj l z a o =
           let sjq = mul-pos sj some-q in
           let c = F.first l z a (on_way-over l z a (i + j * p) (j * q) (omega arith) sjq o) in

@@ -1,5 +1,5 @@
 -- Searching the lists of the program's maps, and where a direction lies.
-use Rattle.nef_smap.proofs.Prelude.{◌≡◌, ℕ, zero, suc, ◌+◌, ◌<◌, ◌≤◌, arith, refl, ap, sym, ◌∙◌, ⊎_elim, List, [], ◌∷◌, length, map, Option, Some, None, subst, slice_get, get_or, ◌↔◌, slice_get_read, length-map, eq-or-lt_of_le, Vector, SameDirection, Label, vector_of, Dir, same_directions_equal, At, MapVertex, Arc, MapSloop, Map, Item, arc_item, sloop_item, items_then, items, item_mark, OnItem, MapLabel, at_svertex, on_item, seen, Side, whole, Sees, at-one, sloop-at, at-arc, arc-at, LabelledSide, sides_of, IsSide, SideSees, IsPlaceOf, svertex_of, arc_of, map_of, SVertex, SphereMap, is-at_within, dir-self}
+use Rattle.nef_smap.proofs.Prelude.{◌≡◌, ℕ, zero, suc, ◌+◌, ◌<◌, ◌≤◌, arith, refl, ap, sym, ◌∙◌, ⊎_elim, List, [], ◌∷◌, length, map, Option, Some, None, subst, slice_get, get_or, ◌↔◌, slice_get_read, length-map, eq-or-lt_of_le, Vector, SameDirection, Label, vector_of, Dir, same_directions_equal, IsAt, MapVertex, Arc, MapSloop, Map, Item, arc_item, sloop_item, items_then, items, item_mark, OnItem, MapLabel, at_svertex, on_item, seen, Side, whole, Sees, at-one, sloop-at, at-arc, arc-at, LabelledSide, sides_of, IsSide, SideSees, IsPlaceOf, svertex_of, arc_of, map_of, SVertex, SphereMap, is-at_within, dir-self}
 use Rattle.nef_smap.specs.declared.map.SPlace.TheVariants as place
 use Rattle.nef_smap.proofs.Lists.{map-within, map-from_get, at-within}
 use Rattle.nef_smap.proofs.MapLists.{sloop-listed}
@@ -7,13 +7,13 @@ use Rattle.nef_smap.proofs.SideLists.{side-has}
 
 -- ---- searching
 module _ {X Y : Type 0} (f : X → Y) (xs : List X) (P : Y → Type 0) where
-  pub next-none : (n : ℕ) (x : X) → slice_get xs n ≡ Some x → ((k : ℕ) → k < n → (y : Y) → At (map f xs) k y → P y → ⊥) → (P (f x) → ⊥) → (k : ℕ) → k < n + 1 → (y : Y) → At (map f xs) k y → P y → ⊥
+  pub next-none : (n : ℕ) (x : X) → slice_get xs n ≡ Some x → ((k : ℕ) → k < n → (y : Y) → IsAt (map f xs) k y → P y → ⊥) → (P (f x) → ⊥) → (k : ℕ) → k < n + 1 → (y : Y) → IsAt (map f xs) k y → P y → ⊥
   next-none n x e before here k h y a p = ⊎_elim
-      (λ z. here (subst P (at-one (map f xs) n y (f x) (subst (λ (r : ℕ). At (map f xs) r y) z a) (map-from_get f xs n x e)) p))
+      (λ z. here (subst P (at-one (map f xs) n y (f x) (subst (λ (r : ℕ). IsAt (map f xs) r y) z a) (map-from_get f xs n x e)) p))
       (λ l. before k l y a p)
       (eq-or-lt_of_le {n = k} {m = n} (omega arith))
 
-  pub all-none : (n : ℕ) → length xs ≤ n → ((k : ℕ) → k < n → (y : Y) → At (map f xs) k y → P y → ⊥) → (k : ℕ) (y : Y) → At (map f xs) k y → P y → ⊥
+  pub all-none : (n : ℕ) → length xs ≤ n → ((k : ℕ) → k < n → (y : Y) → IsAt (map f xs) k y → P y → ⊥) → (k : ℕ) (y : Y) → IsAt (map f xs) k y → P y → ⊥
   all-none n h before k y a p = before k (let w = at-within (map f xs) k y a in let e = length-map xs f in omega arith) y a p
 
 -- the element that a loop over a slice is at
@@ -41,7 +41,7 @@ label-by_side M s d m (o, l, i, q) (p, j) =
 
 -- ---- the label of what a direction lies on
 -- the sloop comes after the arcs
-past-arcs : (as' : List Arc) (o : Option MapSloop) (k : ℕ) (l : MapSloop) → At (items_then as' o) k (sloop_item l) → k < length as' → ⊥
+past-arcs : (as' : List Arc) (o : Option MapSloop) (k : ℕ) (l : MapSloop) → IsAt (items_then as' o) k (sloop_item l) → k < length as' → ⊥
 past-arcs [] o k l a h = absurd (omega (arith, h))
 past-arcs (b ∷ as') o zero l a h = absurd cc
 past-arcs (b ∷ as') o (suc k) l a h = past-arcs as' o k l a (omega (arith, h))
@@ -55,31 +55,31 @@ module _ (m : SphereMap) (d : Vector) where
       at_svertex k (svertex_of w) b (subst (λ (r : MapVertex). SameDirection r.dir d) (at-one (map svertex_of m.svertices) k v (svertex_of w) a b) s) refl
 
   -- the item at whose place a direction lies
-  pub arc-placed : (k : ℕ) → IsPlaceOf (map_of m) d (place.Arc k) → (x : Item) × At (items (map_of m)) k x × OnItem (map_of m) x d
+  pub arc-placed : (k : ℕ) → IsPlaceOf (map_of m) d (place.Arc k) → (x : Item) × IsAt (items (map_of m)) k x × OnItem (map_of m) x d
   arc-placed k (a, h, o) = (arc_item a, at-arc (map_of m).arcs (map_of m).sloop k a h, o)
 
-  pub sloop-placed : (k : ℕ) → k ≡ length m.arcs → IsPlaceOf (map_of m) d place.Loop → (x : Item) × At (items (map_of m)) k x × OnItem (map_of m) x d
-  sloop-placed k e (l, h, o) = (sloop_item l, subst (λ (n : ℕ). At (items (map_of m)) n (sloop_item l)) (sym e) (sloop-listed m.arcs m.sloop l h), o)
+  pub sloop-placed : (k : ℕ) → k ≡ length m.arcs → IsPlaceOf (map_of m) d place.Loop → (x : Item) × IsAt (items (map_of m)) k x × OnItem (map_of m) x d
+  sloop-placed k e (l, h, o) = (sloop_item l, subst (λ (n : ℕ). IsAt (items (map_of m)) n (sloop_item l)) (sym e) (sloop-listed m.arcs m.sloop l h), o)
 
   -- the place of a direction on an item, by the item's number
-  pub arc-place : (k : ℕ) → k < length m.arcs → (x : Item) → At (items (map_of m)) k x → OnItem (map_of m) x d → IsPlaceOf (map_of m) d (place.Arc k)
+  pub arc-place : (k : ℕ) → k < length m.arcs → (x : Item) → IsAt (items (map_of m)) k x → OnItem (map_of m) x d → IsPlaceOf (map_of m) d (place.Arc k)
   arc-place k h (arc_item a) b o = (a, arc-at (map_of m).arcs (map_of m).sloop k a b, o)
   arc-place k h (sloop_item l) b o = let e = length-map m.arcs arc_of in absurd (past-arcs (map_of m).arcs (map_of m).sloop k l b (omega (arith, h, e)))
 
-  pub sloop-place : (k : ℕ) → length m.arcs ≤ k → (x : Item) → At (items (map_of m)) k x → OnItem (map_of m) x d → IsPlaceOf (map_of m) d place.Loop
+  pub sloop-place : (k : ℕ) → length m.arcs ≤ k → (x : Item) → IsAt (items (map_of m)) k x → OnItem (map_of m) x d → IsPlaceOf (map_of m) d place.Loop
   sloop-place k h (arc_item a) b o = let w = map-within arc_of m.arcs k a (arc-at (map_of m).arcs (map_of m).sloop k a b) in absurd (omega (arith, h, w))
   sloop-place k h (sloop_item l) b o = (l, sloop-at (map_of m).arcs (map_of m).sloop k l b, o)
 
-  pub label-item : (k : ℕ) (y : Item) (t : Label) → At (items (map_of m)) k y → t ≡ item_mark y → ((x : Item) × At (items (map_of m)) k x × OnItem (map_of m) x d) → MapLabel (map_of m) d t
+  pub label-item : (k : ℕ) (y : Item) (t : Label) → IsAt (items (map_of m)) k y → t ≡ item_mark y → ((x : Item) × IsAt (items (map_of m)) k x × OnItem (map_of m) x d) → MapLabel (map_of m) d t
   label-item k y t b e (x, a, o) = on_item k y b (subst (λ (r : Item). OnItem (map_of m) r d) (at-one (items (map_of m)) k x y a b) o) (sym e)
 
 -- ---- going over the items of a map
 module _ (M : Map) (P : Item → Type 0) where
-  pub none-more : (n : ℕ) (y : Item) → At (items M) n y → (P y → ⊥) → ((k : ℕ) → k < n → (x : Item) → At (items M) k x → P x → ⊥) → (k : ℕ) → k < n + 1 → (x : Item) → At (items M) k x → P x → ⊥
+  pub none-more : (n : ℕ) (y : Item) → IsAt (items M) n y → (P y → ⊥) → ((k : ℕ) → k < n → (x : Item) → IsAt (items M) k x → P x → ⊥) → (k : ℕ) → k < n + 1 → (x : Item) → IsAt (items M) k x → P x → ⊥
   none-more n y b off before k h x a p = ⊎_elim
-      (λ e. off (subst P (at-one (items M) n x y (subst (λ (i : ℕ). At (items M) i x) e a) b) p))
+      (λ e. off (subst P (at-one (items M) n x y (subst (λ (i : ℕ). IsAt (items M) i x) e a) b) p))
       (λ l. before k l x a p)
       (eq-or-lt_of_le {n = k} {m = n} (omega arith))
 
-  pub none-of_all : (n : ℕ) → length (items M) ≤ n → ((k : ℕ) → k < n → (x : Item) → At (items M) k x → P x → ⊥) → (k : ℕ) (x : Item) → At (items M) k x → P x → ⊥
+  pub none-of_all : (n : ℕ) → length (items M) ≤ n → ((k : ℕ) → k < n → (x : Item) → IsAt (items M) k x → P x → ⊥) → (k : ℕ) (x : Item) → IsAt (items M) k x → P x → ⊥
   none-of_all n h before k x a p = before k (let i = at-within (items M) k x a in omega arith) x a p

@@ -1,10 +1,10 @@
 -- The side that sees a free direction: that of the item which a way close to it meets first, or the only one.
-use Rattle.nef_smap.proofs.Prelude.{◌≡◌, ℕ, zero, suc, ◌+◌, ◌*◌, ◌^◌, ◌≤◌, ℤ, pos, ◌-ℤ◌, ◌*ℤ◌, ◌<ℤ◌, arith, refl, ap, sym, ◌∙◌, inl, ⊎_elim, List, [], ◌∷◌, ◌++◌, length, Option, Some, None, subst, slice_get, negsuc, nat_abs, ◌≤ℤ◌, Bool, true, false, cond, ◌↔◌, not_true, normal_limit, ints, ring, at, num, ◌⊕◌, ◌⊖◌, ◌⊗◌, follows, given, none, sign, nought-is, by_order, mul_pos, nought-or, square_pos, Vector, vector, IsDirection, IsNormal, IsAtMost, triple, cross, dot, blend, up as upward, Label, IsAt, same-off, At, MapVertex, Arc, MapSloop, Map, Item, arc_item, sloop_item, items, items_then, item_normal, dir_of, OnItem, IsFree, IsClear, around_svertex, pos_item, neg_item, whole, Sees, directly, by_way_of, HasArc, Shaped, Keeps, forms, gather, normal-is, direction-by, amount, far-keeps, far-level, gather-has, at-one, item-forms, normal-form, on-level, on-direction, arc-point, Ends, ends-of, at-arc, product-off, slid, slid-level, slid-square, IsZero-times, cross-self, miss-between, between-off_target, free-around, clear-around, Outlook, outlook, outlook-free, outlook-clear, outlook-svertex, clear-self, IsLarge, SideSees, labelled, svertex_sides, item_sides, meet_of, IsFair, IsFirstMet, self-pos, triple-in_plane, cross-none, dir-self, apart, is-at_none}
+use Rattle.nef_smap.proofs.Prelude.{◌≡◌, ℕ, zero, suc, ◌+◌, ◌*◌, ◌^◌, ◌≤◌, ℤ, pos, ◌-ℤ◌, ◌*ℤ◌, ◌<ℤ◌, arith, refl, ap, sym, ◌∙◌, inl, ⊎_elim, List, [], ◌∷◌, ◌++◌, length, Option, Some, None, subst, slice_get, negsuc, nat_abs, ◌≤ℤ◌, Bool, true, false, cond, ◌↔◌, not_true, normal_limit, ints, ring, at, num, ◌⊕◌, ◌⊖◌, ◌⊗◌, follows, given, none, sign, nought-is, by_order, mul_pos, nought-or, square_pos, Vector, vector, IsDirection, IsNormal, IsAtMost, triple, cross, dot, blend, up as upward, Label, IsAt, same-off, MapVertex, Arc, MapSloop, Map, Item, arc_item, sloop_item, items, items_then, item_normal, dir_of, OnItem, IsFree, IsClear, around_svertex, pos_item, neg_item, whole, Sees, directly, by_way_of, HasArc, Shaped, Keeps, forms, gather, normal-is, direction-by, amount, far-keeps, far-level, gather-has, at-one, item-forms, normal-form, on-level, on-direction, arc-point, Ends, ends-of, at-arc, product-off, slid, slid-level, slid-square, IsZero-times, cross-self, miss-between, between-off_target, free-around, clear-around, Outlook, outlook, outlook-free, outlook-clear, outlook-svertex, clear-self, IsLarge, SideSees, labelled, svertex_sides, item_sides, way_meet, IsFair, IsFirstMet, self-pos, triple-in_plane, cross-none, dir-self, apart, is-at_none}
 use Rattle.std.specs.Bool.{IsTrue}
 use Rattle.nef_smap.proofs.FirstMet.{first-clear}
 
 -- ---- the way to an arc
-module _ (M : Map) (V : Shaped M) (d u : Vector) (F : IsFree M d) (up : (l : ℕ) (x : Item) → At (items M) l x → pos 0 <ℤ dot (item_normal x) u) (a : Arc) (h : At M.arcs 0 a) where
+module _ (M : Map) (V : Shaped M) (d u : Vector) (F : IsFree M d) (up : (l : ℕ) (x : Item) → IsAt (items M) l x → pos 0 <ℤ dot (item_normal x) u) (a : Arc) (h : IsAt M.arcs 0 a) where
   abbrev n : Vector
   n = a.normal
 
@@ -20,7 +20,7 @@ module _ (M : Map) (V : Shaped M) (d u : Vector) (F : IsFree M d) (up : (l : ℕ
   b : Ends M a
   b = ends-of M V 0 a h
 
-  listed : At (items M) 0 (arc_item a)
+  listed : IsAt (items M) 0 (arc_item a)
   listed = at-arc M.arcs M.sloop 0 a h
 
   hn : IsDirection n
@@ -38,7 +38,7 @@ module _ (M : Map) (V : Shaped M) (d u : Vector) (F : IsFree M d) (up : (l : ℕ
   start-free : IsFree M start
   start-free = free-around M V d start kept F
 
-  planes : (l : ℕ) (x : Item) → At (items M) l x → dot (item_normal x) start ≡ pos 0 → ⊥
+  planes : (l : ℕ) (x : Item) → IsAt (items M) l x → dot (item_normal x) start ≡ pos 0 → ⊥
   planes l x k z = ⊎_elim
       (λ y. let e = far-level (forms M) d u j (omega arith) (item_normal x) y in let f = nought-is (dot (item_normal x) u) (sym e ∙ ap sign z) in let g = up l x k in omega (arith, ints))
       (λ f. same-off (dot (item_normal x) d) (dot (item_normal x) start) (kept (item_normal x) (item-forms M l x (item_normal x) k (normal-form M x)) f) f z)
@@ -67,7 +67,7 @@ module _ (M : Map) (V : Shaped M) (d u : Vector) (F : IsFree M d) (up : (l : ℕ
       ((at 3 ⊗ at 3 ⊕ at 4 ⊗ at 4 ⊕ at 5 ⊗ at 5) ⊗ (at 0 ⊗ at 6 ⊕ at 1 ⊗ at 7 ⊕ at 2 ⊗ at 8))
       (given (num (pos 0) ⊖ (at 3 ⊗ at 6 ⊕ at 4 ⊗ at 7 ⊕ at 5 ⊗ at 8)) (at 0 ⊗ at 3 ⊕ at 1 ⊗ at 4 ⊕ at 2 ⊗ at 5) (num (pos 0)) b.source_level none) tt
 
-  off : (l : ℕ) (v : MapVertex) → At M.svertices l v → IsDirection (cross start v.dir) → dot (cross start v.dir) end ≡ pos 0 → ⊥
+  off : (l : ℕ) (v : MapVertex) → IsAt M.svertices l v → IsDirection (cross start v.dir) → dot (cross start v.dir) end ≡ pos 0 → ⊥
   off l v q f z = ⊎_elim
       (λ y.
       let e = far-level crosses s beside k (omega arith) g y in
@@ -97,24 +97,24 @@ module _ (M : Map) (V : Shaped M) (d u : Vector) (F : IsFree M d) (up : (l : ℕ
   }
 
   -- the side of the first item that is met
-  module _ (i : ℕ) (x : Item) (q : At (items M) i x) (first : (j k : ℕ) → IsLarge j k → IsFair M (blend j d 1 u) (blend k s 1 (cross a.normal s)) → IsFirstMet M (blend j d 1 u) (blend k s 1 (cross a.normal s)) (length (items M)) x) where
+  module _ (i : ℕ) (x : Item) (q : IsAt (items M) i x) (first : (j k : ℕ) → IsLarge j k → IsFair M (blend j d 1 u) (blend k s 1 (cross a.normal s)) → IsFirstMet M (blend j d 1 u) (blend k s 1 (cross a.normal s)) (length (items M)) x) where
     met : IsFirstMet M start end (length (items M)) x
     met = first j k large fair
 
-    clear : IsClear M start (meet_of (item_normal x) start end)
+    clear : IsClear M start (way_meet (item_normal x) start end)
     clear = first-clear M V start end start-free planes off i x q met
 
     pub first-above : pos 0 <ℤ dot (item_normal x) (blend (2 ^ 128 + amount (forms M) u) d 1 u) → Sees M (pos_item i) d
-    first-above p = by_way_of start (meet_of (item_normal x) start end) (clear-around M V d start kept F) clear (x, q, met.on, p)
+    first-above p = by_way_of start (way_meet (item_normal x) start end) (clear-around M V d start kept F) clear (x, q, met.on, p)
 
     pub first-below : dot (item_normal x) (blend (2 ^ 128 + amount (forms M) u) d 1 u) <ℤ pos 0 → Sees M (neg_item i) d
-    first-below p = by_way_of start (meet_of (item_normal x) start end) (clear-around M V d start kept F) clear (x, q, met.on, p)
+    first-below p = by_way_of start (way_meet (item_normal x) start end) (clear-around M V d start kept F) clear (x, q, met.on, p)
 
     pub first-parts : dot (item_normal x) (blend (2 ^ 128 + amount (forms M) u) d 1 u) ≡ pos 0 → ⊥
     first-parts = planes i x q
 
 -- ---- a map without arcs
-module _ (M : Map) (V : Shaped M) (d : Vector) (F : IsFree M d) (l : MapSloop) (h : At (items M) 0 (sloop_item l)) (only : (i : ℕ) (x : Item) → At (items M) i x → i ≡ 0) where
+module _ (M : Map) (V : Shaped M) (d : Vector) (F : IsFree M d) (l : MapSloop) (h : IsAt (items M) 0 (sloop_item l)) (only : (i : ℕ) (x : Item) → IsAt (items M) i x → i ≡ 0) where
   abbrev m : Vector
   m = l.normal
 
@@ -148,7 +148,7 @@ module _ (M : Map) (V : Shaped M) (d : Vector) (F : IsFree M d) (l : MapSloop) (
   across : IsDirection (cross d point)
   across = apart m d point circle-off level some
 
-  off_point : (k : ℕ) (v : MapVertex) → At M.svertices k v → IsDirection (cross d v.dir) → dot (cross d v.dir) point ≡ pos 0 → ⊥
+  off_point : (k : ℕ) (v : MapVertex) → IsAt M.svertices k v → IsDirection (cross d v.dir) → dot (cross d v.dir) point ≡ pos 0 → ⊥
   off_point k v a g z = product-off (dot m d *ℤ dot m d) (dot (cross d v.dir) far.vector) (square_pos (dot m d) circle-off) (far.misses 0 d refl k v a g) (sym (slid-square m d (cross d v.dir) far.vector (cross-self d v.dir)) ∙ z)
 
   clear-point : IsClear M d point
@@ -160,7 +160,7 @@ module _ (M : Map) (V : Shaped M) (d : Vector) (F : IsFree M d) (l : MapSloop) (
       direction = direction-by m (blend i d j point) (between-off_target m d point i j si level circle-off);
       off_svertices = λ k v a q. miss-between d v.dir point i j sj (V.svertex_dirs k v a) (off_point k v a) across q;
       off_items = λ k x a o.
-          let e = at-one (items M) 0 x (sloop_item l) (subst (λ (r : ℕ). At (items M) r x) (only k x a) a) h in
+          let e = at-one (items M) 0 x (sloop_item l) (subst (λ (r : ℕ). IsAt (items M) r x) (only k x a) a) h in
           between-off_target m d point i j si level circle-off (on-level M (sloop_item l) (blend i d j point) (subst (λ (y : Item). OnItem M y (blend i d j point)) e o));
     };
   }
@@ -178,15 +178,15 @@ module _ (M : Map) (V : Shaped M) (d : Vector) (F : IsFree M d) (l : MapSloop) (
 pub bare-seen : (M : Map) → Shaped M → (d : Vector) → IsFree M d → M.arcs ≡ [] → M.sloop ≡ None → SideSees M 0 d
 bare-seen M V d F e f = by M.svertices refl
   where
-    no_items : (l : ℕ) (x : Item) → At (items M) l x → ⊥
-    no_items l x a = is-at_none (subst (λ (xs : List Item). At xs l x) (ap (λ (as' : List Arc). items_then as' M.sloop) e ∙ ap (items_then []) f) a)
+    no_items : (l : ℕ) (x : Item) → IsAt (items M) l x → ⊥
+    no_items l x a = is-at_none (subst (λ (xs : List Item). IsAt xs l x) (ap (λ (as' : List Arc). items_then as' M.sloop) e ∙ ap (items_then []) f) a)
 
     no_arc : (k : ℕ) → HasArc M k → ⊥
-    no_arc k (i, a, g, c) = is-at_none (subst (λ (xs : List Arc). At xs i a) e g)
+    no_arc k (i, a, g, c) = is-at_none (subst (λ (xs : List Arc). IsAt xs i a) e g)
 
     around : (vs : List MapVertex) (v : MapVertex) (ws : List MapVertex) → vs ≡ v ∷ ws → M.svertices ≡ vs → SideSees M 0 d
     around vs v ws g g' =
-        let a : At M.svertices 0 v = subst (λ (xs : List MapVertex). At xs 0 v) (sym (g' ∙ g)) refl in
+        let a : IsAt M.svertices 0 v = subst (λ (xs : List MapVertex). IsAt xs 0 v) (sym (g' ∙ g)) refl in
         let r = V.around_lone 0 v a (no_arc 0) in
         let h = V.svertex_dirs 0 v a in
         let ds = d ∷ v.dir ∷ [] in
@@ -232,9 +232,9 @@ pub side-chosen : (M : Map) (d : Vector) (i : ℕ) (above : Bool) (z : ℤ) → 
 side-chosen M d i true z t f up down = up (t.0 refl)
 side-chosen M d i false z t f up down = by_order z (pos 0) down (λ e. absurd (f e)) (λ h. absurd (not_true (t.1 h)))
 
-abbrev pub Firsts : Map → ℕ → Item → Vector → Vector → Vector → Vector → Type 0
-Firsts M n x d u s b = (j k : ℕ) → IsLarge j k → IsFair M (blend j d 1 u) (blend k s 1 b) → IsFirstMet M (blend j d 1 u) (blend k s 1 b) n x
+abbrev pub FirstsAreMet : Map → ℕ → Item → Vector → Vector → Vector → Vector → Type 0
+FirstsAreMet M n x d u s b = (j k : ℕ) → IsLarge j k → IsFair M (blend j d 1 u) (blend k s 1 b) → IsFirstMet M (blend j d 1 u) (blend k s 1 b) n x
 
-pub firsts-carried : (M : Map) (n : ℕ) (x : Item) (d u s b d' u' s' b' : Vector) → d ≡ d' → u ≡ u' → s ≡ s' → b ≡ b' → Firsts M n x d u s b → Firsts M n x d' u' s' b'
+pub firsts-carried : (M : Map) (n : ℕ) (x : Item) (d u s b d' u' s' b' : Vector) → d ≡ d' → u ≡ u' → s ≡ s' → b ≡ b' → FirstsAreMet M n x d u s b → FirstsAreMet M n x d' u' s' b'
 firsts-carried M n x d u s b d' u' s' b' e f g h q =
-    subst (λ (y : Vector). Firsts M n x d' u' s' y) h (subst (λ (y : Vector). Firsts M n x d' u' y b) g (subst (λ (y : Vector). Firsts M n x d' y s b) f (subst (λ (y : Vector). Firsts M n x y u s b) e q)))
+    subst (λ (y : Vector). FirstsAreMet M n x d' u' s' y) h (subst (λ (y : Vector). FirstsAreMet M n x d' u' y b) g (subst (λ (y : Vector). FirstsAreMet M n x d' y s b) f (subst (λ (y : Vector). FirstsAreMet M n x y u s b) e q)))

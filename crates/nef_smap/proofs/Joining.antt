@@ -1,18 +1,17 @@
 -- What each link of the program joins.
-use Rattle.nef_smap.proofs.Prelude.{◌≡◌, ℕ, ℤ, pos, ◌*ℤ◌, ◌<ℤ◌, arith, ap, sym, ◌∙◌, List, [], ◌∷◌, map, slice_get, subst, Some, ints, ring, at, num, ◌⊕◌, ◌⊖◌, ◌⊗◌, follows, given, none, mul_pos, normal_limit, svertex_limit, Vector, IsDirection, IsZero, IsAtMost, cross, triple, dot, up, opposite, SameDirection, same-nought, vector_of, At, Item, arc_item, items, item_normal, same-plus, dir-at, at-arc, SArc, SVertex, SphereMap, svertex_of, arc_of, map_of, IsSphereMap, dot-zero, self-pos, triple-dot, dir-signs, apart, direction-left, map-is_at}
+use Rattle.nef_smap.proofs.Prelude.{◌≡◌, ℕ, ℤ, pos, ◌*ℤ◌, ◌<ℤ◌, arith, ap, sym, ◌∙◌, List, [], ◌∷◌, map, slice_get, subst, Some, ints, ring, at, num, ◌⊕◌, ◌⊖◌, ◌⊗◌, follows, given, none, mul_pos, normal_limit, svertex_limit, Vector, IsDirection, IsZero, IsAtMost, cross, triple, dot, up, opposite, SameDirection, same-nought, vector_of, IsAt, Item, arc_item, items, item_normal, same-plus, dir-at, at-arc, SArc, SVertex, SphereMap, svertex_of, arc_of, map_of, IsSphereMap, dot-zero, self-pos, triple-dot, dir-signs, apart, direction-left, map-is_at, axis_x, axis_y}
 use Rattle.nef_geo.proofs.Directions.{small-neg}
-use Rattle.nef_smap.proofs.Axes.{x_axis, y_axis}
 use Rattle.nef_smap.proofs.CloseSigns.{dir-from_get}
 use Rattle.nef_smap.proofs.Sound.{along-turn}
 use Rattle.nef_smap.proofs.Stands.{dot-opposite}
 use Rattle.nef_smap.proofs.Upward.{map-ahead, map-across}
 
 -- ---- svertices
-pub svertex-listed : (vs : List SVertex) (k : ℕ) (v : SVertex) → slice_get vs k ≡ Some v → At (map svertex_of vs) k (svertex_of v)
+pub svertex-listed : (vs : List SVertex) (k : ℕ) (v : SVertex) → slice_get vs k ≡ Some v → IsAt (map svertex_of vs) k (svertex_of v)
 svertex-listed = map-is_at svertex_of
 
 module _ (m : SphereMap) (S : IsSphereMap m) (k : ℕ) (v : SVertex) (a : slice_get m.svertices k ≡ Some v) where
-  listed : At (map svertex_of m.svertices) k (svertex_of v)
+  listed : IsAt (map svertex_of m.svertices) k (svertex_of v)
   listed = svertex-listed m.svertices k v a
 
   pub dir-across : IsDirection (cross up (vector_of v.dir))
@@ -35,7 +34,7 @@ pub one-small : (d : Vector) → IsAtMost 1 d → IsAtMost svertex_limit d
 one-small d s = let x = s.of_x in let y = s.of_y in let z = s.of_z in record { of_x = omega (arith, x); of_y = omega (arith, y); of_z = omega (arith, z) }
 
 -- ---- items
-pub arc-listed : (as' : List SArc) (k : ℕ) (a : SArc) → slice_get as' k ≡ Some a → At (map arc_of as') k (arc_of a)
+pub arc-listed : (as' : List SArc) (k : ℕ) (a : SArc) → slice_get as' k ≡ Some a → IsAt (map arc_of as') k (arc_of a)
 arc-listed = map-is_at arc_of
 
 -- ---- directions in a plane
@@ -43,10 +42,10 @@ pub cross-level : (n x d : Vector) → SameDirection (cross n x) d → dot n d �
 cross-level n x d w = same-nought (dot n (cross n x)) (dot n d) (dir-signs (cross n x) d n (direction-left (cross n x) d w) w)
     (ring (n.x ∷ n.y ∷ n.z ∷ x.x ∷ x.y ∷ x.z ∷ []) (at 0 ⊗ (at 1 ⊗ at 5 ⊖ at 2 ⊗ at 4) ⊕ at 1 ⊗ (at 2 ⊗ at 3 ⊖ at 0 ⊗ at 5) ⊕ at 2 ⊗ (at 0 ⊗ at 4 ⊖ at 1 ⊗ at 3)) (num (pos 0)) tt)
 
-pub plane-some : (n x y : Vector) → IsDirection n → x ≡ x_axis → y ≡ y_axis → IsZero (cross n x) → IsZero (cross n y) → ⊥
+pub plane-some : (n x y : Vector) → IsDirection n → x ≡ axis_x → y ≡ axis_y → IsZero (cross n x) → IsZero (cross n y) → ⊥
 plane-some n x y h a b p q =
-    let i : IsZero (cross n x_axis) = subst (λ (v : Vector). IsZero (cross n v)) a p in
-    let j : IsZero (cross n y_axis) = subst (λ (v : Vector). IsZero (cross n v)) b q in
+    let i : IsZero (cross n axis_x) = subst (λ (v : Vector). IsZero (cross n v)) a p in
+    let j : IsZero (cross n axis_y) = subst (λ (v : Vector). IsZero (cross n v)) b q in
     let e = i.1 in let f = i.2 in let g = j.2 in
     h (omega (arith, ints), omega (arith, ints), omega (arith, ints))
 
@@ -83,14 +82,14 @@ along-off n s r u p q h k e =
     omega (arith, ints)
 
 module _ (m : SphereMap) (S : IsSphereMap m) where
-  pub normal-small : (k : ℕ) (x : Item) → At (items (map_of m)) k x → IsAtMost normal_limit (item_normal x)
+  pub normal-small : (k : ℕ) (x : Item) → IsAt (items (map_of m)) k x → IsAtMost normal_limit (item_normal x)
   normal-small k x a = let s = S.small in s.normals k x a
 
-  pub arc-item_listed : (k : ℕ) (r : SArc) → slice_get m.arcs k ≡ Some r → At (items (map_of m)) k (arc_item (arc_of r))
+  pub arc-item_listed : (k : ℕ) (r : SArc) → slice_get m.arcs k ≡ Some r → IsAt (items (map_of m)) k (arc_item (arc_of r))
   arc-item_listed k r a = at-arc (map_of m).arcs (map_of m).sloop k (arc_of r) (arc-listed m.arcs k r a)
 
   -- a direction in the plane of an item isn't parallel to the upward direction
-  pub plane-across : (k : ℕ) (x : Item) → At (items (map_of m)) k x → (d : Vector) → IsDirection d → dot (item_normal x) d ≡ pos 0 → IsDirection (cross up d)
+  pub plane-across : (k : ℕ) (x : Item) → IsAt (items (map_of m)) k x → (d : Vector) → IsDirection d → dot (item_normal x) d ≡ pos 0 → IsDirection (cross up d)
   plane-across k x a d h z = apart (item_normal x) up d (λ e. let p = map-ahead m S k x a in omega (arith, ints)) z h
 
   module _ (k : ℕ) (r : SArc) (a : slice_get m.arcs k ≡ Some r) (v : SVertex) (b : slice_get m.svertices r.source ≡ Some v) where

@@ -1,5 +1,5 @@
 -- The label of a free direction: of what lies over it. It is a labelling, which the signs of finitely many forms determine.
-use Rattle.nef_smap.proofs.Prelude.{◌≡◌, ℕ, pos, ◌<ℤ◌, refl, ap, sym, ◌∙◌, inl, inr, List, [], ◌∷◌, ◌++◌, Option, ring, at, ◌⊕◌, ◌⊖◌, ◌⊗◌, sign, lies-left, lies-right, Lies, Vector, cross, dot, Label, Out, Decided, At, Map, Item, items, item_normal, IsFree, Side, Shaped, SameSigns, gather, forms, Labelling, item-forms, normal-form, IsFree-decided, free-by_signs, over_forms, IsFirst, first_sign, Stands, met}
+use Rattle.nef_smap.proofs.Prelude.{◌≡◌, ℕ, pos, ◌<ℤ◌, refl, ap, sym, ◌∙◌, inl, inr, List, [], ◌∷◌, ◌++◌, Option, ring, at, ◌⊕◌, ◌⊖◌, ◌⊗◌, sign, lies-left, lies-right, Lies, Vector, cross, dot, Label, Out, Decided, IsAt, Map, Item, items, item_normal, IsFree, Side, Shaped, SameSigns, gather, forms, Labelling, item-forms, normal-form, IsFree-decided, free-by_signs, over_forms, IsFirst, first_sign, Stands, met}
 use Rattle.nef_smap.proofs.Rise.{lies-at, form-over, meridian-over}
 use Rattle.nef_smap.proofs.Over.{one_side, moved, first-one}
 use Rattle.nef_smap.proofs.Lowest.{first-exists}
@@ -34,7 +34,7 @@ module _ (M : Map) (u e : Vector) (G : Side → Label) (top : Label) where
       a g l ∙ ap (λ t. first_sign t (first_sign (sign (dot g (cross u c))) (sign (dot g e)))) (s g (over-above g l))
       ∙ ap (λ t. first_sign (sign (dot g d)) (first_sign t (sign (dot g e)))) (ap sign (turned-form g u c) ∙ s (cross g u) (turned-above g l) ∙ sym (ap sign (turned-form g u d)))
 
-  module _ (V : Shaped M) (ahead : (k : ℕ) (x : Item) → At (items M) k x → pos 0 <ℤ dot (item_normal x) u) where
+  module _ (V : Shaped M) (ahead : (k : ℕ) (x : Item) → IsAt (items M) k x → pos 0 <ℤ dot (item_normal x) u) where
     -- directions with the same signs
     pub first-same : (y z : Vector) → SameSigns (over_forms M u) y z → (r : Option ℕ) → IsFirst M u y r → IsFirst M u z r
     first-same y z s r f = moved M u y z (λ m l. s m (meridian-over M u m l))

@@ -1,5 +1,5 @@
 -- Lists of links, link by link.
-use Rattle.nef_smap.proofs.Prelude.{◌≡◌, ℕ, zero, suc, ◌+◌, ◌<◌, arith, length-append, refl, ap, sym, ◌∙◌, ⊎_elim, List, [], ◌∷◌, ◌++◌, length, subst, Option, Some, None, Bor, IsAt, up, Label, At, MapVertex, Arc, MapSloop, Map, sloop_item, items, items_then, around_svertex, pos_item, whole, at-one, Link, labelled, svertex_sides, item_sides, sides_of, AreLinked, SphereMap, BelowFirsts, BelowFirst, ArcFirst, SloopFirst, met_number, IsJoin, join_below, join_around, join_arc, join_sloop, join_ground, AreJoins, one_if, arounds_before, number_of, JoinsBelow, JoinsAround, JoinsArc, JoinsSloop, JoinsGround, HasLink, ComesOf, AreEach, AreArounds, AreSloops, AreGrounds, less-or-last, Either, earlier, last, is-at_either, is-at_left, is-at_last, is-at_some, is-at_parts, is-at_right, is-at_none, is-at_first}
+use Rattle.nef_smap.proofs.Prelude.{◌≡◌, ℕ, zero, suc, ◌+◌, ◌<◌, arith, length-append, refl, ap, sym, ◌∙◌, ⊎_elim, List, [], ◌∷◌, ◌++◌, length, subst, Option, Some, None, Bor, IsAt, up, Label, MapVertex, Arc, MapSloop, Map, sloop_item, items, items_then, around_svertex, pos_item, whole, at-one, Link, labelled, svertex_sides, item_sides, sides_of, AreLinked, SphereMap, BelowFirsts, BelowFirst, ArcFirst, SloopFirst, met_number, IsJoin, join_below, join_around, join_arc, join_sloop, join_ground, AreJoins, one_if_label, arounds_before, side_number, JoinsBelow, JoinsAround, JoinsArc, JoinsSloop, JoinsGround, HasLink, ComesOf, AreEach, AreArounds, AreSloops, AreGrounds, less-or-last, Either, earlier, last, is-at_either, is-at_left, is-at_last, is-at_some, is-at_parts, is-at_right, is-at_none, is-at_first}
 use Rattle.nef_smap.proofs.Lists.{at-within}
 use Rattle.nef_smap.proofs.SideLists.{length-item_sides}
 
@@ -24,12 +24,12 @@ pub arounds-start : (vs : List MapVertex) → arounds_before vs 0 ≡ 0
 arounds-start [] = refl
 arounds-start (v ∷ vs) = refl
 
-pub arounds-next : (vs : List MapVertex) (n : ℕ) (v : MapVertex) → At vs n v → arounds_before vs (n + 1) ≡ arounds_before vs n + one_if v.around
+pub arounds-next : (vs : List MapVertex) (n : ℕ) (v : MapVertex) → IsAt vs n v → arounds_before vs (n + 1) ≡ arounds_before vs n + one_if_label v.around
 arounds-next vs n v a = ap (arounds_before vs) (let e : n + 1 ≡ suc n = omega arith in e) ∙ next vs n v a
   where
-    next : (vs : List MapVertex) (n : ℕ) (v : MapVertex) → At vs n v → arounds_before vs (suc n) ≡ arounds_before vs n + one_if v.around
+    next : (vs : List MapVertex) (n : ℕ) (v : MapVertex) → IsAt vs n v → arounds_before vs (suc n) ≡ arounds_before vs n + one_if_label v.around
     next [] n v a = absurd (is-at_none a)
-    next (w ∷ vs) zero v a = let e = ap (λ (r : MapVertex). one_if r.around) (is-at_first a) in let f = arounds-start vs in omega arith
+    next (w ∷ vs) zero v a = let e = ap (λ (r : MapVertex). one_if_label r.around) (is-at_first a) in let f = arounds-start vs in omega arith
     next (w ∷ vs) (suc n) v a = let e = next vs n v a in omega arith
 
 pub has-more : (P : Link → Type 0) (ls ms : List Link) → HasLink ls P → HasLink (ls ++ ms) P
@@ -39,7 +39,7 @@ pub has-last : (P : Link → Type 0) (ls : List Link) (l : Link) → P l → Has
 has-last P ls l p = (length ls, l, is-at_last ls l, p)
 
 -- what lies over the directions just below a svertex is joined with the side round it
-pub around-of_below : (M : Map) (n side : ℕ) (v : MapVertex) (m : Label) (l : Link) → At M.svertices n v → v.around ≡ Some m → side ≡ arounds_before M.svertices n → JoinsBelow M n l → JoinsAround M n (record { first = side; second = l.first })
+pub around-of_below : (M : Map) (n side : ℕ) (v : MapVertex) (m : Label) (l : Link) → IsAt M.svertices n v → v.around ≡ Some m → side ≡ arounds_before M.svertices n → JoinsBelow M n l → JoinsAround M n (record { first = side; second = l.first })
 around-of_below M n side v m l a q e (w, b, (j, f, g)) =
     (w, m, b, ap (λ (u : MapVertex). u.around) (at-one M.svertices n w v b a) ∙ q, (record { aside = j.aside; off = j.off; first = j.left; is_first = j.left_first }, e, f))
 
@@ -56,17 +56,17 @@ arounds-more M n ls l j A = record {
     by i x (earlier a) = A.only i x a
     by i x (last e f) = (n, subst (JoinsAround M n) (sym f) j)
 
-pub arounds-pass : (M : Map) (n : ℕ) (ls : List Link) (v : MapVertex) → At M.svertices n v → v.around ≡ None → AreArounds M n ls → AreArounds M (n + 1) ls
+pub arounds-pass : (M : Map) (n : ℕ) (ls : List Link) (v : MapVertex) → IsAt M.svertices n v → v.around ≡ None → AreArounds M n ls → AreArounds M (n + 1) ls
 arounds-pass M n ls v b e A = record {
   only = A.only;
   each = λ k w m h a q. ⊎_elim (λ g. A.each k w m g a q) (λ g. absurd (none w m a q g)) (less-or-last k n h);
 }
   where
-    none : {k : ℕ} (w : MapVertex) (m : Label) → At M.svertices k w → w.around ≡ Some m → k ≡ n → ⊥
-    none w m a q g = let r = at-one M.svertices n v w b (subst (λ (i : ℕ). At M.svertices i w) g a) in let s = sym e ∙ ap (λ (x : MapVertex). x.around) r ∙ q in absurd cc
+    none : {k : ℕ} (w : MapVertex) (m : Label) → IsAt M.svertices k w → w.around ≡ Some m → k ≡ n → ⊥
+    none w m a q g = let r = at-one M.svertices n v w b (subst (λ (i : ℕ). IsAt M.svertices i w) g a) in let s = sym e ∙ ap (λ (x : MapVertex). x.around) r ∙ q in absurd cc
 
 -- ---- links for the sloop
-sloops-one : (as' : List Arc) (o : Option MapSloop) (i k : ℕ) (l c : MapSloop) → At (items_then as' o) i (sloop_item l) → At (items_then as' o) k (sloop_item c) → i ≡ k
+sloops-one : (as' : List Arc) (o : Option MapSloop) (i k : ℕ) (l c : MapSloop) → IsAt (items_then as' o) i (sloop_item l) → IsAt (items_then as' o) k (sloop_item c) → i ≡ k
 sloops-one [] None i k l c a b = absurd (is-at_none a)
 sloops-one [] (Some m) zero zero l c a b = refl
 sloops-one [] (Some m) zero (suc k) l c a b = absurd (is-at_none b)
@@ -85,7 +85,7 @@ sloops-some M k l (c, a, j) = record {
     only zero x b = let e : ◌≡◌ {A = Option Link} (Some l) (Some x) = b in cc
     only (suc i) x b = cc
 
-sloop-given : (as' : List Arc) (o : Option MapSloop) (k : ℕ) (c : MapSloop) → At (items_then as' o) k (sloop_item c) → o ≡ None → ⊥
+sloop-given : (as' : List Arc) (o : Option MapSloop) (k : ℕ) (c : MapSloop) → IsAt (items_then as' o) k (sloop_item c) → o ≡ None → ⊥
 sloop-given [] None k c a e = is-at_none a
 sloop-given [] (Some l) k c a e = absurd cc
 sloop-given (x ∷ as') o zero c a e = absurd cc
@@ -154,41 +154,41 @@ module _ (M : Map) (below around arcs sloops grounds : List Link) (nv na : ℕ) 
       linked : (s t : ℕ) → Linked s t → IsJoin M up s t
       linked s t (i, l, a, e, f) = subst (λ (x : ℕ). IsJoin M up x t) e (subst (λ (x : ℕ). IsJoin M up l.first x) f (only i l a))
 
-      by_svertex : (k : ℕ) (v : MapVertex) → At M.svertices k v → HasLink below (JoinsBelow M k) → (j : BelowFirsts M up v.dir) × Linked (met_number M j.left) (met_number M j.right)
+      by_svertex : (k : ℕ) (v : MapVertex) → IsAt M.svertices k v → HasLink below (JoinsBelow M k) → (j : BelowFirsts M up v.dir) × Linked (met_number M j.left) (met_number M j.right)
       by_svertex k v a h =
           let r = from (JoinsBelow M k) (has-more (JoinsBelow M k) below around h) in
           let p = r.3 in
           subst (λ (w : MapVertex). (j : BelowFirsts M up w.dir) × Linked (met_number M j.left) (met_number M j.right)) (at-one M.svertices k p.0 v p.1 a) (let q = p.2 in (q.0, (r.0, r.1, r.2, q.1, q.2)))
 
-      by_around : (k : ℕ) (v : MapVertex) (m : Label) → At M.svertices k v → v.around ≡ Some m → HasLink around (JoinsAround M k) → (j : BelowFirst M up v.dir) × Linked (number_of M (around_svertex k)) (met_number M j.first)
+      by_around : (k : ℕ) (v : MapVertex) (m : Label) → IsAt M.svertices k v → v.around ≡ Some m → HasLink around (JoinsAround M k) → (j : BelowFirst M up v.dir) × Linked (side_number M (around_svertex k)) (met_number M j.first)
       by_around k v m a q h =
           let r = from (JoinsAround M k) (has-right (JoinsAround M k) below around h) in
           let p = r.3 in
-          subst (λ (w : MapVertex). (j : BelowFirst M up w.dir) × Linked (number_of M (around_svertex k)) (met_number M j.first)) (at-one M.svertices k p.0 v p.2 a) (let x = p.4 in (x.0, (r.0, r.1, r.2, x.1, x.2)))
+          subst (λ (w : MapVertex). (j : BelowFirst M up w.dir) × Linked (side_number M (around_svertex k)) (met_number M j.first)) (at-one M.svertices k p.0 v p.2 a) (let x = p.4 in (x.0, (r.0, r.1, r.2, x.1, x.2)))
 
-      by_arc : (k : ℕ) (r : Arc) → At M.arcs k r → HasLink arcs (JoinsArc M k) → (j : ArcFirst M up r) × Linked (number_of M (pos_item k)) (met_number M j.first)
+      by_arc : (k : ℕ) (r : Arc) → IsAt M.arcs k r → HasLink arcs (JoinsArc M k) → (j : ArcFirst M up r) × Linked (side_number M (pos_item k)) (met_number M j.first)
       by_arc k w a h =
           let r = has-more (JoinsArc M k) (below ++ around ++ arcs ++ sloops) grounds (has-more (JoinsArc M k) (below ++ around ++ arcs) sloops (has-right (JoinsArc M k) (below ++ around) arcs h)) in
           let p = r.3 in
-          subst (λ (x : Arc). (j : ArcFirst M up x) × Linked (number_of M (pos_item k)) (met_number M j.first)) (at-one M.arcs k p.0 w p.1 a) (let q = p.2 in (q.0, (r.0, r.1, r.2, q.1, q.2)))
+          subst (λ (x : Arc). (j : ArcFirst M up x) × Linked (side_number M (pos_item k)) (met_number M j.first)) (at-one M.arcs k p.0 w p.1 a) (let q = p.2 in (q.0, (r.0, r.1, r.2, q.1, q.2)))
 
-      by_sloop : (k : ℕ) (r : MapSloop) → At (items M) k (sloop_item r) → HasLink sloops (JoinsSloop M k) → (j : SloopFirst M up r) × Linked (number_of M (pos_item k)) (met_number M j.first)
+      by_sloop : (k : ℕ) (r : MapSloop) → IsAt (items M) k (sloop_item r) → HasLink sloops (JoinsSloop M k) → (j : SloopFirst M up r) × Linked (side_number M (pos_item k)) (met_number M j.first)
       by_sloop k w a h =
           let r = has-more (JoinsSloop M k) (below ++ around ++ arcs ++ sloops) grounds (has-right (JoinsSloop M k) (below ++ around ++ arcs) sloops h) in
           let p = r.3 in
-          subst (λ (x : MapSloop). (j : SloopFirst M up x) × Linked (number_of M (pos_item k)) (met_number M j.first)) (one p.0 w (at-one (items M) k (sloop_item p.0) (sloop_item w) p.1 a)) (let q = p.2 in (q.0, (r.0, r.1, r.2, q.1, q.2)))
+          subst (λ (x : MapSloop). (j : SloopFirst M up x) × Linked (side_number M (pos_item k)) (met_number M j.first)) (one p.0 w (at-one (items M) k (sloop_item p.0) (sloop_item w) p.1 a)) (let q = p.2 in (q.0, (r.0, r.1, r.2, q.1, q.2)))
         where
           one : (c d : MapSloop) → sloop_item c ≡ sloop_item d → c ≡ d
           one c d e = cc
 
-      by_ground : (m : Label) → M.ground ≡ Some m → HasLink grounds (JoinsGround M) → Linked (number_of M whole) (length (sides_of M))
+      by_ground : (m : Label) → M.ground ≡ Some m → HasLink grounds (JoinsGround M) → Linked (side_number M whole) (length (sides_of M))
       by_ground m q h =
           let r = has-right (JoinsGround M) (below ++ around ++ arcs ++ sloops) grounds h in
           let p = r.3 in
           (r.0, r.1, r.2, p.2, p.3)
 
 -- the last side
-pub whole-last : (M : Map) (m : Label) → M.ground ≡ Some m → length (sides_of M) ≡ number_of M whole + 1
+pub whole-last : (M : Map) (m : Label) → M.ground ≡ Some m → length (sides_of M) ≡ side_number M whole + 1
 whole-last M m q =
     let vs = svertex_sides 0 M.svertices in
     let xs = item_sides 0 (items M) in

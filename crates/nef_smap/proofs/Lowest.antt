@@ -1,39 +1,39 @@
 -- The lowest of what lies over a direction.
-use Rattle.nef_smap.proofs.Prelude.{◌≡◌, ℕ, zero, suc, ℤ, pos, ◌+ℤ◌, ◌-ℤ◌, ◌*ℤ◌, ◌≤ℤ◌, ◌<ℤ◌, arith, refl, sym, ◌∙◌, ◌⊎◌, inl, inr, ⊎_elim, List, [], ◌∷◌, subst, Option, Some, None, ints, ring, at, num, ◌⊕◌, ◌⊖◌, ◌⊗◌, follows, given, none, by_order, nought-or, fraction-le-trans, Vector, cross, dot, Decided, At, Map, Item, items, item_normal, OnItem, positive-or, negative-or, OnItem-decided, rise, IsOver, IsFirst, is-at_none, is-at_first}
+use Rattle.nef_smap.proofs.Prelude.{◌≡◌, ℕ, zero, suc, ℤ, pos, ◌+ℤ◌, ◌-ℤ◌, ◌*ℤ◌, ◌≤ℤ◌, ◌<ℤ◌, arith, refl, sym, ◌∙◌, ◌⊎◌, inl, inr, ⊎_elim, List, [], ◌∷◌, subst, Option, Some, None, ints, ring, at, num, ◌⊕◌, ◌⊖◌, ◌⊗◌, follows, given, none, by_order, nought-or, fraction-le-trans, Vector, cross, dot, Decided, IsAt, Map, Item, items, item_normal, OnItem, positive-or, negative-or, OnItem-decided, rise, IsOver, IsFirst, is-at_none, is-at_first}
 use Rattle.nef_smap.proofs.Rise.{rise-is, rise_form-value}
 
 -- ---- the least of a list of fractions
 module _ {A : Type 0} (num den : A → ℤ) where
-  pub record Least (xs : List A) (P : ℕ → A → Type 0) : Type 0 where
+  pub record LeastElement (xs : List A) (P : ℕ → A → Type 0) : Type 0 where
     pub number : ℕ
     pub element : A
-    pub listed : At xs number element
+    pub listed : IsAt xs number element
     pub holds : P number element
-    pub least : (l : ℕ) (y : A) → At xs l y → P l y → (num element *ℤ den y) ≤ℤ (num y *ℤ den element)
+    pub least : (l : ℕ) (y : A) → IsAt xs l y → P l y → (num element *ℤ den y) ≤ℤ (num y *ℤ den element)
 
   abbrev pub NoneOf : List A → (ℕ → A → Type 0) → Type 0
-  NoneOf xs P = (k : ℕ) (x : A) → At xs k x → P k x → ⊥
+  NoneOf xs P = (k : ℕ) (x : A) → IsAt xs k x → P k x → ⊥
 
-  pub least_or : (xs : List A) (P : ℕ → A → Type 0) → ((k : ℕ) (x : A) → Decided (P k x)) → ((k : ℕ) (x : A) → At xs k x → P k x → pos 0 <ℤ den x) → Least xs P ⊎ NoneOf xs P
+  pub least_or : (xs : List A) (P : ℕ → A → Type 0) → ((k : ℕ) (x : A) → Decided (P k x)) → ((k : ℕ) (x : A) → IsAt xs k x → P k x → pos 0 <ℤ den x) → LeastElement xs P ⊎ NoneOf xs P
   least_or [] P D h = inr (λ k x a p. is-at_none a)
   least_or (x ∷ xs) P D h = by (D zero x) (least_or xs (λ k y. P (suc k) y) (λ k y. D (suc k) y) (λ k y a p. h (suc k) y a p))
     where
-      self : (P zero x) → (l : ℕ) (y : A) → At (x ∷ xs) l y → P l y → ((l : ℕ) (y : A) → At xs l y → P (suc l) y → (num x *ℤ den y) ≤ℤ (num y *ℤ den x)) → (num x *ℤ den y) ≤ℤ (num y *ℤ den x)
+      self : (P zero x) → (l : ℕ) (y : A) → IsAt (x ∷ xs) l y → P l y → ((l : ℕ) (y : A) → IsAt xs l y → P (suc l) y → (num x *ℤ den y) ≤ℤ (num y *ℤ den x)) → (num x *ℤ den y) ≤ℤ (num y *ℤ den x)
       self p zero y e q f = subst (λ (z : A). (num x *ℤ den z) ≤ℤ (num z *ℤ den x)) (is-at_first e) (omega (arith, ints))
       self p (suc l) y a q f = f l y a q
 
-      rest : (r : Least xs (λ k y. P (suc k) y)) → (P zero x → (num r.element *ℤ den x) ≤ℤ (num x *ℤ den r.element)) → Least (x ∷ xs) P
+      rest : (r : LeastElement xs (λ k y. P (suc k) y)) → (P zero x → (num r.element *ℤ den x) ≤ℤ (num x *ℤ den r.element)) → LeastElement (x ∷ xs) P
       rest r f = record { number = suc r.number; element = r.element; listed = r.listed; holds = r.holds; least = λ l y a q. later l y a q }
         where
-          later : (l : ℕ) (y : A) → At (x ∷ xs) l y → P l y → (num r.element *ℤ den y) ≤ℤ (num y *ℤ den r.element)
+          later : (l : ℕ) (y : A) → IsAt (x ∷ xs) l y → P l y → (num r.element *ℤ den y) ≤ℤ (num y *ℤ den r.element)
           later zero y e q = subst (λ (z : A). (num r.element *ℤ den z) ≤ℤ (num z *ℤ den r.element)) (is-at_first e) (f (subst (λ (z : A). P zero z) (sym (is-at_first e)) q))
           later (suc l) y a q = r.least l y a q
 
-      by : Decided (P zero x) → Least xs (λ k y. P (suc k) y) ⊎ NoneOf xs (λ k y. P (suc k) y) → Least (x ∷ xs) P ⊎ NoneOf (x ∷ xs) P
+      by : Decided (P zero x) → LeastElement xs (λ k y. P (suc k) y) ⊎ NoneOf xs (λ k y. P (suc k) y) → LeastElement (x ∷ xs) P ⊎ NoneOf (x ∷ xs) P
       by (inr n) (inl r) = inl (rest r (λ p. absurd (n p)))
       by (inr n) (inr m) = inr (λ k. none k)
         where
-          none : (k : ℕ) (y : A) → At (x ∷ xs) k y → P k y → ⊥
+          none : (k : ℕ) (y : A) → IsAt (x ∷ xs) k y → P k y → ⊥
           none zero y e p = n (subst (λ (z : A). P zero z) (sym (is-at_first e)) p)
           none (suc k) y a p = m k y a p
       by (inl p) (inr m) = inl (record { number = zero; element = x; listed = refl; holds = p; least = λ l y a q. self p l y a q (λ k z b w. absurd (m k z b w)) })
@@ -61,7 +61,7 @@ over-decided M u x d = by (negative-or (dot (item_normal x) d)) (OnItem-decided 
     by (inl p) (inr n) = inr (λ o. n o.on)
     by (inr n) o = inr (λ o. n o.below)
 
-module _ (M : Map) (u : Vector) (ahead : (k : ℕ) (x : Item) → At (items M) k x → pos 0 <ℤ dot (item_normal x) u) where
+module _ (M : Map) (u : Vector) (ahead : (k : ℕ) (x : Item) → IsAt (items M) k x → pos 0 <ℤ dot (item_normal x) u) where
   abbrev rise_height : Vector → Item → ℤ
   rise_height d x = pos 0 -ℤ dot (item_normal x) d
 
@@ -71,7 +71,7 @@ module _ (M : Map) (u : Vector) (ahead : (k : ℕ) (x : Item) → At (items M) k
   pub first-exists : (d : Vector) → (r : Option ℕ) × IsFirst M u d r
   first-exists d = by (least_or (rise_height d) rise_speed (items M) (λ k x. IsOver M u x d) (λ k x. over-decided M u x d) (λ k x a p. ahead k x a))
     where
-      by : Least (rise_height d) rise_speed (items M) (λ k x. IsOver M u x d) ⊎ NoneOf (rise_height d) rise_speed (items M) (λ k x. IsOver M u x d) → (r : Option ℕ) × IsFirst M u d r
+      by : LeastElement (rise_height d) rise_speed (items M) (λ k x. IsOver M u x d) ⊎ NoneOf (rise_height d) rise_speed (items M) (λ k x. IsOver M u x d) → (r : Option ℕ) × IsFirst M u d r
       by (inr n) = (None, n)
       by (inl r) = (Some r.number, record { item = r.element; listed = r.listed; over = r.holds; first = λ l y a o. first-by r.element y (r.least l y a o) })
         where

@@ -1,5 +1,5 @@
 -- The signs of forms where a way meets a plane, from their values at its ends.
-use Rattle.nef_smap.proofs.Prelude.{◌≡◌, ℕ, ℤ, pos, neg_ℤ, ◌+ℤ◌, ◌-ℤ◌, ◌*ℤ◌, ◌<ℤ◌, refl, ap, sym, ◌∙◌, [], ◌∷◌, ◌↔◌, arith, ints, ring, at, num, neg, ◌⊕◌, ◌⊖◌, ◌⊗◌, Vector, triple, cross, dot, sign_of, sign_number, Minus, Zero, Plus, dot-comb, Values, SpherePath, linear_at, turn_value, wide_vector, start_at, end_at, AreValues, meet_of}
+use Rattle.nef_smap.proofs.Prelude.{◌≡◌, ℕ, ℤ, pos, neg_ℤ, ◌+ℤ◌, ◌-ℤ◌, ◌*ℤ◌, ◌<ℤ◌, refl, ap, sym, ◌∙◌, [], ◌∷◌, ◌↔◌, arith, ints, ring, at, num, neg, ◌⊕◌, ◌⊖◌, ◌⊗◌, Vector, triple, cross, dot, sign_of, sign_number, Minus, Zero, Plus, dot-comb, Values, SpherePath, linear_at, turn_value, wide_vector, start_at, end_at, AreValues, way_meet}
 use Rattle.nef_geo.specs.declared.sign.Sign.{Sign}
 use Rattle.nef_smap.proofs.FirstMet.{meet-is}
 
@@ -12,7 +12,7 @@ pub end-value : (w : SpherePath) (g : Vector) (v : Values) (k : ℕ) → AreValu
 end-value w g v k h = ap (λ (x : ℤ). pos k *ℤ x +ℤ pos 1 *ℤ v.end.rest) h.end_factor ∙ ap (λ (x : ℤ). pos k *ℤ dot g (wide_vector w.end) +ℤ pos 1 *ℤ x) h.end_rest
     ∙ sym (dot-comb g (pos k) (wide_vector w.end) (pos 1) (wide_vector w.beside))
 
-pub meet-value : (w : SpherePath) (m g : Vector) (n v : Values) (j k : ℕ) → AreValues w m n → AreValues w g v → linear_at n.start j *ℤ turn_value n v j k ≡ dot g (meet_of m (start_at w j) (end_at w k))
+pub meet-value : (w : SpherePath) (m g : Vector) (n v : Values) (j k : ℕ) → AreValues w m n → AreValues w g v → linear_at n.start j *ℤ turn_value n v j k ≡ dot g (way_meet m (start_at w j) (end_at w k))
 meet-value w m g n v j k h i =
     let a = start-value w m n j h in
     let b = end-value w m n k h in

@@ -1,5 +1,5 @@
 -- Stars of directions in faces and on items show the map.
-use Rattle.nef_smap.proofs.Prelude.{◌≡◌, ℕ, zero, List, [], ◌∷◌, length, map, pos, true, false, Option, Some, None, Result, Ok, Err, IfOk, refl, sym, ap, subst, ◌∙◌, sign, normal_limit, svertex_limit, Vector, dot, cross, IsDirection, SameDirection, IsAtMost, IsNormal, IsAt, Label, vector_of, Dir, same_directions_equal, At, MapVertex, Map, HasArc, at_svertex, Item, items, item_normal, item_pos, item_mark, item_neg, OnItem, Side, HasSide, SeenAs, MapLabel, on_item, seen, NearLabel, Valid, by_side, StarLabel, on_ray, in_sector, in_only_sector, StarShows, IsStraight, at-one, none-at, near-lone, straight_star-label, near-free, near-item, sees-free, Ray, Star, ray_of, star_of, sector_at, IsRay, IsStar, at-ray, sector-at, sectors-fill, each_has_one_label, SVertex, SphereMap, svertex_of, map_of, LabelledSide, sides_of, IsSide, SideSees, IsNeighbourhood, IsStarAlong, dir-self, is-at_first}
+use Rattle.nef_smap.proofs.Prelude.{◌≡◌, ℕ, zero, List, [], ◌∷◌, length, map, pos, true, false, Option, Some, None, Result, Ok, Err, IfOk, refl, sym, ap, subst, ◌∙◌, sign, normal_limit, svertex_limit, Vector, dot, cross, IsDirection, SameDirection, IsAtMost, IsNormal, IsAt, Label, vector_of, Dir, same_directions_equal, MapVertex, Map, HasArc, at_svertex, Item, items, item_normal, item_pos, item_mark, item_neg, OnItem, Side, HasSide, SeenAs, MapLabel, on_item, seen, NearLabel, Valid, by_side, StarLabel, on_ray, in_sector, in_only_sector, StarShows, IsStraight, at-one, none-at, near-lone, straight_star-label, near-free, near-item, sees-free, Ray, Star, ray_of, star_of, sector_at, IsRay, IsStar, at-ray, sector-at, sectors-fill, each_has_one_label, SVertex, SphereMap, svertex_of, map_of, LabelledSide, sides_of, IsSide, SideSees, IsNeighbourhood, IsStarAlong, dir-self, is-at_first}
 use Rattle.law_sphere.specs.Stars.{Ray as PlainRay}
 use Rattle.nef_star.proofs.Straight.{plane-star}
 use Rattle.nef_smap.proofs.Lists.{map-at, at-from_get}
@@ -21,7 +21,7 @@ neighbourhood-of t T M S d e = record {
 }
 
 -- each ray has a sector after it
-pub sector-of : (t : Star) → IsStar t → (k : ℕ) (r : PlainRay) → At (star_of t).rays k r → (l : Label) × At t.sectors.items k l
+pub sector-of : (t : Star) → IsStar t → (k : ℕ) (r : PlainRay) → IsAt (star_of t).rays k r → (l : Label) × IsAt t.sectors.items k l
 sector-of t T k r a =
     let h = at-ray t.rays.items k r a in
     (sector_at t.sectors.items k, sector-at t.sectors.items k (sectors-fill t.rays.items (length t.sectors.items) k T.turned.sectors h.0))
@@ -43,7 +43,7 @@ lone-shows t M m T empty one mark near = record {
     only : (e : Vector) (l : Label) → StarLabel (star_of t) e l → m ≡ l
     only e l (on_ray k r a o q) = absurd (none-at (star_of t).rays k r none a)
     only e l (in_sector k q r a n o s) = absurd (none-at (star_of t).rays k q none a)
-    only e l (in_only_sector n s) = is-at_first (subst (λ (r : List Label). At r zero l) one s)
+    only e l (in_only_sector n s) = is-at_first (subst (λ (r : List Label). IsAt r zero l) one s)
 
 -- ---- in a face
 -- the label of a side is that of what it sees
@@ -59,7 +59,7 @@ face-shows t M l V T empty one mark S =
     lone-shows t M l T empty one (subst (MapLabel M (vector_of t.axis)) (sym mark) (seen S)) (λ e off. near-free M V (vector_of t.axis) (sees-free M (vector_of t.axis) l S) l (seen S) e)
 
 -- ---- on an item
-pub along-shows : (t : Star) (M : Map) → Valid M → IsStar t → (i : ℕ) (x : Item) → At (items M) i x → OnItem M x (vector_of t.axis) → IsStarAlong x (star_of t) → StarShows (star_of t) M
+pub along-shows : (t : Star) (M : Map) → Valid M → IsStar t → (i : ℕ) (x : Item) → IsAt (items M) i x → OnItem M x (vector_of t.axis) → IsStarAlong x (star_of t) → StarShows (star_of t) M
 along-shows t M V T i x a o A = record {
   axis = t.axis.some;
   rays = (star-well_formed t T).rays;
@@ -95,11 +95,11 @@ face-ok (Ok t) M s d l V sees has T axis empty one mark =
     neighbourhood-of t T M (face-shows t M l V T empty one mark (subst (λ (c : Dir). SeenAs M (vector_of c) l) (sym axis) (side-label M s (vector_of d) l sees has))) d axis
 face-ok (Err e) M s d l V sees has T axis empty one mark = tt
 
-pub along-here : (t : Star) (M : Map) (i : ℕ) (x : Item) (d : Dir) → Valid M → At (items M) i x → OnItem M x (vector_of d) → IsStar t → t.axis ≡ d → IsStarAlong x (star_of t) → IsNeighbourhood (star_of t) M (vector_of d)
+pub along-here : (t : Star) (M : Map) (i : ℕ) (x : Item) (d : Dir) → Valid M → IsAt (items M) i x → OnItem M x (vector_of d) → IsStar t → t.axis ≡ d → IsStarAlong x (star_of t) → IsNeighbourhood (star_of t) M (vector_of d)
 along-here t M i x d V a o T axis A = neighbourhood-of t T M (along-shows t M V T i x a (subst (λ (c : Dir). OnItem M x (vector_of c)) (sym axis) o) A) d axis
 
 -- what lies on an item with this number
-pub on-listed : (M : Map) (i : ℕ) (y : Item) (d : Vector) → (x : Item) × At (items M) i x × OnItem M x d → At (items M) i y → OnItem M y d
+pub on-listed : (M : Map) (i : ℕ) (y : Item) (d : Vector) → (x : Item) × IsAt (items M) i x × OnItem M x d → IsAt (items M) i y → OnItem M y d
 on-listed M i y d (x, a, o) b = subst (λ (z : Item). OnItem M z d) (at-one (items M) i x y a b) o
 
 -- ---- the two rays along an item
@@ -126,15 +126,15 @@ module _ (x : Item) (t : Star) (q r : Ray) (n : Dir) (m a b : Label) (rays : t.r
 
 -- ---- at a svertex
 -- the svertex of a direction, with that direction
-pub svertex-here : (m : SphereMap) (k : ℕ) (s : SVertex) (d : Dir) → IsAt m.svertices k s → (v : MapVertex) × At (map_of m).svertices k v × SameDirection v.dir (vector_of d)
-    → At (map_of m).svertices k (record { dir = vector_of d; mark = s.mark; around = s.around })
+pub svertex-here : (m : SphereMap) (k : ℕ) (s : SVertex) (d : Dir) → IsAt m.svertices k s → (v : MapVertex) × IsAt (map_of m).svertices k v × SameDirection v.dir (vector_of d)
+    → IsAt (map_of m).svertices k (record { dir = vector_of d; mark = s.mark; around = s.around })
 svertex-here m k s d h (v, a, w) =
     let b = map-at svertex_of m.svertices k s (at-from_get m.svertices k s h) in
     let e : v ≡ svertex_of s = at-one (map_of m).svertices k v (svertex_of s) a b in
     let f : s.dir ≡ d = same_directions_equal s.dir d (subst (λ (x : MapVertex). SameDirection x.dir (vector_of d)) e w) in
-    subst (λ (x : Dir). At (map_of m).svertices k (record { dir = vector_of x; mark = s.mark; around = s.around })) f b
+    subst (λ (x : Dir). IsAt (map_of m).svertices k (record { dir = vector_of x; mark = s.mark; around = s.around })) f b
 
-pub lone-ok : {E : Type 0} (r : Result Star E) (M : Map) (k : ℕ) (own l : Label) (around : Option Label) (d : Dir) → Valid M → At M.svertices k (record { dir = vector_of d; mark = own; around = around }) → around ≡ Some l
+pub lone-ok : {E : Type 0} (r : Result Star E) (M : Map) (k : ℕ) (own l : Label) (around : Option Label) (d : Dir) → Valid M → IsAt M.svertices k (record { dir = vector_of d; mark = own; around = around }) → around ≡ Some l
     → IfOk r IsStar → IfOk r (λ t. t.axis ≡ d) → IfOk r (λ t. t.rays.items ≡ []) → IfOk r (λ t. t.sectors.items ≡ l ∷ []) → IfOk r (λ t. t.mark ≡ own) → IfOk r (λ t. IsNeighbourhood (star_of t) M (vector_of d))
 lone-ok (Ok t) M k own l around d V a some T axis empty one mark =
     neighbourhood-of t T M (lone-shows t M l T empty one (at_svertex k v here (dir-self v.dir t.axis.some) (sym mark)) (near-lone M V k v here lone l some)) d axis
@@ -142,8 +142,8 @@ lone-ok (Ok t) M k own l around d V a some T axis empty one mark =
     v : MapVertex
     v = record { dir = vector_of t.axis; mark = own; around = around }
 
-    here : At M.svertices k v
-    here = subst (λ (x : Dir). At M.svertices k (record { dir = vector_of x; mark = own; around = around })) (sym axis) a
+    here : IsAt M.svertices k v
+    here = subst (λ (x : Dir). IsAt M.svertices k (record { dir = vector_of x; mark = own; around = around })) (sym axis) a
 
     lone : HasArc M k → ⊥
     lone h = let f : Some l ≡ None = sym some ∙ V.shaped.around_not k v here h in cc

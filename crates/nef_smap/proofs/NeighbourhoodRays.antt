@@ -1,5 +1,5 @@
 -- The labels near a svertex: on a ray, and in the sector after it.
-use Rattle.nef_smap.proofs.Prelude.{◌≡◌, ℕ, ◌+◌, ◌≤◌, List, pos, arith, refl, sym, ap, ◌∙◌, ⊎_elim, sign, sign-scaled, nought-or, Vector, IsDirection, cross, dot, SameDirection, blend, Label, IsOnCircle, At, MapVertex, Map, arc_item, HasSide, on_item, seen, NearLabel, Valid, ArcRay, ray_left, ray_side, Unrayed, IsLastRay, SameSigns, forms, across, at-arc, amount, far-keeps, far-level, label-by_signs, near-from_far, left-on, on-end, across-side, self-pos, direction-left, square-cross, SameDirection-turned, dir-signs}
+use Rattle.nef_smap.proofs.Prelude.{◌≡◌, ℕ, ◌+◌, ◌≤◌, List, pos, arith, refl, sym, ap, ◌∙◌, ⊎_elim, sign, sign-scaled, nought-or, Vector, IsDirection, cross, dot, SameDirection, blend, Label, IsOnCircle, IsAt, MapVertex, Map, arc_item, HasSide, on_item, seen, NearLabel, Valid, ArcRay, ray_left, ray_side, Unrayed, IsLastRay, SameSigns, forms, across, at-arc, amount, far-keeps, far-level, label-by_signs, near-from_far, left-on, on-end, across-side, self-pos, direction-left, square-cross, SameDirection-turned, dir-signs}
 use Rattle.law_sphere.proofs.Sectors.{ray-sees}
 use Rattle.nef_star.proofs.Lefts.{way-same}
 
@@ -21,7 +21,7 @@ beside-signs gs p m e k hp on s h i g l = ⊎_elim level off (nought-or (dot g p
     off : (dot g p ≡ pos 0 → ⊥) → sign (dot g (blend k p 1 e)) ≡ sign (dot g (blend k p 1 (cross m p)))
     off f = far-keeps gs p e k h g l f ∙ sym (far-keeps gs p (cross m p) k i g l f)
 
-module _ (M : Map) (V : Valid M) (k : ℕ) (v : MapVertex) (a : At M.svertices k v) where
+module _ (M : Map) (V : Valid M) (k : ℕ) (v : MapVertex) (a : IsAt M.svertices k v) where
   abbrev p : Vector
   p = v.dir
 

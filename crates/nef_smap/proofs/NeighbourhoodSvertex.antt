@@ -1,5 +1,5 @@
 -- The star of a svertex with arcs shows the map: its rays are the ends of the arcs there.
-use Rattle.nef_smap.proofs.Prelude.{◌≡◌, ℕ, zero, suc, ◌+◌, ◌<◌, pos, List, [], ◌∷◌, length, Option, Some, None, Result, Ok, Err, IfOk, ◌⊎◌, inl, inr, arith, refl, sym, ap, subst, ◌∙◌, ints, IsAt, Vector, IsDirection, cross, dot, opposite, SameDirection, blend, Label, IsOnCircle, IsStrictlyOn, Passes, order_is_transitive, vector_of, Dir, At, MapVertex, Arc, Map, arc_item, items, OnItem, HasArc, HasSide, at_svertex, NearLabel, Valid, StarShows, ArcRay, end_left, ray_left, ray_side, Unrayed, at-arc, at-one, left-on, on-end, End, AreApart, IsRound, IsTurning, IsNext, Ray, Star, star_of, left_of, left_at, mark_at, sector_at, IsRay, IsStar, LeftGives, to-left, sectors-fill, sector-at, SArc, SphereMap, arc_of, map_of, IsSmall, IsArcEnd, AreArcEnds, IsNeighbourhood, dot-comm, self-pos, opposite-dot, square-cross, dir-self, is-at_none}
+use Rattle.nef_smap.proofs.Prelude.{◌≡◌, ℕ, zero, suc, ◌+◌, ◌<◌, pos, List, [], ◌∷◌, length, Option, Some, None, Result, Ok, Err, IfOk, ◌⊎◌, inl, inr, arith, refl, sym, ap, subst, ◌∙◌, ints, IsAt, Vector, IsDirection, cross, dot, opposite, SameDirection, blend, Label, IsOnCircle, IsStrictlyOn, Passes, order_is_transitive, vector_of, Dir, MapVertex, Arc, Map, arc_item, items, OnItem, HasArc, HasSide, at_svertex, NearLabel, Valid, StarShows, ArcRay, end_left, ray_left, ray_side, Unrayed, at-arc, at-one, left-on, on-end, ArcEnd, EndsAreApart, IsRound, IsTurning, IsNext, Ray, Star, star_of, left_of, left_at, mark_at, sector_at, IsRay, IsStar, LeftGives, to-left, sectors-fill, sector-at, SArc, SphereMap, arc_of, map_of, IsSmall, IsArcEnd, AreArcEnds, IsNeighbourhood, dot-comm, self-pos, opposite-dot, square-cross, dir-self, is-at_none}
 use Rattle.nef_star.specs.Turning.{on_ray as at_ray, in_sector as of_sector, in_only_sector as of_only_sector}
 use Rattle.nef_star.proofs.Turns.{four, next_in, none_between, not_both}
 use Rattle.nef_smap.proofs.Lists.{map-at, at-map, at-from_get, get-from_at}
@@ -33,7 +33,7 @@ back-apart v h f =
     omega (arith, ints)
 
 -- ---- the ends of arcs at svertex k
-module _ (m : SphereMap) (V : Valid (map_of m)) (k : ℕ) (v : MapVertex) (a : At (map_of m).svertices k v) where
+module _ (m : SphereMap) (V : Valid (map_of m)) (k : ℕ) (v : MapVertex) (a : IsAt (map_of m).svertices k v) where
   abbrev M : Map
   M = map_of m
 
@@ -41,40 +41,40 @@ module _ (m : SphereMap) (V : Valid (map_of m)) (k : ℕ) (v : MapVertex) (a : A
   p = v.dir
 
   -- the end of arc j as a ray of the svertex
-  pub record EndRay (j : ℕ) (e : End) : Type 0 where
+  pub record EndRay (j : ℕ) (e : ArcEnd) : Type 0 where
     pub ray : ArcRay M k
     pub number : ray.number ≡ j
     pub left : left_of e.0 ≡ ray_left ray
     pub mark : ray.arc.mark ≡ e.0.mark
     pub side : HasSide M (ray_side ray) e.1
 
-  arc-listed : (j : ℕ) (b : SArc) → IsAt m.arcs j b → At M.arcs j (arc_of b)
+  arc-listed : (j : ℕ) (b : SArc) → IsAt m.arcs j b → IsAt M.arcs j (arc_of b)
   arc-listed j b h = map-at arc_of m.arcs j b (at-from_get m.arcs j b h)
 
-  item-listed : (j : ℕ) (b : SArc) → IsAt m.arcs j b → At (items M) j (arc_item (arc_of b))
+  item-listed : (j : ℕ) (b : SArc) → IsAt m.arcs j b → IsAt (items M) j (arc_item (arc_of b))
   item-listed j b h = at-arc M.arcs M.sloop j (arc_of b) (arc-listed j b h)
 
-  pub end-ray : (j : ℕ) (b : SArc) (e : End) → IsAt m.arcs j b → IsArcEnd b k e → EndRay j e
+  pub end-ray : (j : ℕ) (b : SArc) (e : ArcEnd) → IsAt m.arcs j b → IsArcEnd b k e → EndRay j e
   end-ray j b e h (inl (s, f)) = record {
     ray = record { number = j; arc = arc_of b; listed = arc-listed j b h; end = inl s };
     number = refl;
-    left = ap (λ (x : End). left_of x.0) f;
-    mark = sym (ap (λ (x : End). x.0.mark) f);
-    side = (arc_item (arc_of b), item-listed j b h, sym (ap (λ (x : End). x.1) f));
+    left = ap (λ (x : ArcEnd). left_of x.0) f;
+    mark = sym (ap (λ (x : ArcEnd). x.0.mark) f);
+    side = (arc_item (arc_of b), item-listed j b h, sym (ap (λ (x : ArcEnd). x.1) f));
   }
   end-ray j b e h (inr (s, f)) = record {
     ray = record { number = j; arc = arc_of b; listed = arc-listed j b h; end = inr s };
     number = refl;
-    left = ap (λ (x : End). left_of x.0) f;
-    mark = sym (ap (λ (x : End). x.0.mark) f);
-    side = (arc_item (arc_of b), item-listed j b h, sym (ap (λ (x : End). x.1) f));
+    left = ap (λ (x : ArcEnd). left_of x.0) f;
+    mark = sym (ap (λ (x : ArcEnd). x.0.mark) f);
+    side = (arc_item (arc_of b), item-listed j b h, sym (ap (λ (x : ArcEnd). x.1) f));
   }
 
   -- a ray of the svertex as an end of arc j
   pub record RayEnd (left : Vector) : Type 0 where
     pub number : ℕ
     pub arc : SArc
-    pub end : End
+    pub end : ArcEnd
     pub listed : IsAt m.arcs number arc
     pub is : IsArcEnd arc k end
     pub left_is : left_of end.0 ≡ left
@@ -82,7 +82,7 @@ module _ (m : SphereMap) (V : Valid (map_of m)) (k : ℕ) (v : MapVertex) (a : A
   pub ray-end : (q : ArcRay M k) → RayEnd (ray_left q)
   ray-end q = by q.end (at-map arc_of m.arcs q.number q.arc q.listed)
     where
-      by : (end : (q.arc.source ≡ k) ⊎ (q.arc.target ≡ k)) → (b : SArc) × At m.arcs q.number b × (arc_of b ≡ q.arc) → RayEnd (end_left q.arc end)
+      by : (end : (q.arc.source ≡ k) ⊎ (q.arc.target ≡ k)) → (b : SArc) × IsAt m.arcs q.number b × (arc_of b ≡ q.arc) → RayEnd (end_left q.arc end)
       by (inl s) (b, h, f) = record {
         number = q.number;
         arc = b;
@@ -109,28 +109,28 @@ module _ (m : SphereMap) (V : Valid (map_of m)) (k : ℕ) (v : MapVertex) (a : A
       V.shaped.no_items_meet q.number r.number (arc_item q.arc) (arc_item r.arc) (blend n p 1 (cross (ray_left q) p)) (at-arc M.arcs M.sloop q.number q.arc q.listed) (at-arc M.arcs M.sloop r.number r.arc r.listed)
       (f.1 n (omega arith)) (subst (λ (x : Vector). OnItem M (arc_item r.arc) (blend n p 1 (cross x p))) (sym s) (g.1 n (omega arith)))
 
-  normal-level : (j : ℕ) (b : SArc) (e : End) → IsAt m.arcs j b → IsArcEnd b k e → (e.0.normal ≡ b.normal) × (dot (vector_of b.normal) p ≡ pos 0)
+  normal-level : (j : ℕ) (b : SArc) (e : ArcEnd) → IsAt m.arcs j b → IsArcEnd b k e → (e.0.normal ≡ b.normal) × (dot (vector_of b.normal) p ≡ pos 0)
   normal-level j b e h (inl (s, f)) =
       let q : ArcRay M k = record { number = j; arc = arc_of b; listed = arc-listed j b h; end = inl s } in
       let o = left-on M V.shaped k v a q in
-      (ap (λ (x : End). x.0.normal) f, dot-comm (vector_of b.normal) p ∙ o.level)
+      (ap (λ (x : ArcEnd). x.0.normal) f, dot-comm (vector_of b.normal) p ∙ o.level)
   normal-level j b e h (inr (s, f)) =
       let q : ArcRay M k = record { number = j; arc = arc_of b; listed = arc-listed j b h; end = inr s } in
       let o = left-on M V.shaped k v a q in
       let l = o.level in
       let c = dot-comm (opposite (vector_of b.normal)) p in
       let d = opposite-dot (vector_of b.normal) p in
-      (ap (λ (x : End). x.0.normal) f, omega (arith, ints))
+      (ap (λ (x : ArcEnd). x.0.normal) f, omega (arith, ints))
 
-  module _ (ends : List End) (A : AreArcEnds m.arcs k ends) where
+  module _ (ends : List ArcEnd) (A : AreArcEnds m.arcs k ends) where
     -- of one arc, one end goes ahead and the other back
-    one-end : (b : SArc) (e f : End) → IsArcEnd b k e → IsArcEnd b k f → left_of e.0 ≡ left_of f.0 → e ≡ f
+    one-end : (b : SArc) (e f : ArcEnd) → IsArcEnd b k e → IsArcEnd b k f → left_of e.0 ≡ left_of f.0 → e ≡ f
     one-end b e f (inl s) (inl t) l = s.1 ∙ sym t.1
     one-end b e f (inr s) (inr t) l = s.1 ∙ sym t.1
-    one-end b e f (inl s) (inr t) l = absurd (back-apart (vector_of b.normal) b.normal.some (sym (ap (λ (x : End). left_of x.0) s.1) ∙ l ∙ ap (λ (x : End). left_of x.0) t.1))
-    one-end b e f (inr s) (inl t) l = absurd (back-apart (vector_of b.normal) b.normal.some (sym (ap (λ (x : End). left_of x.0) t.1) ∙ sym l ∙ ap (λ (x : End). left_of x.0) s.1))
+    one-end b e f (inl s) (inr t) l = absurd (back-apart (vector_of b.normal) b.normal.some (sym (ap (λ (x : ArcEnd). left_of x.0) s.1) ∙ l ∙ ap (λ (x : ArcEnd). left_of x.0) t.1))
+    one-end b e f (inr s) (inl t) l = absurd (back-apart (vector_of b.normal) b.normal.some (sym (ap (λ (x : ArcEnd). left_of x.0) t.1) ∙ sym l ∙ ap (λ (x : ArcEnd). left_of x.0) s.1))
 
-    pub ends-apart : AreApart ends
+    pub ends-apart : EndsAreApart ends
     ends-apart i j e f h g l =
         let r = A.each i e h in
         let s = A.each j f g in
@@ -140,7 +140,7 @@ module _ (m : SphereMap) (V : Valid (map_of m)) (k : ℕ) (v : MapVertex) (a : A
         let one : s.1 ≡ r.1 = at-one m.arcs s.0 s.1 r.1 (at-from_get m.arcs s.0 s.1 s.2) (at-from_get m.arcs s.0 r.1 (subst (λ (x : ℕ). IsAt m.arcs x r.1) same r.2)) in
         one-end r.1 e f r.3 (subst (λ (x : SArc). IsArcEnd x k f) one s.3) l
 
-    pub ends-rays : IsSmall M → (i : ℕ) (e : End) → IsAt ends i e → IsRay p e.0
+    pub ends-rays : IsSmall M → (i : ℕ) (e : ArcEnd) → IsAt ends i e → IsRay p e.0
     ends-rays small i e h =
         let r = A.each i e h in
         let n = normal-level r.0 r.1 e r.2 r.3 in
@@ -158,15 +158,15 @@ module _ (m : SphereMap) (V : Valid (map_of m)) (k : ℕ) (v : MapVertex) (a : A
         none z (i, b, h, e) =
             let r = ray-end (record { number = i; arc = b; listed = h; end = e }) in
             let s = A.all r.number r.arc r.end r.listed r.is in
-            is-at_none (subst (λ (x : List End). IsAt x s.0 r.end) z s.1)
+            is-at_none (subst (λ (x : List ArcEnd). IsAt x s.0 r.end) z s.1)
 
-        by : (x : List End) → ends ≡ x → 0 < length x
+        by : (x : List ArcEnd) → ends ≡ x → 0 < length x
         by [] z = let r = V.shaped.around_lone k v a (none z) in let f : None ≡ Some r.0 = sym n ∙ r.1 in cc
         by (e ∷ x) z = omega arith
 
 -- ---- the star of the ends
 module _ (m : SphereMap) (V : Valid (map_of m)) (t : Star) (T : IsStar t) (k : ℕ) (own : Label) (around : Option Label)
-    (a : At (map_of m).svertices k (record { dir = vector_of t.axis; mark = own; around = around })) (ends : List End) (A : AreArcEnds m.arcs k ends) (R : IsRound ends t) (some : 0 < length ends) where
+    (a : IsAt (map_of m).svertices k (record { dir = vector_of t.axis; mark = own; around = around })) (ends : List ArcEnd) (A : AreArcEnds m.arcs k ends) (R : IsRound ends t) (some : 0 < length ends) where
   abbrev N : Map
   N = map_of m
 
@@ -248,10 +248,10 @@ module _ (m : SphereMap) (V : Valid (map_of m)) (t : Star) (T : IsStar t) (k : �
         no-ray : length rays ≡ 0 → ⊥
         no-ray z = by ends refl
           where
-            by : (es : List End) → ends ≡ es → ⊥
-            by [] f = let n : 0 < 0 = subst (λ (x : List End). 0 < length x) f some in omega arith
+            by : (es : List ArcEnd) → ends ≡ es → ⊥
+            by [] f = let n : 0 < 0 = subst (λ (x : List ArcEnd). 0 < length x) f some in omega arith
             by (x ∷ es) f =
-                let r = R.all 0 x.0 x.1 (subst (λ (y : List End). IsAt y 0 x) (sym f) refl) in
+                let r = R.all 0 x.0 x.1 (subst (λ (y : List ArcEnd). IsAt y 0 x) (sym f) refl) in
                 let l = listed-left rays r.0 x.0 r.1 in
                 let n = l.0 in omega arith
 
@@ -264,9 +264,9 @@ module _ (m : SphereMap) (V : Valid (map_of m)) (t : Star) (T : IsStar t) (k : �
     labels = λ e l off s. near e off l (to-left t T.turned e off l s);
   }
 
-pub ends-ok : {E : Type 0} (r : Result Star E) (m : SphereMap) (k : ℕ) (own : Label) (around : Option Label) (d : Dir) (ends : List End) → Valid (map_of m) → At (map_of m).svertices k (record { dir = vector_of d; mark = own; around = around })
+pub ends-ok : {E : Type 0} (r : Result Star E) (m : SphereMap) (k : ℕ) (own : Label) (around : Option Label) (d : Dir) (ends : List ArcEnd) → Valid (map_of m) → IsAt (map_of m).svertices k (record { dir = vector_of d; mark = own; around = around })
     → AreArcEnds m.arcs k ends → 0 < length ends → IfOk r IsStar → IfOk r (λ t. t.axis ≡ d) → IfOk r (λ t. t.mark ≡ own) → IfOk r (λ t. IsRound ends t) → IfOk r (λ t. IsNeighbourhood (star_of t) (map_of m) (vector_of d))
 ends-ok (Ok t) m k own around d ends V a A some T axis mark R =
-    let here = subst (λ (x : Dir). At (map_of m).svertices k (record { dir = vector_of x; mark = own; around = around })) (sym axis) a in
+    let here = subst (λ (x : Dir). IsAt (map_of m).svertices k (record { dir = vector_of x; mark = own; around = around })) (sym axis) a in
     neighbourhood-of t T (map_of m) (ends-show m V t T k own around here ends A R some mark) d axis
 ends-ok (Err e) m k own around d ends V a A some T axis mark R = tt

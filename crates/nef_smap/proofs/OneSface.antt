@@ -1,5 +1,5 @@
 -- Labels of sides that agree at the joins are the same for all sides of one sface.
-use Rattle.nef_smap.proofs.Prelude.{◌≡◌, ℕ, ◌+◌, pos, ◌<ℤ◌, arith, refl, ap, sym, ◌∙◌, inl, inr, ⊎_elim, List, [], ◌∷◌, subst, Option, Some, None, ints, sign, nought-is, Lies, Vector, IsDirection, IsZero, cross, dot, opposite, Label, Out, IsStrictlyOn, At, MapVertex, MapSloop, Map, Item, arc_item, sloop_item, items, item_normal, dir_of, OnItem, IsFree, Side, around_svertex, pos_item, neg_item, whole, HasArc, HasSide, Sees, Shaped, Labelling, Near, Plain, PlainAt, StraightAt, IsSmooth, straight, normal-is, on-direction, on-level, axes-forms, amount, past_source, arc-point, dir-at, arc-at, cross-self, Beside, same_way, other_way, beside, cross-direction_left, sloop-at, over_forms, IsFirst, Stands, met, BelowFirst, Firsts, Joins, zero-decided, cross-turned, apart, parallel-trans, is-at_none}
+use Rattle.nef_smap.proofs.Prelude.{◌≡◌, ℕ, ◌+◌, pos, ◌<ℤ◌, arith, refl, ap, sym, ◌∙◌, inl, inr, ⊎_elim, List, [], ◌∷◌, subst, Option, Some, None, ints, sign, nought-is, Lies, Vector, IsDirection, IsZero, cross, dot, opposite, Label, Out, IsStrictlyOn, IsAt, MapVertex, MapSloop, Map, Item, arc_item, sloop_item, items, item_normal, dir_of, OnItem, IsFree, Side, around_svertex, pos_item, neg_item, whole, HasArc, HasSide, Sees, Shaped, Labelling, Near, Plain, PlainAt, StraightAt, IsSmooth, straight, normal-is, on-direction, on-level, axes-forms, amount, past_source, arc-point, dir-at, arc-at, cross-self, Beside, same_way, other_way, beside, cross-direction_left, sloop-at, over_forms, IsFirst, Stands, met, BelowFirst, Firsts, Joins, zero-decided, cross-turned, apart, parallel-trans, is-at_none}
 use Rattle.law_sphere.proofs.Flips.{Axial, directed-by, far_directed-by, sloop-along}
 use Rattle.law_sphere.proofs.ArcLabels.{arc-along}
 use Rattle.nef_smap.proofs.Rise.{form-over}
@@ -13,8 +13,8 @@ use Rattle.nef_smap.proofs.Pole.{plain-up, plain-down}
 use Rattle.nef_smap.proofs.Upper.{upper-arc, upper-sloop}
 use Rattle.nef_smap.proofs.Reached.{Sided, sides-agree}
 
-module _ (M : Map) (V : Shaped M) (u : Vector) (ahead : (k : ℕ) (x : Item) → At (items M) k x → pos 0 <ℤ dot (item_normal x) u)
-    (across : (k : ℕ) (v : MapVertex) → At M.svertices k v → IsDirection (cross u v.dir)) (G : Side → Label) (top : Label) (Z : Firsts M u) (J : Joins M u G top Z)
+module _ (M : Map) (V : Shaped M) (u : Vector) (ahead : (k : ℕ) (x : Item) → IsAt (items M) k x → pos 0 <ℤ dot (item_normal x) u)
+    (across : (k : ℕ) (v : MapVertex) → IsAt M.svertices k v → IsDirection (cross u v.dir)) (G : Side → Label) (top : Label) (Z : Firsts M u) (J : Joins M u G top Z)
     (e : Vector) (general : (g : Vector) → Lies (over_forms M u) g → IsDirection g → dot g e ≡ pos 0 → ⊥) (off_u : IsDirection (cross u e)) where
   abbrev gs : List Vector
   gs = above_forms M u e G top
@@ -48,7 +48,7 @@ module _ (M : Map) (V : Shaped M) (u : Vector) (ahead : (k : ℕ) (x : Item) →
       at_pole p (other_way w) = λ m a x h. plain-down M V u ahead G top Z.svertices J.below e general off_u d D p m a x (λ z. h (parallel-trans d u x hu (cross-turned u d p) z))
 
   -- ---- items
-  module _ (k : ℕ) (x : Item) (a : At (items M) k x) where
+  module _ (k : ℕ) (x : Item) (a : IsAt (items M) k x) where
     abbrev n : Vector
     n = item_normal x
 
@@ -64,7 +64,7 @@ module _ (M : Map) (V : Shaped M) (u : Vector) (ahead : (k : ℕ) (x : Item) →
     proper : G (pos_item k) ≡ Out → G (neg_item k) ≡ Out → ⊥
     proper p q = J.never_out (pos_item k) p
 
-  straight-everywhere : (k : ℕ) (x : Item) (a : At (items M) k x) (d : Vector) → OnItem M x d → StraightAt F (item_normal x) (G (pos_item k)) Out (G (neg_item k)) d
+  straight-everywhere : (k : ℕ) (x : Item) (a : IsAt (items M) k x) (d : Vector) → OnItem M x d → StraightAt F (item_normal x) (G (pos_item k)) Out (G (neg_item k)) d
   straight-everywhere k (arc_item r) a d o = arc-along gs F L (directed-by gs axial) (far_directed-by gs axial) m (G (pos_item k)) Out (G (neg_item k)) (proper k (arc_item r) a) hn s t hs ht ls lt
       (λ w p. smooth k (arc_item r) a w p) K (omega arith) start d o
     where
@@ -115,7 +115,7 @@ module _ (M : Map) (V : Shaped M) (u : Vector) (ahead : (k : ℕ) (x : Item) →
       (some-straight k (sloop_item r) a j.point j.on)) d o
 
   -- ---- svertices without arcs
-  round : (k : ℕ) (v : MapVertex) (m : Label) (w : Vector) → At M.svertices k v → v.around ≡ Some m → IsDirection (cross v.dir w) → Near F v.dir w (G (around_svertex k))
+  round : (k : ℕ) (v : MapVertex) (m : Label) (w : Vector) → IsAt M.svertices k v → v.around ≡ Some m → IsDirection (cross v.dir w) → Near F v.dir w (G (around_svertex k))
   round k v m w a q h = subst (Near F v.dir w) (sym meets ∙ J.around k v m a q) (round-lone M V u ahead G top Z.svertices J.below e v.dir f k v a refl lone w h)
     where
       f : IsDirection (cross u v.dir)
@@ -153,11 +153,11 @@ module _ (M : Map) (V : Shaped M) (u : Vector) (ahead : (k : ℕ) (x : Item) →
           c.1 y near (lone-clean M V u ahead v.dir y near f k v a refl lone) off j.first (j.is_first y s)
 
   -- ---- a map without items
-  no_items : (m : Label) → M.ground ≡ Some m → (k : ℕ) (x : Item) → At (items M) k x → ⊥
+  no_items : (m : Label) → M.ground ≡ Some m → (k : ℕ) (x : Item) → IsAt (items M) k x → ⊥
   no_items m q k (arc_item r) a =
       let b = V.arcs_between k r (arc-at M.arcs M.sloop k r a) in
       let g = V.ground_not m q in
-      is-at_none (subst (λ (vs : List MapVertex). At vs r.source b.source) g.0 b.has_source)
+      is-at_none (subst (λ (vs : List MapVertex). IsAt vs r.source b.source) g.0 b.has_source)
   no_items m q k (sloop_item l) a = let g = V.ground_not m q in none-some (sym g.1 ∙ sloop-at M.arcs M.sloop k l a)
     where
       none-some : ◌≡◌ {A = Option MapSloop} None (Some l) → ⊥

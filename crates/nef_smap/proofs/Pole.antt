@@ -1,5 +1,5 @@
 -- The directions u and -u are plain by what lies over close directions.
-use Rattle.nef_smap.proofs.Prelude.{◌≡◌, ℕ, ◌<◌, ◌≤◌, ℤ, pos, ◌+ℤ◌, ◌-ℤ◌, ◌*ℤ◌, ◌≤ℤ◌, ◌<ℤ◌, arith, refl, ap, sym, ◌∙◌, ⊎_elim, List, [], ◌∷◌, subst, None, ints, ring, at, num, neg, ◌⊕◌, ◌⊖◌, ◌⊗◌, follows, given, none, sign, by_order, mul_pos, mul_nonneg, mul_neg, nought-or, Lies, Vector, IsDirection, IsZero, cross, dot, SameDirection, IsOpposite, opposite, blend, Label, same-off, At, MapVertex, Map, Item, items, item_normal, IsFree, Side, Shaped, Keeps, forms, Labelling, Near, Plain, PlainAt, dot-comb, same-plus, item-forms, normal-form, amount, far-keeps, far-level, mixed-sign, free-around, carried, cross-direction_left, cross-self, over_forms, IsOver, first_sign, Stands, met, BelowFirsts, dot-comm, zero-decided, dot-zero, zero-dot, self-pos, nought-if, dir-signs}
+use Rattle.nef_smap.proofs.Prelude.{◌≡◌, ℕ, ◌<◌, ◌≤◌, ℤ, pos, ◌+ℤ◌, ◌-ℤ◌, ◌*ℤ◌, ◌≤ℤ◌, ◌<ℤ◌, arith, refl, ap, sym, ◌∙◌, ⊎_elim, List, [], ◌∷◌, subst, None, ints, ring, at, num, neg, ◌⊕◌, ◌⊖◌, ◌⊗◌, follows, given, none, sign, by_order, mul_pos, mul_nonneg, mul_neg, nought-or, Lies, Vector, IsDirection, IsZero, cross, dot, SameDirection, IsOpposite, opposite, blend, Label, same-off, IsAt, MapVertex, Map, Item, items, item_normal, IsFree, Side, Shaped, Keeps, forms, Labelling, Near, Plain, PlainAt, dot-comb, same-plus, item-forms, normal-form, amount, far-keeps, far-level, mixed-sign, free-around, carried, cross-direction_left, cross-self, over_forms, IsOver, first_sign, Stands, met, BelowFirsts, dot-comm, zero-decided, dot-zero, zero-dot, self-pos, nought-if, dir-signs}
 use Rattle.nef_smap.proofs.Rise.{form-over}
 use Rattle.nef_smap.proofs.Over.{first-one}
 use Rattle.nef_smap.proofs.Stands.{far-first, stand, stands, stands-keeps}
@@ -23,8 +23,8 @@ parallel-value v d g p =
 keeps-mixed : (gs : List Vector) (d y z : Vector) (i j : ℕ) → 0 < i → 0 < j → Keeps gs d y → Keeps gs d z → Keeps gs d (blend i y j z)
 keeps-mixed gs d y z i j si sj k h g l f = ap sign (dot-comb g (pos i) y (pos j) z) ∙ mixed-sign (dot g y) (dot g z) i j si sj (h g l f ∙ sym (k g l f)) ∙ k g l f
 
-module _ (M : Map) (V : Shaped M) (u : Vector) (ahead : (k : ℕ) (x : Item) → At (items M) k x → pos 0 <ℤ dot (item_normal x) u)
-    (G : Side → Label) (top : Label) (firsts : (k : ℕ) (v : MapVertex) → At M.svertices k v → BelowFirsts M u v.dir) (joins : (k : ℕ) (v : MapVertex) (a : At M.svertices k v) → (let j = firsts k v a in met G top j.left ≡ met G top j.right))
+module _ (M : Map) (V : Shaped M) (u : Vector) (ahead : (k : ℕ) (x : Item) → IsAt (items M) k x → pos 0 <ℤ dot (item_normal x) u)
+    (G : Side → Label) (top : Label) (firsts : (k : ℕ) (v : MapVertex) → IsAt M.svertices k v → BelowFirsts M u v.dir) (joins : (k : ℕ) (v : MapVertex) (a : IsAt M.svertices k v) → (let j = firsts k v a in met G top j.left ≡ met G top j.right))
     (e : Vector) (general : (g : Vector) → Lies (over_forms M u) g → IsDirection g → dot g e ≡ pos 0 → ⊥) (apart : IsDirection (cross u e)) where
   abbrev F : Vector → Label → Type 0
   F = LabelAbove M u e G top
@@ -43,7 +43,7 @@ module _ (M : Map) (V : Shaped M) (u : Vector) (ahead : (k : ℕ) (x : Item) →
         let s = stands (over_forms M u) z (cross u z) e in
         by_one M u e G top V ahead z y top Z s (λ r g. ap (met G top) (first-one M V u ahead y r None g (λ j x a o. none j x a y s o)))
       where
-        none : (j : ℕ) (x : Item) → At (items M) j x → (y : Vector) → Stands (over_forms M u) z (cross u z) e y → IsOver M u x y → ⊥
+        none : (j : ℕ) (x : Item) → IsAt (items M) j x → (y : Vector) → Stands (over_forms M u) z (cross u z) e y → IsOver M u x y → ⊥
         none j x a y s o =
             let n = item_normal x in
             let i = form-over M u n (item-forms M j x n a (normal-form M x)) in

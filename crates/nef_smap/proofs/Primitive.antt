@@ -1,5 +1,5 @@
 -- Numbers that only 1 divides have whole multiples that add up to 1.
-use Rattle.nef_smap.proofs.Prelude.{◌≡◌, ℕ, zero, suc, ◌+◌, ◌-◌, ◌≤◌, ℤ, pos, negsuc, ◌+ℤ◌, ◌-ℤ◌, ◌*ℤ◌, nat_abs, [], ◌∷◌, arith, ap, subst, inl, inr, ◌∣◌, dvd-add, ints, dvd_trans, dvd-zero, cases_lt, at, num, neg, ◌⊕◌, ◌⊖◌, ◌⊗◌, follows, given, none, IsLowest, Vector, vector, triple_of, vector_of, Dir, IsPrimitive}
+use Rattle.nef_smap.proofs.Prelude.{◌≡◌, ℕ, zero, suc, ◌+◌, ◌-◌, ◌≤◌, ℤ, pos, negsuc, ◌+ℤ◌, ◌-ℤ◌, ◌*ℤ◌, nat_abs, [], ◌∷◌, arith, ap, subst, inl, inr, ◌∣◌, dvd-add, ints, dvd_trans, dvd-zero, cases_lt, at, num, neg, ◌⊕◌, ◌⊖◌, ◌⊗◌, follows, given, none, IsLowest, Vector, vector, direction_numbers, vector_of, Dir, IsPrimitive}
 use Rattle.std.proofs.lemmas.Nat.Gcd.{dvd_refl}
 
 -- a common divisor that is a sum of multiples
@@ -56,7 +56,7 @@ sized : (x : ℤ) → (s : ℤ) × (pos (nat_abs x) ≡ s *ℤ x)
 sized (pos n) = (pos 1, omega (arith, ints))
 sized (negsuc n) = (negsuc 0, omega (arith, ints))
 
-pub primitive : (d : Vector) → IsLowest (triple_of d) → IsPrimitive d
+pub primitive : (d : Vector) → IsLowest (direction_numbers d) → IsPrimitive d
 primitive d lowest =
     let x = nat_abs d.x in let y = nat_abs d.y in let z = nat_abs d.z in
     let f = combine (x + y) x y (omega arith) in let g = combine (f.divisor + z) f.divisor z (omega arith) in

@@ -1,11 +1,11 @@
 -- Two sides that see one direction have one label, where the labels of the sides agree piece by piece with a labelling.
-use Rattle.nef_smap.proofs.Prelude.{◌≡◌, ℕ, ◌+◌, ◌*◌, arith, ap, sym, ◌∙◌, inl, inr, List, subst, Some, ints, mul-pos, sign, sign-plus, sign-minus, Vector, IsDirection, cross, dot, IsZero, SameDirection, blend, Label, Out, Decided, At, MapVertex, Map, Item, items, item_normal, OnItem, IsFree, Side, around_svertex, pos_item, neg_item, whole, HasSide, IsClear, Reaches, Sees, directly, by_way_of, by_side, Labelling, Near, Plain, amount, at-one, on-level, cross-between, Beside, same_way, other_way, beside, near-same_signs, carried, between-direction, cross-direction_turned, dot-comm, zero-decided, cross-turned, SameDirection-turned, SameDirection-trans, direction-right, apart, parallel-trans, blend-turned, left-of}
+use Rattle.nef_smap.proofs.Prelude.{◌≡◌, ℕ, ◌+◌, ◌*◌, arith, ap, sym, ◌∙◌, inl, inr, List, subst, Some, ints, mul-pos, sign, sign-plus, sign-minus, Vector, IsDirection, cross, dot, IsZero, SameDirection, blend, Label, Out, Decided, IsAt, MapVertex, Map, Item, items, item_normal, OnItem, IsFree, Side, around_svertex, pos_item, neg_item, whole, HasSide, IsClear, Reaches, Sees, directly, by_way_of, by_side, Labelling, Near, Plain, amount, at-one, on-level, cross-between, Beside, same_way, other_way, beside, near-same_signs, carried, between-direction, cross-direction_turned, dot-comm, zero-decided, cross-turned, SameDirection-turned, SameDirection-trans, direction-right, apart, parallel-trans, blend-turned, left-of}
 
 -- at each place of the map, and near it, the labels are those that G gives the sides
 pub record Sided (M : Map) (G : Side → Label) (F : Vector → Label → Type 0) : Type 0 where
   pub free : (d : Vector) → IsFree M d → Plain F d
-  pub beside : (k : ℕ) (x : Item) (d e : Vector) → At (items M) k x → OnItem M x d → IsDirection (cross d e) → Near F d e (by_side (G (pos_item k)) Out (G (neg_item k)) (sign (dot (item_normal x) e)))
-  pub lone : (k : ℕ) (v : MapVertex) (m : Label) (e : Vector) → At M.svertices k v → v.around ≡ Some m → IsDirection (cross v.dir e) → Near F v.dir e (G (around_svertex k))
+  pub beside : (k : ℕ) (x : Item) (d e : Vector) → IsAt (items M) k x → OnItem M x d → IsDirection (cross d e) → Near F d e (by_side (G (pos_item k)) Out (G (neg_item k)) (sign (dot (item_normal x) e)))
+  pub lone : (k : ℕ) (v : MapVertex) (m : Label) (e : Vector) → IsAt M.svertices k v → v.around ≡ Some m → IsDirection (cross v.dir e) → Near F v.dir e (G (around_svertex k))
   pub ground : (m : Label) (d : Vector) → M.ground ≡ Some m → IsFree M d → F d (G whole)
 
 module _ (gs : List Vector) (F : Vector → Label → Type 0) (L : Labelling gs F) (M : Map) (G : Side → Label) (A : Sided M G F) where

@@ -1,5 +1,5 @@
 -- Where a way to u meets a plane, and the signs of the forms that are nought at u.
-use Rattle.nef_smap.proofs.Prelude.{◌≡◌, ℕ, zero, suc, pos, ◌+ℤ◌, ◌-ℤ◌, ◌*ℤ◌, refl, ap, sym, ◌∙◌, inl, inr, ⊎_elim, List, [], ◌∷◌, ◌++◌, subst, ring, at, num, ◌⊕◌, ◌⊖◌, ◌⊗◌, follows, given, none, sign, sign_times, sign_of_product, sign-scaled, nought-or, lies-left, lies-right, Lies, Vector, IsDirection, cross, dot, At, MapVertex, Map, Item, items, item_normal, SameSigns, Keeps, gather, forms, dot-comb, comb-dot, gather-has, cross-self, same-off, rise, rise_form, rise_forms, meridians, over_forms, self-pos}
+use Rattle.nef_smap.proofs.Prelude.{◌≡◌, ℕ, zero, suc, pos, ◌+ℤ◌, ◌-ℤ◌, ◌*ℤ◌, refl, ap, sym, ◌∙◌, inl, inr, ⊎_elim, List, [], ◌∷◌, ◌++◌, subst, ring, at, num, ◌⊕◌, ◌⊖◌, ◌⊗◌, follows, given, none, sign, sign_times, sign_of_product, sign-scaled, nought-or, lies-left, lies-right, Lies, Vector, IsDirection, cross, dot, IsAt, MapVertex, Map, Item, items, item_normal, SameSigns, Keeps, gather, forms, dot-comb, comb-dot, gather-has, cross-self, same-off, rise, rise_form, rise_forms, meridians, over_forms, self-pos}
 
 -- ---- the meet
 pub rise-is : (u n g d : Vector) → dot g (rise u n d) ≡ dot (rise_form u n g) d
@@ -22,7 +22,7 @@ append-each P [] ys f g b l = g b l
 append-each P (x ∷ xs) ys f g b (inl e) = f b (inl e)
 append-each P (x ∷ xs) ys f g b (inr l) = append-each P xs ys (λ c i. f c (inr i)) g b l
 
-pub gather-each : {A B : Type 0} (f : A → List B) (P : B → Type 0) (xs : List A) → ((k : ℕ) (x : A) (b : B) → At xs k x → Lies (f x) b → P b) → (b : B) → Lies (gather f xs) b → P b
+pub gather-each : {A B : Type 0} (f : A → List B) (P : B → Type 0) (xs : List A) → ((k : ℕ) (x : A) (b : B) → IsAt xs k x → Lies (f x) b → P b) → (b : B) → Lies (gather f xs) b → P b
 gather-each f P [] each b l = absurd l
 gather-each f P (x ∷ xs) each b l = append-each P (f x) (gather f xs) (λ c i. each zero x c refl i) (λ c i. gather-each f P xs (λ k y e a j. each (suc k) y e a j) c i) b l
 
@@ -41,11 +41,11 @@ lies-at f [] x l = absurd l
 lies-at f (y ∷ xs) x (inl e) = inl (ap f e)
 lies-at f (y ∷ xs) x (inr l) = inr (lies-at f xs x l)
 
-pub svertex-meridian : (M : Map) (u : Vector) (k : ℕ) (v : MapVertex) → At M.svertices k v → Lies (meridians M u) (cross u v.dir)
+pub svertex-meridian : (M : Map) (u : Vector) (k : ℕ) (v : MapVertex) → IsAt M.svertices k v → Lies (meridians M u) (cross u v.dir)
 svertex-meridian M u k v a = lies-left (gather (λ (v : MapVertex). cross u v.dir ∷ []) M.svertices) (rise_forms M u) (cross u v.dir)
     (gather-has (λ (v : MapVertex). cross u v.dir ∷ []) M.svertices k v (cross u v.dir) a (inl refl))
 
-pub rise-meridian : (M : Map) (u : Vector) (k : ℕ) (x : Item) (g : Vector) → At (items M) k x → Lies (forms M) g → Lies (meridians M u) (rise_form u (item_normal x) g)
+pub rise-meridian : (M : Map) (u : Vector) (k : ℕ) (x : Item) (g : Vector) → IsAt (items M) k x → Lies (forms M) g → Lies (meridians M u) (rise_form u (item_normal x) g)
 rise-meridian M u k x g a l = lies-right (gather (λ (v : MapVertex). cross u v.dir ∷ []) M.svertices) (rise_forms M u) (rise_form u (item_normal x) g)
     (gather-has (λ (x : Item). gather (λ (g : Vector). rise_form u (item_normal x) g ∷ []) (forms M)) (items M) k x (rise_form u (item_normal x) g) a (lies-at (rise_form u (item_normal x)) (forms M) g l))
 
@@ -88,12 +88,12 @@ pub keeps-then : (gs : List Vector) (c d e : Vector) → Keeps gs c d → Keeps 
 keeps-then gs c d e f g h l z = let s = f h l z in g h l (same-off (dot h c) (dot h d) s z) ∙ s
 
 -- the meet keeps the signs of the meet at d
-pub rise-keeps : (M : Map) (u d e : Vector) (k : ℕ) (x : Item) → At (items M) k x → Keeps (meridians M u) d e → Keeps (forms M) (rise u (item_normal x) d) (rise u (item_normal x) e)
+pub rise-keeps : (M : Map) (u d e : Vector) (k : ℕ) (x : Item) → IsAt (items M) k x → Keeps (meridians M u) d e → Keeps (forms M) (rise u (item_normal x) d) (rise u (item_normal x) e)
 rise-keeps M u d e k x a h g l f =
     let n = item_normal x in
     ap sign (rise-is u n g e) ∙ h (rise_form u n g) (rise-meridian M u k x g a l) (λ z. f (rise-is u n g d ∙ z)) ∙ ap sign (sym (rise-is u n g d))
 
-pub rise-same : (M : Map) (u d e : Vector) (k : ℕ) (x : Item) → At (items M) k x → SameSigns (meridians M u) d e → SameSigns (forms M) (rise u (item_normal x) d) (rise u (item_normal x) e)
+pub rise-same : (M : Map) (u d e : Vector) (k : ℕ) (x : Item) → IsAt (items M) k x → SameSigns (meridians M u) d e → SameSigns (forms M) (rise u (item_normal x) d) (rise u (item_normal x) e)
 rise-same M u d e k x a h g l =
     let n = item_normal x in
     ap sign (rise-is u n g e) ∙ h (rise_form u n g) (rise-meridian M u k x g a l) ∙ ap sign (sym (rise-is u n g d))

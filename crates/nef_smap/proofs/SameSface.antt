@@ -1,5 +1,5 @@
 -- Sides are of one sface exactly where joins lead from one to the other.
-use Rattle.nef_smap.proofs.Prelude.{◌≡◌, ℕ, ◌+◌, ◌<◌, pos, ◌<ℤ◌, Bool, true, false, arith, refl, ap, sym, ◌∙◌, ⊎_elim, List, ◌++◌, length, subst, Option, Some, None, ◌↔◌, eqb_tells, lies-left, lies-right, Chained, Vector, IsDirection, cross, dot, opposite, Label, Out, Not, In, At, MapVertex, Map, Item, arc_item, sloop_item, items, item_normal, item_neg, dir_of, Side, around_svertex, pos_item, neg_item, whole, HasSide, Sees, Shaped, Generic, generic, point_forms, apart-by_rows, at-arc, sides_of, SeeOneWay, number_of, over_forms, met, FirstNear, Firsts, Joins, met_number, AreJoins, IsJoin, join_below, join_around, join_arc, join_sloop, join_ground, chain-link, chain-keeps, chain-map}
+use Rattle.nef_smap.proofs.Prelude.{◌≡◌, ℕ, ◌+◌, ◌<◌, pos, ◌<ℤ◌, Bool, true, false, arith, refl, ap, sym, ◌∙◌, ⊎_elim, List, ◌++◌, length, subst, Option, Some, None, ◌↔◌, eqb_tells, lies-left, lies-right, Chained, Vector, IsDirection, cross, dot, opposite, Label, Out, Not, In, IsAt, MapVertex, Map, Item, arc_item, sloop_item, items, item_normal, item_neg, dir_of, Side, around_svertex, pos_item, neg_item, whole, HasSide, Sees, Shaped, Generic, generic, point_forms, apart-by_rows, at-arc, sides_of, SeeOneWay, side_number, over_forms, met, FirstNear, Firsts, Joins, met_number, AreJoins, IsJoin, join_below, join_around, join_arc, join_sloop, join_ground, chain-link, chain-keeps, chain-map}
 use lib.Dec.{eqb}
 use Rattle.nef_smap.proofs.Lists.{at-within, at-from_get}
 use Rattle.nef_smap.proofs.SideLists.{side-has}
@@ -21,14 +21,14 @@ in_if-one true true e q = refl
 in_if-one true false e q = absurd cc
 in_if-one false c e q = absurd cc
 
-module _ (M : Map) (V : Shaped M) (u : Vector) (ahead : (k : ℕ) (x : Item) → At (items M) k x → pos 0 <ℤ dot (item_normal x) u)
-    (across : (k : ℕ) (v : MapVertex) → At M.svertices k v → IsDirection (cross u v.dir)) (hu : IsDirection u) where
+module _ (M : Map) (V : Shaped M) (u : Vector) (ahead : (k : ℕ) (x : Item) → IsAt (items M) k x → pos 0 <ℤ dot (item_normal x) u)
+    (across : (k : ℕ) (v : MapVertex) → IsAt M.svertices k v → IsDirection (cross u v.dir)) (hu : IsDirection u) where
   abbrev count : ℕ
   count = length (sides_of M)
 
   -- ---- joins are between sides and u
-  number-within : (o : Side) (l : Label) → HasSide M o l → number_of M o < count + 1
-  number-within o l h = let i = at-within (sides_of M) (number_of M o) (o, l) (at-from_get (sides_of M) (number_of M o) (o, l) (side-number M o l h)) in omega arith
+  number-within : (o : Side) (l : Label) → HasSide M o l → side_number M o < count + 1
+  number-within o l h = let i = at-within (sides_of M) (side_number M o) (o, l) (at-from_get (sides_of M) (side_number M o) (o, l) (side-number M o l h)) in omega arith
 
   met-within : (a b c : Vector) (r : Option ℕ) → FirstNear M u a b c r → met_number M r < count + 1
   met-within a b c None f = omega arith
@@ -62,7 +62,7 @@ module _ (M : Map) (V : Shaped M) (u : Vector) (ahead : (k : ℕ) (x : Item) →
     -- ---- sides that see one direction are of one class
     module _ (c : ℕ) where
       abbrev G : Side → Label
-      G o = in_if (eqb (class (number_of M o)) c)
+      G o = in_if (eqb (class (side_number M o)) c)
 
       abbrev top : Label
       top = in_if (eqb (class count) c)
@@ -78,11 +78,11 @@ module _ (M : Map) (V : Shaped M) (u : Vector) (ahead : (k : ℕ) (x : Item) →
       unfolding F
       joins = record {
         below = λ k v a. let r = A.svertices k v a in let j = r.0 in sym (met-is j.left) ∙ label-same (met_number M j.left) (met_number M j.right) r.1 ∙ met-is j.right;
-        around = λ k v m a q. let r = A.arounds k v m a q in let j = r.0 in sym (met-is j.first) ∙ sym (label-same (number_of M (around_svertex k)) (met_number M j.first) r.1);
-        arcs = λ k x h. let r = A.arcs k x h in let j = r.0 in sym (met-is j.first) ∙ sym (label-same (number_of M (pos_item k)) (met_number M j.first) r.1);
-        sloops = λ k x h. let r = A.sloops k x h in let j = r.0 in sym (met-is j.first) ∙ sym (label-same (number_of M (pos_item k)) (met_number M j.first) r.1);
-        ground = λ m q. label-same (number_of M whole) count (A.ground m q);
-        never_out = λ o. in_if-some (eqb (class (number_of M o)) c);
+        around = λ k v m a q. let r = A.arounds k v m a q in let j = r.0 in sym (met-is j.first) ∙ sym (label-same (side_number M (around_svertex k)) (met_number M j.first) r.1);
+        arcs = λ k x h. let r = A.arcs k x h in let j = r.0 in sym (met-is j.first) ∙ sym (label-same (side_number M (pos_item k)) (met_number M j.first) r.1);
+        sloops = λ k x h. let r = A.sloops k x h in let j = r.0 in sym (met-is j.first) ∙ sym (label-same (side_number M (pos_item k)) (met_number M j.first) r.1);
+        ground = λ m q. label-same (side_number M whole) count (A.ground m q);
+        never_out = λ o. in_if-some (eqb (class (side_number M o)) c);
       }
 
       abbrev avoided : List Vector
@@ -101,9 +101,9 @@ module _ (M : Map) (V : Shaped M) (u : Vector) (ahead : (k : ℕ) (x : Item) →
         let e = agree (class s) d o p l m (side-has M s o l i) (side-has M t p m j) x y in
         let f = number-one M s o l i in
         let g = number-one M t p m j in
-        let q : eqb (class (number_of M o)) (class s) ≡ true = subst (λ (r : ℕ). eqb (class r) (class s) ≡ true) f (eqb-self (class s)) in
-        let z = in_if-one (eqb (class (number_of M o)) (class s)) (eqb (class (number_of M p)) (class s)) q e in
-        sym (eqb-same (class (number_of M p)) (class s) z) ∙ ap class (sym g)
+        let q : eqb (class (side_number M o)) (class s) ≡ true = subst (λ (r : ℕ). eqb (class r) (class s) ≡ true) f (eqb-self (class s)) in
+        let z = in_if-one (eqb (class (side_number M o)) (class s)) (eqb (class (side_number M p)) (class s)) q e in
+        sym (eqb-same (class (side_number M p)) (class s) z) ∙ ap class (sym g)
       where
         eqb-self : (n : ℕ) → eqb n n ≡ true
         eqb-self n = ⊎_elim (λ h. h.0) (λ h. absurd (h.1 refl)) (eqb_tells n n)

@@ -1,5 +1,5 @@
 -- By what lies over directions, free directions are plain and directions on items straight, and round a svertex without arcs there is one label.
-use Rattle.nef_smap.proofs.Prelude.{◌≡◌, ℕ, ◌+◌, ◌<◌, ◌≤◌, pos, ◌+ℤ◌, ◌*ℤ◌, ◌<ℤ◌, nat_abs, arith, refl, ap, sym, ◌∙◌, inl, inr, ◌∷◌, subst, Some, ints, Sign, sign, sign-plus, sign-minus, by_order, nought-is, Lies, Vector, IsDirection, IsZero, cross, dot, SameDirection, blend, Label, Out, same-off, sign-large, At, MapVertex, Map, Item, items, item_normal, OnItem, IsFree, Side, neg_item, HasArc, Shaped, Keeps, forms, by_side, Near, PlainAt, StraightAt, dot-comb, same-plus, same-minus, at-one, item-forms, normal-form, on-level, amount, far-keeps, far-level, cross-between, direction-around, svertex-around, free-around, item-stays, free-beside, over_forms, first_sign, Stands, met, BelowFirsts, self-pos}
+use Rattle.nef_smap.proofs.Prelude.{◌≡◌, ℕ, ◌+◌, ◌<◌, ◌≤◌, pos, ◌+ℤ◌, ◌*ℤ◌, ◌<ℤ◌, nat_abs, arith, refl, ap, sym, ◌∙◌, inl, inr, ◌∷◌, subst, Some, ints, Sign, sign, sign-plus, sign-minus, by_order, nought-is, Lies, Vector, IsDirection, IsZero, cross, dot, SameDirection, blend, Label, Out, same-off, sign-large, IsAt, MapVertex, Map, Item, items, item_normal, OnItem, IsFree, Side, neg_item, HasArc, Shaped, Keeps, forms, by_side, Near, PlainAt, StraightAt, dot-comb, same-plus, same-minus, at-one, item-forms, normal-form, on-level, amount, far-keeps, far-level, cross-between, direction-around, svertex-around, free-around, item-stays, free-beside, over_forms, first_sign, Stands, met, BelowFirsts, self-pos}
 use Rattle.nef_smap.proofs.Rise.{form-over, keeps-then}
 use Rattle.nef_smap.proofs.Over.{touches-back, first-one}
 use Rattle.nef_smap.proofs.Stands.{first-none, stand, stands, stands-keeps}
@@ -8,8 +8,8 @@ use Rattle.nef_smap.proofs.Common.{all-meet, AllMeet}
 use Rattle.nef_smap.proofs.Labelled.{turned-form, LabelAbove, by_one, not_free}
 use Rattle.nef_smap.proofs.Clean.{free-clean, item-clean, lone-clean, lone-untouched, lower-first}
 
-module _ (M : Map) (V : Shaped M) (u : Vector) (ahead : (k : ℕ) (x : Item) → At (items M) k x → pos 0 <ℤ dot (item_normal x) u)
-    (G : Side → Label) (top : Label) (firsts : (k : ℕ) (v : MapVertex) → At M.svertices k v → BelowFirsts M u v.dir) (joins : (k : ℕ) (v : MapVertex) (a : At M.svertices k v) → (let j = firsts k v a in met G top j.left ≡ met G top j.right)) (e : Vector) where
+module _ (M : Map) (V : Shaped M) (u : Vector) (ahead : (k : ℕ) (x : Item) → IsAt (items M) k x → pos 0 <ℤ dot (item_normal x) u)
+    (G : Side → Label) (top : Label) (firsts : (k : ℕ) (v : MapVertex) → IsAt M.svertices k v → BelowFirsts M u v.dir) (joins : (k : ℕ) (v : MapVertex) (a : IsAt M.svertices k v) → (let j = firsts k v a in met G top j.left ≡ met G top j.right)) (e : Vector) where
   abbrev F : Vector → Label → Type 0
   F = LabelAbove M u e G top
 
@@ -73,7 +73,7 @@ module _ (M : Map) (V : Shaped M) (u : Vector) (ahead : (k : ℕ) (x : Item) →
     }
 
     -- ---- directions on items
-    module _ (i : ℕ) (x : Item) (a : At (items M) i x) (o : OnItem M x d) where
+    module _ (i : ℕ) (x : Item) (a : IsAt (items M) i x) (o : OnItem M x d) where
       abbrev n : Vector
       n = item_normal x
 
@@ -113,7 +113,7 @@ module _ (M : Map) (V : Shaped M) (u : Vector) (ahead : (k : ℕ) (x : Item) →
               (λ p. subst (λ (t : Sign). F z (by_side over_label Out (G (neg_item i)) t)) (sym (sign-plus (dot n z) p)) (above w k h p)))
 
     -- ---- svertices without arcs
-    module _ (i : ℕ) (v : MapVertex) (a : At M.svertices i v) (q : v.dir ≡ d) (n : HasArc M i → ⊥) where
+    module _ (i : ℕ) (v : MapVertex) (a : IsAt M.svertices i v) (q : v.dir ≡ d) (n : HasArc M i → ⊥) where
       lone-free : (w z : Vector) → Keeps (over_forms M u) d z → IsDirection (cross d z) → IsFree M z
       lone-free w z k h = record {
         direction = direction-around M V d z (keeps-forms d z k) hd;
@@ -127,8 +127,8 @@ module _ (M : Map) (V : Shaped M) (u : Vector) (ahead : (k : ℕ) (x : Item) →
           hd : IsDirection d
           hd = subst IsDirection q (V.svertex_dirs i v a)
 
-          apart-from : (j : ℕ) (y : MapVertex) → At M.svertices j y → SameDirection y.dir z → j ≡ i → ⊥
-          apart-from j y b s m = h (subst (λ (r : Vector). IsZero (cross r z)) (ap (λ (r : MapVertex). r.dir) (at-one M.svertices i y v (subst (λ (r : ℕ). At M.svertices r y) m b) a) ∙ q) s.parallel)
+          apart-from : (j : ℕ) (y : MapVertex) → IsAt M.svertices j y → SameDirection y.dir z → j ≡ i → ⊥
+          apart-from j y b s m = h (subst (λ (r : Vector). IsZero (cross r z)) (ap (λ (r : MapVertex). r.dir) (at-one M.svertices i y v (subst (λ (r : ℕ). IsAt M.svertices r y) m b) a) ∙ q) s.parallel)
 
       pub round-lone : (w : Vector) → IsDirection (cross d w) → Near F d w over_label
       round-lone w h = (

@@ -1,5 +1,5 @@
 -- Numbers of the classes that joins make are the numbers of sfaces.
-use Rattle.nef_smap.proofs.Prelude.{◌≡◌, ℕ, zero, suc, ◌+◌, ◌<◌, pos, ◌<ℤ◌, List, [], ◌∷◌, length, take, arith, refl, sym, ◌∙◌, ◌↔◌, length-take-le, IsAt, Chained, Vector, IsDirection, cross, dot, At, MapVertex, Map, Item, items, item_normal, Shaped, Link, sides_of, SeeOneWay, AreSfaces, AreJoins, AreLinked, AreWithin, AreClasses, AreNumbered, is-at_within}
+use Rattle.nef_smap.proofs.Prelude.{◌≡◌, ℕ, zero, suc, ◌+◌, ◌<◌, pos, ◌<ℤ◌, List, [], ◌∷◌, length, take, arith, refl, sym, ◌∙◌, ◌↔◌, length-take-le, IsAt, Chained, Vector, IsDirection, cross, dot, MapVertex, Map, Item, items, item_normal, Shaped, Link, sides_of, SeeOneWay, AreSfaces, AreJoins, AreLinked, LinksAreBelow, AreClasses, AreNumbered, is-at_within}
 use Rattle.nef_classes.proofs.ByAppearance.{numbers-classes}
 use Rattle.nef_smap.proofs.SameSface.{join-within, sface-class}
 
@@ -20,11 +20,11 @@ at-taken (suc n) [] k c h = cc
 at-taken (suc n) (x ∷ xs) zero c h = cc
 at-taken (suc n) (x ∷ xs) (suc k) c h = at-taken n xs k c h
 
-module _ (M : Map) (V : Shaped M) (u : Vector) (ahead : (k : ℕ) (x : Item) → At (items M) k x → pos 0 <ℤ dot (item_normal x) u)
-    (across : (k : ℕ) (v : MapVertex) → At M.svertices k v → IsDirection (cross u v.dir)) (hu : IsDirection u)
+module _ (M : Map) (V : Shaped M) (u : Vector) (ahead : (k : ℕ) (x : Item) → IsAt (items M) k x → pos 0 <ℤ dot (item_normal x) u)
+    (across : (k : ℕ) (v : MapVertex) → IsAt M.svertices k v → IsDirection (cross u v.dir)) (hu : IsDirection u)
     (links : List Link) (A : AreJoins M u (AreLinked links)) where
   -- LINKS ARE BETWEEN SIDES AND u
-  pub links-within : AreWithin (length (sides_of M) + 1) links
+  pub links-within : LinksAreBelow (length (sides_of M) + 1) links
   links-within k l h = join-within M V u ahead across hu l.first l.second (A.only l.first l.second (k, l, h, refl, refl))
 
   module _ (classes : List ℕ) (C : AreClasses (length (sides_of M) + 1) links classes) where

@@ -1,5 +1,5 @@
 -- The sides of a map by their numbers: how many there are, where each stands, and that the map has it.
-use Rattle.nef_smap.proofs.Prelude.{◌≡◌, ℕ, zero, suc, ◌+◌, ◌*◌, ◌/◌, ◌%◌, ◌⊎◌, inl, inr, ⊎_elim, List, [], ◌∷◌, ◌++◌, length, map, Option, Some, None, cond, is_some, arith, add-zero, zero-add, length-append, refl, sym, ◌∙◌, ap, subst, slice_get, ◌<◌, Bool, true, false, not, filter_map, cons_option, IsAt, Label, At, MapVertex, Item, Map, items, item_pos, item_neg, Side, around_svertex, pos_item, neg_item, whole, HasSide, SVertex, SphereMap, svertex_of, map_of, LabelledSide, labelled, svertex_sides, item_sides, sides_of, IsSide, is-at_none, is-at_first}
+use Rattle.nef_smap.proofs.Prelude.{◌≡◌, ℕ, zero, suc, ◌+◌, ◌*◌, ◌/◌, ◌%◌, ◌⊎◌, inl, inr, ⊎_elim, List, [], ◌∷◌, ◌++◌, length, map, Option, Some, None, cond, is_some, arith, add-zero, zero-add, length-append, refl, sym, ◌∙◌, ap, subst, slice_get, ◌<◌, Bool, true, false, not, filter_map, cons_option, IsAt, Label, MapVertex, Item, Map, items, item_pos, item_neg, Side, around_svertex, pos_item, neg_item, whole, HasSide, SVertex, SphereMap, svertex_of, map_of, LabelledSide, labelled, svertex_sides, item_sides, sides_of, IsSide, is-at_none, is-at_first}
 use lib.Dec.{eqb}
 use mir.Val.{bool_byte}
 pub use Rattle.nef_smap.proofs.Lists.{at-from_get, get-from_at, at-left, at-right, InSecond, at-parts, at-some, get-past, either-at}
@@ -33,19 +33,19 @@ length-sides m =
     by (Some l) = refl
 
 -- ---- which one
-pub around-side : (k : ℕ) (vs : List SVertex) (s : ℕ) (l : Label) → slice_get (filter_map (λ v. v.around) vs) s ≡ Some l → (o : Side) × At (svertex_sides k (map svertex_of vs)) s (o, l)
+pub around-side : (k : ℕ) (vs : List SVertex) (s : ℕ) (l : Label) → slice_get (filter_map (λ v. v.around) vs) s ≡ Some l → (o : Side) × IsAt (svertex_sides k (map svertex_of vs)) s (o, l)
 around-side k [] s l e = cc
 around-side k (v ∷ vs) s l e = by v.around s e (around-side (suc k) vs)
   where
     by : (f : Option Label) (s : ℕ) → slice_get (cons_option f (filter_map (λ (v : SVertex). v.around) vs)) s ≡ Some l
-        → ((s : ℕ) (l : Label) → slice_get (filter_map (λ (v : SVertex). v.around) vs) s ≡ Some l → (o : Side) × At (svertex_sides (suc k) (map svertex_of vs)) s (o, l))
-        → (o : Side) × At (labelled (around_svertex k) f ++ svertex_sides (suc k) (map svertex_of vs)) s (o, l)
+        → ((s : ℕ) (l : Label) → slice_get (filter_map (λ (v : SVertex). v.around) vs) s ≡ Some l → (o : Side) × IsAt (svertex_sides (suc k) (map svertex_of vs)) s (o, l))
+        → (o : Side) × IsAt (labelled (around_svertex k) f ++ svertex_sides (suc k) (map svertex_of vs)) s (o, l)
     by None s e go = go s l e
     by (Some m) zero e go = (around_svertex k, let f : m ≡ l = cc in ap (λ (r : Label). Some (around_svertex k, r)) f)
     by (Some m) (suc s) e go = go s l e
 
-pub item-side : (n : ℕ) (xs : List Item) (k : ℕ) (x : Item) → At xs k x
-    → At (item_sides n xs) (2 * k) (pos_item (n + k), item_pos x) × At (item_sides n xs) (2 * k + 1) (neg_item (n + k), item_neg x)
+pub item-side : (n : ℕ) (xs : List Item) (k : ℕ) (x : Item) → IsAt xs k x
+    → IsAt (item_sides n xs) (2 * k) (pos_item (n + k), item_pos x) × IsAt (item_sides n xs) (2 * k + 1) (neg_item (n + k), item_neg x)
 item-side n [] k x a = absurd (is-at_none a)
 item-side n (y ∷ xs) zero x a = let e = is-at_first a in rw (add-zero n) (ap (λ (r : Item). Some (pos_item n, item_pos r)) e, ap (λ (r : Item). Some (neg_item n, item_neg r)) e)
 item-side n (y ∷ xs) (suc k) x a =
@@ -53,8 +53,8 @@ item-side n (y ∷ xs) (suc k) x a =
     let e : suc n + k ≡ n + suc k = omega arith in
     let f : 2 * suc k ≡ suc (suc (2 * k)) = omega arith in
     let g : 2 * suc k + 1 ≡ suc (suc (2 * k + 1)) = omega arith in (
-      rw f (subst (λ (i : ℕ). At (item_sides (suc n) xs) (2 * k) (pos_item i, item_pos x)) e r.0),
-      rw g (subst (λ (i : ℕ). At (item_sides (suc n) xs) (2 * k + 1) (neg_item i, item_neg x)) e r.1),
+      rw f (subst (λ (i : ℕ). IsAt (item_sides (suc n) xs) (2 * k) (pos_item i, item_pos x)) e r.0),
+      rw g (subst (λ (i : ℕ). IsAt (item_sides (suc n) xs) (2 * k + 1) (neg_item i, item_neg x)) e r.1),
     )
 
 -- ---- the sides of the program's maps
@@ -73,14 +73,14 @@ module _ (m : SphereMap) where
       let r = around-side 0 m.svertices s l e in
       (r.0, get-from_at (sides_of (map_of m)) s (r.0, l) (at-left (arounds ++ of_items) (labelled whole m.ground) s (r.0, l) (at-left arounds of_items s (r.0, l) r.1)))
 
-  of-items : (s i : ℕ) (y : LabelledSide) → s ≡ arounds_count + i → At of_items i y → IsAt (sides_of (map_of m)) s y
+  of-items : (s i : ℕ) (y : LabelledSide) → s ≡ arounds_count + i → IsAt of_items i y → IsAt (sides_of (map_of m)) s y
   of-items s i y e a = get-from_at (sides_of (map_of m)) s y (at-left (arounds ++ of_items) (labelled whole m.ground) s y (at-right arounds of_items i s y (let f = length-svertex_sides 0 m.svertices in omega arith) a))
 
-  pub side-above : (s k : ℕ) (x : Item) → s ≡ arounds_count + 2 * k → At (items (map_of m)) k x → IsSide (map_of m) s (pos_item k) (item_pos x)
-  side-above s k x e a = of-items s (2 * k) (pos_item k, item_pos x) e (subst (λ (i : ℕ). At of_items (2 * k) (pos_item i, item_pos x)) (zero-add k) (item-side 0 (items (map_of m)) k x a).0)
+  pub side-above : (s k : ℕ) (x : Item) → s ≡ arounds_count + 2 * k → IsAt (items (map_of m)) k x → IsSide (map_of m) s (pos_item k) (item_pos x)
+  side-above s k x e a = of-items s (2 * k) (pos_item k, item_pos x) e (subst (λ (i : ℕ). IsAt of_items (2 * k) (pos_item i, item_pos x)) (zero-add k) (item-side 0 (items (map_of m)) k x a).0)
 
-  pub side-below : (s k : ℕ) (x : Item) → s ≡ arounds_count + (2 * k + 1) → At (items (map_of m)) k x → IsSide (map_of m) s (neg_item k) (item_neg x)
-  side-below s k x e a = of-items s (2 * k + 1) (neg_item k, item_neg x) e (subst (λ (i : ℕ). At of_items (2 * k + 1) (neg_item i, item_neg x)) (zero-add k) (item-side 0 (items (map_of m)) k x a).1)
+  pub side-below : (s k : ℕ) (x : Item) → s ≡ arounds_count + (2 * k + 1) → IsAt (items (map_of m)) k x → IsSide (map_of m) s (neg_item k) (item_neg x)
+  side-below s k x e a = of-items s (2 * k + 1) (neg_item k, item_neg x) e (subst (λ (i : ℕ). IsAt of_items (2 * k + 1) (neg_item i, item_neg x)) (zero-add k) (item-side 0 (items (map_of m)) k x a).1)
 
   pub side-whole : (s : ℕ) (l : Label) → s ≡ arounds_count + 2 * length (items (map_of m)) → m.ground ≡ Some l → IsSide (map_of m) s whole l
   side-whole s l e f =
@@ -89,11 +89,11 @@ module _ (m : SphereMap) where
       let i = length-append arounds of_items in
       get-from_at (sides_of (map_of m)) s (whole, l) (at-right (arounds ++ of_items) (labelled whole m.ground) 0 s (whole, l) (omega arith) (by m.ground f))
     where
-      by : (g : Option Label) → g ≡ Some l → At (labelled whole g) 0 (whole, l)
+      by : (g : Option Label) → g ≡ Some l → IsAt (labelled whole g) 0 (whole, l)
       by None e = cc
       by (Some k) e = let f : k ≡ l = cc in ap (λ (r : Label). Some (whole, r)) f
 
-  pub side-item : (s n : ℕ) (x : Item) (l : Label) → s ≡ arounds_count + n → At (items (map_of m)) (n / 2) x → l ≡ cond (eqb (n % 2) 0) (item_pos x) (item_neg x) → (o : Side) × IsSide (map_of m) s o l
+  pub side-item : (s n : ℕ) (x : Item) (l : Label) → s ≡ arounds_count + n → IsAt (items (map_of m)) (n / 2) x → l ≡ cond (eqb (n % 2) 0) (item_pos x) (item_neg x) → (o : Side) × IsSide (map_of m) s o l
   side-item s n x l e a f = by (n % 2) refl f
     where
       by : (r : ℕ) → r ≡ n % 2 → l ≡ cond (eqb r 0) (item_pos x) (item_neg x) → (o : Side) × IsSide (map_of m) s o l
@@ -102,28 +102,28 @@ module _ (m : SphereMap) where
       by (suc (suc r)) h g = absurd (omega arith)
 
   pub side-of : (s k : ℕ) (above : Bool) → k < length (items (map_of m)) → s ≡ arounds_count + 2 * k + bool_byte (not above)
-      → (x : Item) × At (items (map_of m)) k x × IsSide (map_of m) s (cond above (pos_item k) (neg_item k)) (cond above (item_pos x) (item_neg x))
+      → (x : Item) × IsAt (items (map_of m)) k x × IsSide (map_of m) s (cond above (pos_item k) (neg_item k)) (cond above (item_pos x) (item_neg x))
   side-of s k true h e = let r = at-some (items (map_of m)) k h in (r.0, r.1, side-above s k r.0 (omega arith) r.1)
   side-of s k false h e = let r = at-some (items (map_of m)) k h in (r.0, r.1, side-below s k r.0 (omega arith) r.1)
 
 -- ---- what a numbered side is
-labelled-has : (p : Side) (f : Option Label) (s : ℕ) (o : Side) (l : Label) → At (labelled p f) s (o, l) → (o ≡ p) × (f ≡ Some l)
+labelled-has : (p : Side) (f : Option Label) (s : ℕ) (o : Side) (l : Label) → IsAt (labelled p f) s (o, l) → (o ≡ p) × (f ≡ Some l)
 labelled-has p None s o l a = absurd (is-at_none a)
 labelled-has p (Some m) zero o l a = let e = is-at_first a in (sym (ap (λ (y : LabelledSide). y.0) e), ap (λ (y : LabelledSide). Some y.1) e)
 labelled-has p (Some m) (suc s) o l a = absurd (is-at_none a)
 
-svertex-has : (n : ℕ) (vs : List MapVertex) (s : ℕ) (o : Side) (l : Label) → At (svertex_sides n vs) s (o, l) → (i : ℕ) × (v : MapVertex) × At vs i v × (v.around ≡ Some l) × (o ≡ around_svertex (n + i))
+svertex-has : (n : ℕ) (vs : List MapVertex) (s : ℕ) (o : Side) (l : Label) → IsAt (svertex_sides n vs) s (o, l) → (i : ℕ) × (v : MapVertex) × IsAt vs i v × (v.around ≡ Some l) × (o ≡ around_svertex (n + i))
 svertex-has n [] s o l a = absurd (is-at_none a)
 svertex-has n (v ∷ vs) s o l a = by (λ s' b. svertex-has (suc n) vs s' o l b) (either-at (labelled (around_svertex n) v.around) (svertex_sides (suc n) vs) s (o, l) a)
   where
-    by : ((s : ℕ) → At (svertex_sides (suc n) vs) s (o, l) → (i : ℕ) × (w : MapVertex) × At vs i w × (w.around ≡ Some l) × (o ≡ around_svertex (suc n + i)))
-        → At (labelled (around_svertex n) v.around) s (o, l) ⊎ ((j : ℕ) × At (svertex_sides (suc n) vs) j (o, l))
-        → (i : ℕ) × (w : MapVertex) × At (v ∷ vs) i w × (w.around ≡ Some l) × (o ≡ around_svertex (n + i))
+    by : ((s : ℕ) → IsAt (svertex_sides (suc n) vs) s (o, l) → (i : ℕ) × (w : MapVertex) × IsAt vs i w × (w.around ≡ Some l) × (o ≡ around_svertex (suc n + i)))
+        → IsAt (labelled (around_svertex n) v.around) s (o, l) ⊎ ((j : ℕ) × IsAt (svertex_sides (suc n) vs) j (o, l))
+        → (i : ℕ) × (w : MapVertex) × IsAt (v ∷ vs) i w × (w.around ≡ Some l) × (o ≡ around_svertex (n + i))
     by go (inl b) = let r = labelled-has (around_svertex n) v.around s o l b in (zero, v, refl, r.1, r.0 ∙ ap around_svertex (let e : n ≡ n + zero = omega arith in e))
     by go (inr (j, b)) = let r = go j b in (suc r.0, r.1, r.2, r.3, r.4 ∙ ap around_svertex (let e : suc n + r.0 ≡ n + suc r.0 = omega arith in e))
 
-item-has : (n : ℕ) (xs : List Item) (s : ℕ) (o : Side) (l : Label) → At (item_sides n xs) s (o, l)
-    → (i : ℕ) × (x : Item) × At xs i x × (((o ≡ pos_item (n + i)) × (item_pos x ≡ l)) ⊎ ((o ≡ neg_item (n + i)) × (item_neg x ≡ l)))
+item-has : (n : ℕ) (xs : List Item) (s : ℕ) (o : Side) (l : Label) → IsAt (item_sides n xs) s (o, l)
+    → (i : ℕ) × (x : Item) × IsAt xs i x × (((o ≡ pos_item (n + i)) × (item_pos x ≡ l)) ⊎ ((o ≡ neg_item (n + i)) × (item_neg x ≡ l)))
 item-has n [] s o l a = absurd (is-at_none a)
 item-has n (x ∷ xs) zero o l a = let f = is-at_first a in (zero, x, refl, inl (sym (ap (λ (y : LabelledSide). y.0) f) ∙ ap pos_item (let e : n ≡ n + zero = omega arith in e), ap (λ (y : LabelledSide). y.1) f))
 item-has n (x ∷ xs) (suc zero) o l a = let f = is-at_first a in (zero, x, refl, inr (sym (ap (λ (y : LabelledSide). y.0) f) ∙ ap neg_item (let e : n ≡ n + zero = omega arith in e), ap (λ (y : LabelledSide). y.1) f))
@@ -136,17 +136,17 @@ item-has n (x ∷ xs) (suc (suc s)) o l a =
 pub side-has : (M : Map) (s : ℕ) (o : Side) (l : Label) → IsSide M s o l → HasSide M o l
 side-has M s o l g = by (either-at (svertex_sides 0 M.svertices ++ item_sides 0 (items M)) (labelled whole M.ground) s (o, l) (at-from_get (sides_of M) s (o, l) g))
   where
-    around : ((i : ℕ) × (v : MapVertex) × At M.svertices i v × (v.around ≡ Some l) × (o ≡ around_svertex (0 + i))) → HasSide M o l
+    around : ((i : ℕ) × (v : MapVertex) × IsAt M.svertices i v × (v.around ≡ Some l) × (o ≡ around_svertex (0 + i))) → HasSide M o l
     around (i, v, a, e, f) = subst (λ (p : Side). HasSide M p l) (sym (f ∙ ap around_svertex (zero-add i))) (v, a, e)
 
-    of_item : ((i : ℕ) × (x : Item) × At (items M) i x × (((o ≡ pos_item (0 + i)) × (item_pos x ≡ l)) ⊎ ((o ≡ neg_item (0 + i)) × (item_neg x ≡ l)))) → HasSide M o l
+    of_item : ((i : ℕ) × (x : Item) × IsAt (items M) i x × (((o ≡ pos_item (0 + i)) × (item_pos x ≡ l)) ⊎ ((o ≡ neg_item (0 + i)) × (item_neg x ≡ l)))) → HasSide M o l
     of_item (i, x, a, inl q) = subst (λ (p : Side). HasSide M p l) (sym (q.0 ∙ ap pos_item (zero-add i))) (x, a, q.1)
     of_item (i, x, a, inr q) = subst (λ (p : Side). HasSide M p l) (sym (q.0 ∙ ap neg_item (zero-add i))) (x, a, q.1)
 
-    part : At (svertex_sides 0 M.svertices) s (o, l) ⊎ ((j : ℕ) × At (item_sides 0 (items M)) j (o, l)) → HasSide M o l
+    part : IsAt (svertex_sides 0 M.svertices) s (o, l) ⊎ ((j : ℕ) × IsAt (item_sides 0 (items M)) j (o, l)) → HasSide M o l
     part (inl a) = around (svertex-has 0 M.svertices s o l a)
     part (inr (j, a)) = of_item (item-has 0 (items M) j o l a)
 
-    by : At (svertex_sides 0 M.svertices ++ item_sides 0 (items M)) s (o, l) ⊎ ((j : ℕ) × At (labelled whole M.ground) j (o, l)) → HasSide M o l
+    by : IsAt (svertex_sides 0 M.svertices ++ item_sides 0 (items M)) s (o, l) ⊎ ((j : ℕ) × IsAt (labelled whole M.ground) j (o, l)) → HasSide M o l
     by (inl a) = part (either-at (svertex_sides 0 M.svertices) (item_sides 0 (items M)) s (o, l) a)
     by (inr (j, a)) = let r = labelled-has whole M.ground j o l a in subst (λ (p : Side). HasSide M p l) (sym r.0) r.1

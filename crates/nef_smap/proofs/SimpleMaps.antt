@@ -1,5 +1,5 @@
 -- The maps of one label and of one plane, as the program's.
-use Rattle.nef_smap.proofs.Prelude.{◌≡◌, ℕ, zero, suc, [], ◌∷◌, refl, sym, ap, ◌∙◌, inl, subst, normal_limit, Vector, dot, IsDirection, IsNormal, IsAtMost, Label, vector_of, IsPrimitive, At, MapSloop, Item, sloop_item, items, item_normal, MapLabel, Valid, by_side, Least, Ordered, Labelling, ground_map, ground-shaped, ground-agrees, sloop_map, sloop-shaped, sloop-agrees, SLoop, sloop_of, IsSmall, is-at_none, is-at_first}
+use Rattle.nef_smap.proofs.Prelude.{◌≡◌, ℕ, zero, suc, [], ◌∷◌, refl, sym, ap, ◌∙◌, inl, subst, normal_limit, Vector, dot, IsDirection, IsNormal, IsAtMost, Label, vector_of, IsPrimitive, IsAt, MapSloop, Item, sloop_item, items, item_normal, MapLabel, Valid, by_side, Least, Ordered, Labelling, ground_map, ground-shaped, ground-agrees, sloop_map, sloop-shaped, sloop-agrees, SLoop, sloop_of, IsSmall, is-at_none, is-at_first}
 use Rattle.nef_space.specs.Signs.{sign}
 use Rattle.law_sphere.proofs.Built.{agrees-valid, label-agrees}
 use Rattle.nef_smap.proofs.Primitive.{dir-primitive}
@@ -29,7 +29,7 @@ module _ (l : SLoop) where
   abbrev p : MapSloop
   p = sloop_of l
 
-  only : (i : ℕ) (x : Item) → At (items (sloop_map l.mark p)) i x → sloop_item p ≡ x
+  only : (i : ℕ) (x : Item) → IsAt (items (sloop_map l.mark p)) i x → sloop_item p ≡ x
   only zero x e = is-at_first e
   only (suc i) x e = absurd (is-at_none e)
 

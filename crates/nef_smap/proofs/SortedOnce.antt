@@ -1,5 +1,5 @@
 -- What is sorted by a total order and kept once stands in order, and what stands in order is sorted.
-use Rattle.nef_smap.proofs.Prelude.{◌≡◌, ℕ, ◌<◌, ◌+◌, List, get_or, Bool, true, false, Ordering, Less, Equal, Greater, arith, refl, sym, ap, subst, IsTotalOrder, Contains, dedup, eq_by_cmp, is_eq, is_lt, slice_get-get_or, IsAt, InOrder, At}
+use Rattle.nef_smap.proofs.Prelude.{◌≡◌, ℕ, ◌<◌, ◌+◌, List, get_or, Bool, true, false, Ordering, Less, Equal, Greater, arith, refl, sym, ap, subst, IsTotalOrder, Contains, dedup, eq_by_cmp, is_eq, is_lt, slice_get-get_or, IsAt, InOrder}
 use Rattle.std.specs.Cmp.{IsEquivalence}
 use Rattle.std.specs.List.Sorted.{IsSorted, IsPermutation}
 use Rattle.std.proofs.lemmas.Cmp.{tied_itself}
@@ -9,7 +9,7 @@ use Rattle.std.proofs.lemmas.Map.Keys.{Less-from_sorted}
 use Rattle.nef_smap.proofs.Lists.{at-within, at-get}
 
 -- what holds of the elements that are read at two places holds of those that stand there
-pub both-at : {A : Type 0} (P : A → A → Type 0) (xs : List A) (i k : ℕ) (x y : A) → At xs i x → At xs k y → ((d : A) → P (get_or xs i d) (get_or xs k d)) → P x y
+pub both-at : {A : Type 0} (P : A → A → Type 0) (xs : List A) (i k : ℕ) (x y : A) → IsAt xs i x → IsAt xs k y → ((d : A) → P (get_or xs i d) (get_or xs k d)) → P x y
 both-at P xs i k x y a b h = subst (P x) (at-get xs k y x b) (subst (λ z. P z (get_or xs k x)) (at-get xs i x x a) (h x))
 
 -- ---- a test for equality

@@ -1,5 +1,5 @@
 -- Joined sides are of one sface.
-use Rattle.nef_smap.proofs.Prelude.{◌≡◌, ℕ, ◌+◌, ◌<◌, ◌≤◌, ℤ, pos, ◌-ℤ◌, ◌*ℤ◌, ◌<ℤ◌, neg_ℤ, arith, refl, ap, sym, ◌∙◌, ◌⊎◌, inl, inr, ⊎_elim, [], ◌∷◌, length, subst, Option, Some, None, ints, ring, at, num, neg, ◌⊕◌, ◌⊖◌, ◌⊗◌, follows, given, none, sign, sign-plus, plus-is, nought-is, mul_pos, sign-scaled, nought-or, square_pos, Lies, Chained, Vector, IsDirection, IsZero, cross, triple, dot, opposite, SameDirection, blend, Label, At, MapVertex, Arc, MapSloop, Map, Item, arc_item, sloop_item, items, item_normal, item_pos, dir_of, OnItem, IsFree, Side, around_svertex, pos_item, neg_item, whole, HasSide, IsClear, Sees, directly, HasArc, Shaped, Keeps, forms, normal-is, dot-comb, at-one, item-forms, normal-form, on-direction, on-level, amount, far-keeps, arc-point, cross-self, between-off_target, cross-between, dir-at, arc-at, direction-around, svertex-around, free-around, free-beside, at-arc, keeps-between, kept-not_opposite, clear-around, axes-forms, clear-self, sees_both, free-seen, sides_of, SideSees, SeeOneWay, number_of, meridians, over_forms, IsFirst, first_sign, Stands, FirstNear, BelowFirsts, BelowFirst, ArcFirst, SloopFirst, met_number, IsJoin, join_below, join_around, join_arc, join_sloop, join_ground, chain-link, chain-trans, chain-turned, cases_lt, zero-dot, self-pos, cross-turned, dir-self, opposite-turned, apart, blend-turned}
+use Rattle.nef_smap.proofs.Prelude.{◌≡◌, ℕ, ◌+◌, ◌<◌, ◌≤◌, ℤ, pos, ◌-ℤ◌, ◌*ℤ◌, ◌<ℤ◌, neg_ℤ, arith, refl, ap, sym, ◌∙◌, ◌⊎◌, inl, inr, ⊎_elim, [], ◌∷◌, length, subst, Option, Some, None, ints, ring, at, num, neg, ◌⊕◌, ◌⊖◌, ◌⊗◌, follows, given, none, sign, sign-plus, plus-is, nought-is, mul_pos, sign-scaled, nought-or, square_pos, Lies, Chained, Vector, IsDirection, IsZero, cross, triple, dot, opposite, SameDirection, blend, Label, IsAt, MapVertex, Arc, MapSloop, Map, Item, arc_item, sloop_item, items, item_normal, item_pos, dir_of, OnItem, IsFree, Side, around_svertex, pos_item, neg_item, whole, HasSide, IsClear, Sees, directly, HasArc, Shaped, Keeps, forms, normal-is, dot-comb, at-one, item-forms, normal-form, on-direction, on-level, amount, far-keeps, arc-point, cross-self, between-off_target, cross-between, dir-at, arc-at, direction-around, svertex-around, free-around, free-beside, at-arc, keeps-between, kept-not_opposite, clear-around, axes-forms, clear-self, sees_both, free-seen, sides_of, SideSees, SeeOneWay, side_number, meridians, over_forms, IsFirst, first_sign, Stands, FirstNear, BelowFirsts, BelowFirst, ArcFirst, SloopFirst, met_number, IsJoin, join_below, join_around, join_arc, join_sloop, join_ground, chain-link, chain-trans, chain-turned, cases_lt, zero-dot, self-pos, cross-turned, dir-self, opposite-turned, apart, blend-turned}
 use Rattle.nef_smap.proofs.Rise.{form-over, meridian-over, meridian-level, svertex-meridian, meridian-turn}
 use Rattle.nef_smap.proofs.Over.{touches-back, touches-level}
 use Rattle.nef_smap.proofs.Stands.{first-none, first-last, dot-opposite, far-stands, stand, stands, stands-keeps, stands-second, stands-third}
@@ -26,20 +26,20 @@ along-turn n s r u p q =
     (given (o ⊖ (ux ⊗ (ny ⊗ sz ⊖ nz ⊗ sy) ⊕ uy ⊗ (nz ⊗ sx ⊖ nx ⊗ sz) ⊕ uz ⊗ (nx ⊗ sy ⊖ ny ⊗ sx))) (nx ⊗ rx ⊕ ny ⊗ ry ⊕ nz ⊗ rz) o q
     (given (ux ⊗ (ny ⊗ rz ⊖ nz ⊗ ry) ⊕ uy ⊗ (nz ⊗ rx ⊖ nx ⊗ rz) ⊕ uz ⊗ (nx ⊗ ry ⊖ ny ⊗ rx)) (nx ⊗ sx ⊕ ny ⊗ sy ⊕ nz ⊗ sz) o p none)) tt
 
-module _ (M : Map) (V : Shaped M) (u : Vector) (ahead : (k : ℕ) (x : Item) → At (items M) k x → pos 0 <ℤ dot (item_normal x) u)
-    (across : (k : ℕ) (v : MapVertex) → At M.svertices k v → IsDirection (cross u v.dir)) (hu : IsDirection u) where
+module _ (M : Map) (V : Shaped M) (u : Vector) (ahead : (k : ℕ) (x : Item) → IsAt (items M) k x → pos 0 <ℤ dot (item_normal x) u)
+    (across : (k : ℕ) (v : MapVertex) → IsAt M.svertices k v → IsDirection (cross u v.dir)) (hu : IsDirection u) where
   -- ---- sides by their numbers
   abbrev Together : ℕ → ℕ → Type 0
   Together = Chained (SeeOneWay M)
 
-  side-sees : (o : Side) (l : Label) (d : Vector) → HasSide M o l → Sees M o d → SideSees M (number_of M o) d
+  side-sees : (o : Side) (l : Label) (d : Vector) → HasSide M o l → Sees M o d → SideSees M (side_number M o) d
   side-sees o l d h s = (o, l, side-number M o l h, s)
 
   seen-from : (d : Vector) → IsFree M d → (s : ℕ) × SideSees M s d
-  seen-from d D = let r = free-seen M V d D in let s = r.1 in (number_of M s.side, side-sees s.side r.0 d s.has s.sees)
+  seen-from d D = let r = free-seen M V d D in let s = r.1 in (side_number M s.side, side-sees s.side r.0 d s.has s.sees)
 
   both-seen : (d e : Vector) → IsClear M d e → IsFree M e → (s : ℕ) × SideSees M s d × SideSees M s e
-  both-seen d e c E = let b = sees_both M V d e c E in (number_of M b.side, side-sees b.side b.label d b.has b.left, side-sees b.side b.label e b.has b.right)
+  both-seen d e c E = let b = sees_both M V d e c E in (side_number M b.side, side-sees b.side b.label d b.has b.left, side-sees b.side b.label e b.has b.right)
 
   one-way : (s t : ℕ) (d : Vector) → SideSees M s d → SideSees M t d → Together s t
   one-way s t d a b = chain-link (SeeOneWay M) s t (d, a, b)
@@ -125,7 +125,7 @@ module _ (M : Map) (V : Shaped M) (u : Vector) (ahead : (k : ℕ) (x : Item) →
             let y : dot u u *ℤ dot m d ≡ pos 0 = omega (arith, ints) in
             nought-is (dot m d) (sym (sign-scaled (dot u u) (dot m d) (self-pos u hu)) ∙ ap sign y)
 
-        none : (k : ℕ) (v : MapVertex) → At M.svertices k v → dot (cross u v.dir) d ≡ pos 0 → ⊥
+        none : (k : ℕ) (v : MapVertex) → IsAt M.svertices k v → dot (cross u v.dir) d ≡ pos 0 → ⊥
         none k v h z =
             let n = cross u v.dir in
             let l = cross u c in
@@ -155,7 +155,7 @@ module _ (M : Map) (V : Shaped M) (u : Vector) (ahead : (k : ℕ) (x : Item) →
                 other x y g e = ⊎_elim (λ z. z) (λ h. absurd (let p = square_pos x g in let q = square_pos y h in let t = mul_pos (x *ℤ x) (y *ℤ y) p q in let s = ap (λ r. r *ℤ (x *ℤ y)) e in let i = ring (x ∷ y ∷ []) ((at 0 ⊗ at 0) ⊗ (at 1 ⊗ at 1)) ((at 0 ⊗ at 1) ⊗ (at 0 ⊗ at 1)) tt in let o = ring (x ∷ y ∷ []) (num (pos 0) ⊗ (at 0 ⊗ at 1)) (num (pos 0)) tt in omega (arith, ints))) (nought-or y)
 
   -- ---- above an item
-  upper-sees : (k : ℕ) (x : Item) (a : At (items M) k x) (z y : Vector) → OnItem M x z → Keeps (forms M) z y → pos 0 <ℤ dot (item_normal x) y → ElementSees (number_of M (pos_item k)) y × IsFree M y
+  upper-sees : (k : ℕ) (x : Item) (a : IsAt (items M) k x) (z y : Vector) → OnItem M x z → Keeps (forms M) z y → pos 0 <ℤ dot (item_normal x) y → ElementSees (side_number M (pos_item k)) y × IsFree M y
   upper-sees k x a z y o h l = (inl (side-sees (pos_item k) (item_pos x) y (x, a, refl) (directly z clear (x, a, o, l))), free)
     where
       off : dot (item_normal x) y ≡ pos 0 → ⊥
@@ -177,7 +177,7 @@ module _ (M : Map) (V : Shaped M) (u : Vector) (ahead : (k : ℕ) (x : Item) →
   forms-kept d z k g l f = k g (form-over M u g l) f
 
   -- ---- below a svertex
-  module _ (k : ℕ) (v : MapVertex) (a : At M.svertices k v) where
+  module _ (k : ℕ) (v : MapVertex) (a : IsAt M.svertices k v) where
     abbrev w : Vector
     w = v.dir
 
@@ -197,10 +197,10 @@ module _ (M : Map) (V : Shaped M) (u : Vector) (ahead : (k : ℕ) (x : Item) →
         one a b c d e = ring (a ∷ b ∷ c ∷ d ∷ []) (at 0 ⊗ at 3 ⊖ at 1 ⊗ at 2) (at 2 ⊗ neg (at 1) ⊖ at 3 ⊗ neg (at 0)) tt ∙ e
 
     -- a direction close to w, but not w, is no svertex
-    off-svertices : (z : Vector) → Keeps (forms M) w z → IsDirection (cross w z) → (j : ℕ) (y : MapVertex) → At M.svertices j y → SameDirection y.dir z → ⊥
+    off-svertices : (z : Vector) → Keeps (forms M) w z → IsDirection (cross w z) → (j : ℕ) (y : MapVertex) → IsAt M.svertices j y → SameDirection y.dir z → ⊥
     off-svertices z h f j y b s =
         let m = V.svertices_apart j k y v b a (svertex-around M V w z h j y b hw s) in
-        f (subst (λ (r : MapVertex). IsZero (cross r.dir z)) (at-one M.svertices k y v (subst (λ (r : ℕ). At M.svertices r y) m b) a) s.parallel)
+        f (subst (λ (r : MapVertex). IsZero (cross r.dir z)) (at-one M.svertices k y v (subst (λ (r : ℕ). IsAt M.svertices r y) m b) a) s.parallel)
 
     -- close below w
     abbrev c : Vector
@@ -216,7 +216,7 @@ module _ (M : Map) (V : Shaped M) (u : Vector) (ahead : (k : ℕ) (x : Item) →
       off_items = λ j y b s. on-item j y b s (touches-level M V j y w b (touches-back M V w c (forms-kept w c c-keeps) j y b hw s));
     }
       where
-        on-item : (j : ℕ) (y : Item) → At (items M) j y → OnItem M y c → dot (item_normal y) w ≡ pos 0 → ⊥
+        on-item : (j : ℕ) (y : Item) → IsAt (items M) j y → OnItem M y c → dot (item_normal y) w ≡ pos 0 → ⊥
         on-item j y b s z =
             let n = item_normal y in
             let e = sym (dot-comb n (pos (amount (over_forms M u) o)) w (pos 1) o) ∙ on-level M y c s in
@@ -259,8 +259,8 @@ module _ (M : Map) (V : Shaped M) (u : Vector) (ahead : (k : ℕ) (x : Item) →
         near-one (d j.aside j.off) (d (opposite j.aside) q) c (d-clear j.aside j.off) (d-free j.aside j.off) (d-clear (opposite j.aside) q) (d-free (opposite j.aside) q)
         (met_number M j.left) (met_number M j.right) (sees-d j.aside j.off j.left j.left_first) (sees-d (opposite j.aside) q j.right j.right_first)
 
-    around-joined : (m : Label) → v.around ≡ Some m → (j : BelowFirst M u w) → Together (root (number_of M (around_svertex k))) (root (met_number M j.first))
-    around-joined m q j = near-one c (d j.aside j.off) c (clear-self M c c-free) c-free (d-clear j.aside j.off) (d-free j.aside j.off) (number_of M (around_svertex k)) (met_number M j.first)
+    around-joined : (m : Label) → v.around ≡ Some m → (j : BelowFirst M u w) → Together (root (side_number M (around_svertex k))) (root (met_number M j.first))
+    around-joined m q j = near-one c (d j.aside j.off) c (clear-self M c c-free) c-free (d-clear j.aside j.off) (d-free j.aside j.off) (side_number M (around_svertex k)) (met_number M j.first)
         (inl (side-sees (around_svertex k) m c (v, a, q) (directly w clear (v, a, dir-self w hw)))) (sees-d j.aside j.off j.first j.is_first)
       where
         lone : HasArc M k → ⊥
@@ -291,8 +291,8 @@ module _ (M : Map) (V : Shaped M) (u : Vector) (ahead : (k : ℕ) (x : Item) →
         }
 
   -- ---- above a sloop
-  sloop-joined : (k : ℕ) (r : MapSloop) → At (items M) k (sloop_item r) → (j : SloopFirst M u r) → Together (root (number_of M (pos_item k))) (root (met_number M j.first))
-  sloop-joined k r a j = one-direction y sees.1 (number_of M (pos_item k)) (met_number M j.first) sees.0 (met-sees y sees.1 generic j.first (j.is_first y s))
+  sloop-joined : (k : ℕ) (r : MapSloop) → IsAt (items M) k (sloop_item r) → (j : SloopFirst M u r) → Together (root (side_number M (pos_item k))) (root (met_number M j.first))
+  sloop-joined k r a j = one-direction y sees.1 (side_number M (pos_item k)) (met_number M j.first) sees.0 (met-sees y sees.1 generic j.first (j.is_first y s))
     where
       p : Vector
       p = j.point
@@ -313,7 +313,7 @@ module _ (M : Map) (V : Shaped M) (u : Vector) (ahead : (k : ℕ) (x : Item) →
       above = plus-is (dot n y) (stands-second (over_forms M u) p u j.aside y n s (form-over M u n (item-forms M k (sloop_item r) n a (normal-form M (sloop_item r)))) j.on.level
           ∙ ap (λ t. first_sign t (sign (dot n j.aside))) (sign-plus (dot n u) (ahead k (sloop_item r) a)))
 
-      sees : ElementSees (number_of M (pos_item k)) y × IsFree M y
+      sees : ElementSees (side_number M (pos_item k)) y × IsFree M y
       sees = upper-sees k (sloop_item r) a p y j.on (forms-kept p y (stands-keeps (over_forms M u) p u j.aside y s)) above
 
       aside : (m : Vector) → Lies (meridians M u) m → sign (dot m y) ≡ first_sign (sign (dot m j.point)) (sign (dot m j.aside))
@@ -324,8 +324,8 @@ module _ (M : Map) (V : Shaped M) (u : Vector) (ahead : (k : ℕ) (x : Item) →
           (sym (stands-third (l ∷ over_forms M u) p u j.aside y l (stands (l ∷ over_forms M u) p u j.aside) (inl refl) (cross-last u p) (cross-self u p)) ∙ ap sign z)))
 
   -- ---- above an arc
-  arc-joined : (k : ℕ) (r : Arc) (a : At (items M) k (arc_item r)) (j : ArcFirst M u r) → Together (root (number_of M (pos_item k))) (root (met_number M j.first))
-  arc-joined k r a j = one-direction y sees.1 (number_of M (pos_item k)) (met_number M j.first) sees.0 (met-sees y sees.1 generic j.first (j.is_first y y-stands))
+  arc-joined : (k : ℕ) (r : Arc) (a : IsAt (items M) k (arc_item r)) (j : ArcFirst M u r) → Together (root (side_number M (pos_item k))) (root (met_number M j.first))
+  arc-joined k r a j = one-direction y sees.1 (side_number M (pos_item k)) (met_number M j.first) sees.0 (met-sees y sees.1 generic j.first (j.is_first y y-stands))
     where
       n : Vector
       n = r.normal
@@ -379,7 +379,7 @@ module _ (M : Map) (V : Shaped M) (u : Vector) (ahead : (k : ℕ) (x : Item) →
       above = plus-is (dot n y) (stands-second (over_forms M u) z u l y n near-z (form-over M u n (item-forms M k (arc_item r) n a (normal-form M (arc_item r)))) (on-level M (arc_item r) z on-z)
           ∙ ap (λ t. first_sign t (sign (dot n l))) (sign-plus (dot n u) (ahead k (arc_item r) a)))
 
-      sees : ElementSees (number_of M (pos_item k)) y × IsFree M y
+      sees : ElementSees (side_number M (pos_item k)) y × IsFree M y
       sees = upper-sees k (arc_item r) a z y on-z (forms-kept z y (stands-keeps (over_forms M u) z u l y near-z)) above
 
       aside : (m : Vector) → Lies (meridians M u) m → sign (dot m y) ≡ first_sign (sign (dot m s)) (sign (dot m j.along))
@@ -405,4 +405,4 @@ module _ (M : Map) (V : Shaped M) (u : Vector) (ahead : (k : ℕ) (x : Item) →
   sound s t (join_around k v m a q j e f) = between s t e f (around-joined k v a m q j)
   sound s t (join_arc k r h j e f) = between s t e f (arc-joined k r (at-arc M.arcs M.sloop k r h) j)
   sound s t (join_sloop k r h j e f) = between s t e f (sloop-joined k r h j)
-  sound s t (join_ground m q e f) = between s t e f (one-direction u U (number_of M whole) (length (sides_of M)) (inl (side-sees whole m u q (directly u (clear-self M u U) tt))) (inr (refl, clear-self M u U)))
+  sound s t (join_ground m q e f) = between s t e f (one-direction u U (side_number M whole) (length (sides_of M)) (inl (side-sees whole m u q (directly u (clear-self M u U) tt))) (inr (refl, clear-self M u U)))

@@ -1,5 +1,5 @@
 -- The label over the directions close above an item is that of its upper side, where it is so at one of its directions.
-use Rattle.nef_smap.proofs.Prelude.{◌≡◌, ℕ, ◌≤◌, pos, ◌+ℤ◌, ◌*ℤ◌, ◌<ℤ◌, arith, refl, ap, sym, ◌∙◌, inl, inr, ⊎_elim, List, [], ◌∷◌, Option, ints, ring, at, num, ◌⊕◌, ◌⊖◌, ◌⊗◌, follows, given, none, Sign, minus, nought, plus, sign, sign-plus, plus-is, nought-is, mul_pos, cancel_eq, sign-scaled, nought-or, Vector, IsDirection, cross, triple, dot, blend, Label, At, MapVertex, Arc, MapSloop, Map, Item, arc_item, sloop_item, items, item_normal, dir_of, OnItem, Side, pos_item, Shaped, normal-is, item-forms, normal-form, on-level, amount, cross-self, over_forms, IsFirst, first_sign, Stands, met, BelowFirsts, ArcFirst, SloopFirst, self-pos}
+use Rattle.nef_smap.proofs.Prelude.{◌≡◌, ℕ, ◌≤◌, pos, ◌+ℤ◌, ◌*ℤ◌, ◌<ℤ◌, arith, refl, ap, sym, ◌∙◌, inl, inr, ⊎_elim, List, [], ◌∷◌, Option, ints, ring, at, num, ◌⊕◌, ◌⊖◌, ◌⊗◌, follows, given, none, Sign, minus, nought, plus, sign, sign-plus, plus-is, nought-is, mul_pos, cancel_eq, sign-scaled, nought-or, Vector, IsDirection, cross, triple, dot, blend, Label, IsAt, MapVertex, Arc, MapSloop, Map, Item, arc_item, sloop_item, items, item_normal, dir_of, OnItem, Side, pos_item, Shaped, normal-is, item-forms, normal-form, on-level, amount, cross-self, over_forms, IsFirst, first_sign, Stands, met, BelowFirsts, ArcFirst, SloopFirst, self-pos}
 use Rattle.nef_smap.proofs.Rise.{form-over}
 use Rattle.nef_smap.proofs.Stands.{far-first, stand, stands, stands-keeps, stands-second, stands-third}
 use Rattle.nef_smap.proofs.Close.{cross-last}
@@ -63,8 +63,8 @@ level-nought n s u g x hn hs h p q r z =
     nought-is (dot g x) (sym (sign-scaled (dot n n *ℤ dot s s) (dot g x) a) ∙ ap sign y)
 
 -- a direction close above an arc, and close to its source, off the meridian of z
-module _ (M : Map) (V : Shaped M) (u : Vector) (ahead : (k : ℕ) (x : Item) → At (items M) k x → pos 0 <ℤ dot (item_normal x) u)
-    (k : ℕ) (r : Arc) (a : At (items M) k (arc_item r)) (j : ArcFirst M u r) (hs : IsDirection (dir_of M.svertices r.source)) (ls : dot r.normal (dir_of M.svertices r.source) ≡ pos 0)
+module _ (M : Map) (V : Shaped M) (u : Vector) (ahead : (k : ℕ) (x : Item) → IsAt (items M) k x → pos 0 <ℤ dot (item_normal x) u)
+    (k : ℕ) (r : Arc) (a : IsAt (items M) k (arc_item r)) (j : ArcFirst M u r) (hs : IsDirection (dir_of M.svertices r.source)) (ls : dot r.normal (dir_of M.svertices r.source) ≡ pos 0)
     (K : ℕ) (large : amount (over_forms M u) (cross r.normal (dir_of M.svertices r.source)) ≤ K) where
   abbrev n : Vector
   n = r.normal
@@ -130,10 +130,10 @@ module _ (M : Map) (V : Shaped M) (u : Vector) (ahead : (k : ℕ) (x : Item) →
               by nought plus e w = refl
               by nought nought e w = ap sign (level-nought n s u g l hn hs (ahead k (arc_item r) a) ls h (nought-is (dot g (cross n s)) (sym along ∙ e)) (nought-is (dot g u) w))
 
-module _ (M : Map) (V : Shaped M) (u : Vector) (ahead : (k : ℕ) (x : Item) → At (items M) k x → pos 0 <ℤ dot (item_normal x) u)
-    (G : Side → Label) (top : Label) (firsts : (k : ℕ) (v : MapVertex) → At M.svertices k v → BelowFirsts M u v.dir) (joins : (k : ℕ) (v : MapVertex) (a : At M.svertices k v) → (let j = firsts k v a in met G top j.left ≡ met G top j.right)) where
+module _ (M : Map) (V : Shaped M) (u : Vector) (ahead : (k : ℕ) (x : Item) → IsAt (items M) k x → pos 0 <ℤ dot (item_normal x) u)
+    (G : Side → Label) (top : Label) (firsts : (k : ℕ) (v : MapVertex) → IsAt M.svertices k v → BelowFirsts M u v.dir) (joins : (k : ℕ) (v : MapVertex) (a : IsAt M.svertices k v) → (let j = firsts k v a in met G top j.left ≡ met G top j.right)) where
   -- a direction close above one of an item, off its meridian
-  module _ (k : ℕ) (x : Item) (a : At (items M) k x) (d : Vector) (o : OnItem M x d) (f : IsDirection (cross u d)) (c : Label) (all : AllMeet M V u ahead d f G top firsts joins c) where
+  module _ (k : ℕ) (x : Item) (a : IsAt (items M) k x) (d : Vector) (o : OnItem M x d) (f : IsDirection (cross u d)) (c : Label) (all : AllMeet M V u ahead d f G top firsts joins c) where
     upper-by : (y e : Vector) → Stands (over_forms M u) d u e y → (dot (cross u d) y ≡ pos 0 → ⊥) → (q : Option ℕ) → IsFirst M u y q → met G top q ≡ c
     upper-by y e s off q g =
         let n = item_normal x in
@@ -143,7 +143,7 @@ module _ (M : Map) (V : Shaped M) (u : Vector) (ahead : (k : ℕ) (x : Item) →
         all y near (item-clean M V u ahead d y near f k x a o (plus-is (dot n y) h)) off q g
 
   -- close to the source of an arc
-  pub upper-arc : (k : ℕ) (r : Arc) (a : At (items M) k (arc_item r)) → (j : ArcFirst M u r) → met G top j.first ≡ G (pos_item k) → IsDirection (dir_of M.svertices r.source) → dot r.normal (dir_of M.svertices r.source) ≡ pos 0
+  pub upper-arc : (k : ℕ) (r : Arc) (a : IsAt (items M) k (arc_item r)) → (j : ArcFirst M u r) → met G top j.first ≡ G (pos_item k) → IsDirection (dir_of M.svertices r.source) → dot r.normal (dir_of M.svertices r.source) ≡ pos 0
       → (K : ℕ) → amount (over_forms M u) (cross r.normal (dir_of M.svertices r.source)) ≤ K → (o : OnItem M (arc_item r) (blend K (dir_of M.svertices r.source) 1 (cross r.normal (dir_of M.svertices r.source))))
       → (f : IsDirection (cross u (blend K (dir_of M.svertices r.source) 1 (cross r.normal (dir_of M.svertices r.source))))) → (c : Label) → AllMeet M V u ahead (blend K (dir_of M.svertices r.source) 1 (cross r.normal (dir_of M.svertices r.source))) f G top firsts joins c → c ≡ G (pos_item k)
   upper-arc k r a j label hs ls K large o f c all = sym (upper-by k (arc_item r) a z o f c all y l (λ g i. stands (l ∷ over_forms M u) z u l g (inr i)) (arc-viewer_off M V u ahead k r a j hs ls K large f) j.first (j.is_first y (arc-viewer_stands M V u ahead k r a j hs ls K large))) ∙ label
@@ -158,7 +158,7 @@ module _ (M : Map) (V : Shaped M) (u : Vector) (ahead : (k : ℕ) (x : Item) →
       y = arc-viewer M V u ahead k r a j hs ls K large
 
   -- at one direction of a sloop
-  pub upper-sloop : (k : ℕ) (r : MapSloop) (a : At (items M) k (sloop_item r)) (j : SloopFirst M u r) → met G top j.first ≡ G (pos_item k) → (f : IsDirection (cross u j.point)) → (c : Label) → AllMeet M V u ahead j.point f G top firsts joins c → c ≡ G (pos_item k)
+  pub upper-sloop : (k : ℕ) (r : MapSloop) (a : IsAt (items M) k (sloop_item r)) (j : SloopFirst M u r) → met G top j.first ≡ G (pos_item k) → (f : IsDirection (cross u j.point)) → (c : Label) → AllMeet M V u ahead j.point f G top firsts joins c → c ≡ G (pos_item k)
   upper-sloop k r a j label f c all = sym (upper-by k (sloop_item r) a j.point j.on f c all y j.aside (λ g i. stands gs j.point u j.aside g (inr i)) off j.first (j.is_first y (λ g i. stands gs j.point u j.aside g (inr i)))) ∙ label
     where
       l : Vector

@@ -1,5 +1,5 @@
 -- The upward direction lies on the upper side of every plane of a sphere map and is parallel to no svertex; and which items lie over close directions.
-use Rattle.nef_smap.proofs.Prelude.{◌≡◌, ℕ, zero, suc, ◌<◌, ◌≤◌, length, ℤ, pos, negsuc, ◌*ℤ◌, ◌≤ℤ◌, ◌<ℤ◌, nat_abs, arith, refl, ap, sym, ◌∙◌, inl, inr, ⊎_elim, [], ◌∷◌, subst, ◌↔◌, ints, length-map, eqb_tells, ring, at, num, ◌⊗◌, minus, plus, sign, sign-minus, minus-is, nought-is, mul_pos, nought-or, square_pos, Lies, normal_limit, svertex_limit, Vector, vector, IsDirection, IsNormal, IsAtMost, cross, triple, dot, up, SameDirection, Decided, vector_of, At, MapVertex, Arc, MapSloop, Map, Item, arc_item, sloop_item, items, item_normal, dir_of, ArcBetween, Shaped, axis_x, axis_y, axis_z, normal-is, axis_x-is, axis_y-is, axis_z-is, item-forms, normal-form, axes-forms, cross-self, dir-at, arc-at, Close, SArc, SphereMap, svertex_of, arc_of, map_of, IsSphereMap, rise, rise_form, IsOver, close_sign, IsClose, ArcPasses, zero-dot, self-pos}
+use Rattle.nef_smap.proofs.Prelude.{◌≡◌, ℕ, zero, suc, ◌<◌, ◌≤◌, length, ℤ, pos, negsuc, ◌*ℤ◌, ◌≤ℤ◌, ◌<ℤ◌, nat_abs, arith, refl, ap, sym, ◌∙◌, inl, inr, ⊎_elim, [], ◌∷◌, subst, ◌↔◌, ints, length-map, eqb_tells, ring, at, num, ◌⊗◌, minus, plus, sign, sign-minus, minus-is, nought-is, mul_pos, nought-or, square_pos, Lies, normal_limit, svertex_limit, Vector, vector, IsDirection, IsNormal, IsAtMost, cross, triple, dot, up, SameDirection, Decided, vector_of, IsAt, MapVertex, Arc, MapSloop, Map, Item, arc_item, sloop_item, items, item_normal, dir_of, ArcBetween, Shaped, axis_x, axis_y, axis_z, normal-is, axis_x-is, axis_y-is, axis_z-is, item-forms, normal-form, axes-forms, cross-self, dir-at, arc-at, Close, SArc, SphereMap, svertex_of, arc_of, map_of, IsSphereMap, rise, rise_form, IsOver, close_sign, IsClose, ArcPasses, zero-dot, self-pos}
 use Rattle.nef_smap.proofs.Rise.{rise-is, rise-level, form-over, meridian-over, meridian-turn, svertex-meridian, rise-meridian}
 use Rattle.nef_smap.proofs.Lists.{at-within}
 use Rattle.nef_smap.proofs.Close.{rise-direction}
@@ -54,10 +54,10 @@ module _ (m : SphereMap) (S : IsSphereMap m) where
   abbrev V : Shaped M
   V = let v = S.valid in v.shaped
 
-  pub map-ahead : (k : ℕ) (x : Item) → At (items M) k x → pos 0 <ℤ dot (item_normal x) up
+  pub map-ahead : (k : ℕ) (x : Item) → IsAt (items M) k x → pos 0 <ℤ dot (item_normal x) up
   map-ahead k x a = let v = S.valid in let s = S.small in normal-ahead (item_normal x) (v.shaped.normals k x a) (s.normals k x a)
 
-  pub map-across : (k : ℕ) (v : MapVertex) → At M.svertices k v → IsDirection (cross up v.dir)
+  pub map-across : (k : ℕ) (v : MapVertex) → IsAt M.svertices k v → IsDirection (cross up v.dir)
   map-across k v a = let w = S.valid in let s = S.small in svertex-across v.dir (w.shaped.svertex_dirs k v a) (s.svertices k v a)
 
   -- ---- what lies over directions close to one
@@ -66,7 +66,7 @@ module _ (m : SphereMap) (S : IsSphereMap m) where
     some-l z = off (zero-dot (cross up (vector_of w.at)) (vector_of w.aside) z)
 
     -- the meets are directions
-    some-rise : (k : ℕ) (x : Item) → At (items M) k x → IsDirection (rise up (item_normal x) d)
+    some-rise : (k : ℕ) (x : Item) → IsAt (items M) k x → IsDirection (rise up (item_normal x) d)
     some-rise k x a z = rise-direction up n at (map-ahead k x a) some-l (
       sym (axis_x-is (rise up n at)) ∙ one axis_x (inl refl) (axis_x-is (rise up n d) ∙ z.0),
       sym (axis_y-is (rise up n at)) ∙ one axis_y (inr (inl refl)) (axis_y-is (rise up n d) ∙ z.1),
@@ -88,7 +88,7 @@ module _ (m : SphereMap) (S : IsSphereMap m) where
             rise-is up n g at ∙ nought-is (dot f at) r.0
 
     -- no end of an item lies over d
-    end-off : (k : ℕ) (v : MapVertex) → At M.svertices k v → dot (cross up v.dir) d ≡ pos 0 → ⊥
+    end-off : (k : ℕ) (v : MapVertex) → IsAt M.svertices k v → dot (cross up v.dir) d ≡ pos 0 → ⊥
     end-off k v a z =
         let f = cross up v.dir in
         let i = svertex-meridian M up k v a in
@@ -100,26 +100,26 @@ module _ (m : SphereMap) (S : IsSphereMap m) where
         rise-level-of : (v : MapVertex) → dot (cross up v.dir) up ≡ pos 0
         rise-level-of v = cross-self up v.dir
 
-    pub below-is : (k : ℕ) (x : Item) → At (items M) k x → close_sign (item_normal x) w ≡ minus ↔ dot (item_normal x) d <ℤ pos 0
+    pub below-is : (k : ℕ) (x : Item) → IsAt (items M) k x → close_sign (item_normal x) w ≡ minus ↔ dot (item_normal x) d <ℤ pos 0
     below-is k x a =
         let n = item_normal x in
         let e = close n (form-over M up n (item-forms M k x n a (normal-form M x))) in
         (λ h. minus-is (dot n d) (e ∙ h), λ h. sym e ∙ sign-minus (dot n d) h)
 
     -- where the meet with one item's plane lies at another's
-    pub rise-sign : (k l : ℕ) (x y : Item) → At (items M) k x → At (items M) l y → sign (dot (item_normal y) (rise up (item_normal x) d)) ≡ close_sign (rise_form up (item_normal x) (item_normal y)) w
+    pub rise-sign : (k l : ℕ) (x y : Item) → IsAt (items M) k x → IsAt (items M) l y → sign (dot (item_normal y) (rise up (item_normal x) d)) ≡ close_sign (rise_form up (item_normal x) (item_normal y)) w
     rise-sign k l x y a b =
         let n = item_normal x in
         let g = item_normal y in
         ap sign (rise-is up n g d) ∙ close (rise_form up n g) (meridian-over M up (rise_form up n g) (rise-meridian M up k x g a (item-forms M l y g b (normal-form M y))))
 
-    pub sloop-over : (k : ℕ) (l : MapSloop) → At (items M) k (sloop_item l) → close_sign l.normal w ≡ minus ↔ IsOver M up (sloop_item l) d
+    pub sloop-over : (k : ℕ) (l : MapSloop) → IsAt (items M) k (sloop_item l) → close_sign l.normal w ≡ minus ↔ IsOver M up (sloop_item l) d
     sloop-over k l a = let b = below-is k (sloop_item l) a in (
       λ h. record { below = b.0 h; on = record { direction = some-rise k (sloop_item l) a; level = rise-level up l.normal d } },
       λ o. b.1 o.below,
     )
 
-    pub arc-over : (k : ℕ) (r : Arc) → At (items M) k (arc_item r)
+    pub arc-over : (k : ℕ) (r : Arc) → IsAt (items M) k (arc_item r)
         → ((close_sign r.normal w ≡ minus) × ArcPasses (sign (triple r.normal (dir_of M.svertices r.source) (dir_of M.svertices r.target))) (close_sign (cross up (dir_of M.svertices r.source)) w ≡ plus) (close_sign (cross up (dir_of M.svertices r.target)) w ≡ minus) (r.source ≡ r.target))
         ↔ IsOver M up (arc_item r) d
     arc-over k r a = (
@@ -182,7 +182,7 @@ module _ (m : SphereMap) (S : IsSphereMap m) where
         two f w = f (V.svertices_apart r.source r.target between.source between.target between.has_source between.has_target
             (subst (λ (v : Vector). SameDirection v between.target.dir) s-is (subst (SameDirection (dir_of M.svertices r.source)) t-is w)))
 
-        end-sign : (v : MapVertex) (j : ℕ) → At M.svertices j v → sign (dot (cross up v.dir) d) ≡ close_sign (cross up v.dir) w
+        end-sign : (v : MapVertex) (j : ℕ) → IsAt M.svertices j v → sign (dot (cross up v.dir) d) ≡ close_sign (cross up v.dir) w
         end-sign v j b = close (cross up v.dir) (meridian-over M up (cross up v.dir) (svertex-meridian M up j v b))
 
         s-sign : sign (dot (cross up (dir_of M.svertices r.source)) d) ≡ close_sign (cross up (dir_of M.svertices r.source)) w
@@ -196,7 +196,7 @@ module _ (m : SphereMap) (S : IsSphereMap m) where
             (λ h. s-sign ∙ h, λ h. sym s-sign ∙ h) (λ h. t-sign ∙ h, λ h. sym t-sign ∙ h) (λ h. h, λ h. h)
 
   -- ---- the ends of an arc
-  pub ends-within : (k : ℕ) (r : SArc) → At (items M) k (arc_item (arc_of r)) → (r.source < length m.svertices) × (r.target < length m.svertices)
+  pub ends-within : (k : ℕ) (r : SArc) → IsAt (items M) k (arc_item (arc_of r)) → (r.source < length m.svertices) × (r.target < length m.svertices)
   ends-within k r a =
       let b = V.arcs_between k (arc_of r) (arc-at M.arcs M.sloop k (arc_of r) a) in
       let l = length-map m.svertices svertex_of in

@@ -1,19 +1,19 @@
 -- The program's stars are well formed.
-use Rattle.nef_smap.proofs.Prelude.{◌≡◌, ℕ, zero, suc, List, [], ◌∷◌, length, map, Bool, true, false, cond, arith, refl, sym, ap, subst, ◌∙◌, inl, inr, ◌⊎◌, by_order, IsBelow, Vector, opposite, triple_of, IsDirection, SameDirection, vector_of, Dir, same_directions_equal, IsPrimitive, VectorBelow, At, Ray, Star, ray_of, star_of, left_of, left_at, IsRayBelow, IsRay, IsStar, each_has_one_label, vector-same, dir-self, is-at_none, is-at_first}
-use Rattle.law_sphere.specs.Stars.{Ray as PlainRay, IsRay as IsPlainRay}
+use Rattle.nef_smap.proofs.Prelude.{◌≡◌, ℕ, zero, suc, List, [], ◌∷◌, length, map, Bool, true, false, cond, arith, refl, sym, ap, subst, ◌∙◌, inl, inr, ◌⊎◌, by_order, IsBelow, Vector, opposite, direction_numbers, IsDirection, SameDirection, vector_of, Dir, same_directions_equal, IsPrimitive, VectorBelow, IsAt, Ray, Star, ray_of, star_of, left_of, left_at, IsRayBelow, IsRay, IsStar, each_has_one_label, vector-same, dir-self, is-at_none, is-at_first}
+use Rattle.law_sphere.specs.Stars.{Ray as PlainRay, LeavesAxis as IsPlainRay}
 use Rattle.law_sphere.specs.Raw.{IsWellFormed, RayBelow, sector_count as plain_count}
 use Rattle.nef_star.specs.Stars.{sector_count}
 use Rattle.nef_smap.proofs.Lists.{at-map, at-within, at-get}
 use Rattle.nef_smap.proofs.Primitive.{dir-primitive}
 
 -- ---- the order of directions
-pub below-vectors : (u v : Vector) → IsBelow (triple_of u) (triple_of v) → VectorBelow u v
+pub below-vectors : (u v : Vector) → IsBelow (direction_numbers u) (direction_numbers v) → VectorBelow u v
 below-vectors u v (inl h) = inl h
 below-vectors u v (inr (e, inl h)) = inr (inl (e, h))
 below-vectors u v (inr (e, inr (f, inl h))) = inr (inr (e, f, h))
 below-vectors u v (inr (e, inr (f, inr (g, h)))) = absurd h
 
-pub vectors-below : (u v : Vector) → VectorBelow u v → IsBelow (triple_of u) (triple_of v)
+pub vectors-below : (u v : Vector) → VectorBelow u v → IsBelow (direction_numbers u) (direction_numbers v)
 vectors-below u v (inl h) = inl h
 vectors-below u v (inr (inl (e, h))) = inr (e, inl h)
 vectors-below u v (inr (inr (e, f, h))) = inr (e, inr (f, inl h))
@@ -54,7 +54,7 @@ one_ahead q r d apart least e = by q.ahead r.ahead refl refl
     by false true f g = absurd (least (inr (sym e, g, f)))
     by false false f g = absurd (alike (f ∙ sym g))
 
-pub left-at : (rays : List Ray) (k : ℕ) (r : Ray) → At rays k r → left_at rays k ≡ left_of r
+pub left-at : (rays : List Ray) (k : ℕ) (r : Ray) → IsAt rays k r → left_at rays k ≡ left_of r
 left-at [] k r h = absurd (is-at_none h)
 left-at (q ∷ qs) zero r h = ap left_of (is-at_first h)
 left-at (q ∷ qs) (suc k) r h = left-at qs k r h
@@ -63,13 +63,13 @@ module _ (t : Star) (T : IsStar t) where
   rays : List Ray
   rays = t.rays.items
 
-  leaves : (k : ℕ) (r : Ray) → At t.rays.items k r → IsRay (vector_of t.axis) r
+  leaves : (k : ℕ) (r : Ray) → IsAt t.rays.items k r → IsRay (vector_of t.axis) r
   leaves k r h = subst (IsRay (vector_of t.axis)) (at-get t.rays.items k r r h) (T.turned.rays k r (at-within t.rays.items k r h))
 
-  pub star-ray : (k : ℕ) (r : Ray) → At t.rays.items k r → IsPlainRay (star_of t) (ray_of r)
+  pub star-ray : (k : ℕ) (r : Ray) → IsAt t.rays.items k r → IsPlainRay (star_of t) (ray_of r)
   star-ray k r h = let i = leaves k r h in record { level = i.level; normal = i.normal }
 
-  first-below : (k : ℕ) (q r : Ray) → At t.rays.items 0 q → At t.rays.items (suc k) r → RayBelow (ray_of q) (ray_of r)
+  first-below : (k : ℕ) (q r : Ray) → IsAt t.rays.items 0 q → IsAt t.rays.items (suc k) r → RayBelow (ray_of q) (ray_of r)
   first-below k q r h i =
       let within = at-within t.rays.items (suc k) r i in let turning = T.turned.counterclockwise in
       let least = T.least_first (suc k) q r within (at-get t.rays.items 0 q q h) (at-get t.rays.items (suc k) r r i) in

@@ -1,8 +1,8 @@
 -- What lies over a direction: the item that the way from the direction to a fixed direction u first meets.
 use Rattle.std.specs.Prelude.{◌≡◌, ◌<◌, ◌-ℤ◌, ◌≤ℤ◌, ◌<ℤ◌, ◌∷◌, ◌++◌, ℕ, pos, List, [], Option, Some, None}
-use Rattle.nef_space.specs.Prelude.{Sign, minus, nought, plus, sign, Lies, Vector, dot, cross}
+use Rattle.nef_space.specs.Prelude.{Sign, minus, nought, plus, sign, Lies, Vector, dot, cross, IsAt}
 use Rattle.law_sphere.specs.Vectors.{comb}
-use Rattle.law_sphere.specs.Maps.{At, Map, Item, items, item_normal, OnItem}
+use Rattle.law_sphere.specs.Maps.{Map, Item, items, item_normal, OnItem}
 use Rattle.law_sphere.specs.Forms.{gather, forms}
 
 -- where the way from d to u meets the plane of n, which parts d and u
@@ -21,20 +21,20 @@ pub record IsOver (M : Map) (u : Vector) (x : Item) (d : Vector) : Type 0 where
 -- the way from d to u meets item k, and no other item sooner
 pub record IsFirstItem (M : Map) (u d : Vector) (k : ℕ) : Type 0 where
   pub item : Item
-  pub listed : At (items M) k item
+  pub listed : IsAt (items M) k item
   pub over : IsOver M u item d
-  pub first : (l : ℕ) (y : Item) → At (items M) l y → IsOver M u y d → pos 0 ≤ℤ dot (item_normal item) (rise u (item_normal y) d)
+  pub first : (l : ℕ) (y : Item) → IsAt (items M) l y → IsOver M u y d → pos 0 ≤ℤ dot (item_normal item) (rise u (item_normal y) d)
 
 -- the first item that the way from d to u meets, or none
 abbrev pub IsFirst : Map → Vector → Vector → Option ℕ → Type 0
-IsFirst M u d None = (k : ℕ) (x : Item) → At (items M) k x → IsOver M u x d → ⊥
+IsFirst M u d None = (k : ℕ) (x : Item) → IsAt (items M) k x → IsOver M u x d → ⊥
 IsFirst M u d (Some k) = IsFirstItem M u d k
 
 -- the first of the first n items that the way from d to u meets, or none
 abbrev pub IsFirstOf : Map → Vector → Vector → ℕ → Option ℕ → Type 0
-IsFirstOf M u d n None = (k : ℕ) (x : Item) → k < n → At (items M) k x → IsOver M u x d → ⊥
-IsFirstOf M u d n (Some k) = (x : Item) × At (items M) k x × IsOver M u x d
-    × ((l : ℕ) (y : Item) → l < n → At (items M) l y → IsOver M u y d → pos 0 ≤ℤ dot (item_normal x) (rise u (item_normal y) d))
+IsFirstOf M u d n None = (k : ℕ) (x : Item) → k < n → IsAt (items M) k x → IsOver M u x d → ⊥
+IsFirstOf M u d n (Some k) = (x : Item) × IsAt (items M) k x × IsOver M u x d
+    × ((l : ℕ) (y : Item) → l < n → IsAt (items M) l y → IsOver M u y d → pos 0 ≤ℤ dot (item_normal x) (rise u (item_normal y) d))
 
 -- the forms whose signs tell what lies over a direction
 abbrev pub rise_forms : Map → Vector → List Vector

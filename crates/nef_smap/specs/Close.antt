@@ -20,10 +20,10 @@ geo_sign nought = Zero
 geo_sign plus = Plus
 
 -- where the close directions lie, seen from the direction that all are close to
-abbrev pub toward : Lean → Vector → Vector
-toward Down a = opposite up
-toward Up a = up
-toward Along a = a
+abbrev pub lean_direction : Lean → Vector → Vector
+lean_direction Down a = opposite up
+lean_direction Up a = up
+lean_direction Along a = a
 
 -- the second direction in which the close directions lie, among all directions with the same first one
 abbrev pub then_toward : Lean → Vector → Vector
@@ -33,7 +33,7 @@ then_toward Along a = up
 
 -- the sign on the close directions of a form that is nought on the direction that all are close to
 abbrev pub beyond_sign : Vector → Lean → Vector → Sign
-beyond_sign g l a = first_sign (sign (dot g (toward l a))) (sign (dot g (then_toward l a)))
+beyond_sign g l a = first_sign (sign (dot g (lean_direction l a))) (sign (dot g (then_toward l a)))
 
 -- the sign of a form on the close directions
 abbrev pub close_sign : Vector → Close → Sign
@@ -41,7 +41,7 @@ close_sign g w = first_sign (sign (dot g (vector_of w.at))) (beyond_sign g w.lea
 
 -- d is one of the close directions
 abbrev pub IsClose : SphereMap → Close → Vector → Type 0
-IsClose m w d = Stands (over_forms (map_of m) up) (vector_of w.at) (toward w.lean (vector_of w.aside)) (then_toward w.lean (vector_of w.aside)) d
+IsClose m w d = Stands (over_forms (map_of m) up) (vector_of w.at) (lean_direction w.lean (vector_of w.aside)) (then_toward w.lean (vector_of w.aside)) d
 
 -- an arc is passed, by the turn from its source to its target (plus for less than half a circle), whether the source is
 -- passed before, whether the target comes after, and whether both are one

@@ -2,30 +2,30 @@
 use Rattle.std.specs.Prelude.{◌≡◌, ◌<◌}
 use Rattle.nef_geo.specs.Prelude.{ℕ, List, length, Some, IsAt, up, Label}
 use Rattle.std.specs.Borrow.{Bor}
-use Rattle.law_sphere.specs.Maps.{At, MapVertex, Arc, MapSloop, Map, sloop_item, items, around_svertex, pos_item, whole}
+use Rattle.law_sphere.specs.Maps.{MapVertex, Arc, MapSloop, Map, sloop_item, items, around_svertex, pos_item, whole}
 use Rattle.nef_classes.specs.declared.forest.Link.{Link}
 use Rattle.nef_smap.specs.declared.map.SphereMap.{SphereMap}
 use Rattle.nef_smap.specs.Sides.{sides_of}
-use Rattle.nef_smap.specs.SideNumbers.{number_of}
+use Rattle.nef_smap.specs.SideNumbers.{side_number}
 use Rattle.nef_smap.specs.Joined.{BelowFirsts, BelowFirst, ArcFirst, SloopFirst}
 use Rattle.nef_smap.specs.Links.{met_number}
 
 -- l joins what lies over the directions just below svertex k, on both sides of its meridian
 abbrev pub JoinsBelow : Map → ℕ → Link → Type 0
-JoinsBelow M k l = (v : MapVertex) × At M.svertices k v × ((j : BelowFirsts M up v.dir) × (l.first ≡ met_number M j.left) × (l.second ≡ met_number M j.right))
+JoinsBelow M k l = (v : MapVertex) × IsAt M.svertices k v × ((j : BelowFirsts M up v.dir) × (l.first ≡ met_number M j.left) × (l.second ≡ met_number M j.right))
 
 -- l joins the side round svertex k with what lies over the directions just below the svertex
 abbrev pub JoinsAround : Map → ℕ → Link → Type 0
-JoinsAround M k l = (v : MapVertex) × (m : Label) × At M.svertices k v × (v.around ≡ Some m)
-    × ((j : BelowFirst M up v.dir) × (l.first ≡ number_of M (around_svertex k)) × (l.second ≡ met_number M j.first))
+JoinsAround M k l = (v : MapVertex) × (m : Label) × IsAt M.svertices k v × (v.around ≡ Some m)
+    × ((j : BelowFirst M up v.dir) × (l.first ≡ side_number M (around_svertex k)) × (l.second ≡ met_number M j.first))
 
 -- l joins the upper side of arc k with what lies over the arc
 abbrev pub JoinsArc : Map → ℕ → Link → Type 0
-JoinsArc M k l = (a : Arc) × At M.arcs k a × ((j : ArcFirst M up a) × (l.first ≡ number_of M (pos_item k)) × (l.second ≡ met_number M j.first))
+JoinsArc M k l = (a : Arc) × IsAt M.arcs k a × ((j : ArcFirst M up a) × (l.first ≡ side_number M (pos_item k)) × (l.second ≡ met_number M j.first))
 
 -- l joins the upper side of the sloop, which is item k, with what lies over the sloop
 abbrev pub JoinsSloop : Map → ℕ → Link → Type 0
-JoinsSloop M k l = (c : MapSloop) × At (items M) k (sloop_item c) × ((j : SloopFirst M up c) × (l.first ≡ number_of M (pos_item k)) × (l.second ≡ met_number M j.first))
+JoinsSloop M k l = (c : MapSloop) × IsAt (items M) k (sloop_item c) × ((j : SloopFirst M up c) × (l.first ≡ side_number M (pos_item k)) × (l.second ≡ met_number M j.first))
 
 -- the link is what a call gives for a reference to the map and for the number
 abbrev pub ComesOf : (Bor SphereMap → ℕ → Link → Type 0) → SphereMap → ℕ → Link → Type 0
@@ -43,16 +43,16 @@ HasLink ls P = (i : ℕ) × (l : Link) × IsAt ls i l × P l
 -- ls has a link for each svertex among the first n that has a label round the svertex
 pub record AreArounds (M : Map) (n : ℕ) (ls : List Link) : Type 0 where
   pub only : (i : ℕ) (l : Link) → IsAt ls i l → (k : ℕ) × JoinsAround M k l
-  pub each : (k : ℕ) (v : MapVertex) (m : Label) → k < n → At M.svertices k v → v.around ≡ Some m → HasLink ls (JoinsAround M k)
+  pub each : (k : ℕ) (v : MapVertex) (m : Label) → k < n → IsAt M.svertices k v → v.around ≡ Some m → HasLink ls (JoinsAround M k)
 
 -- l joins the ground with the upward direction
 abbrev pub JoinsGround : Map → Link → Type 0
-JoinsGround M l = (m : Label) × (M.ground ≡ Some m) × (l.first ≡ number_of M whole) × (l.second ≡ length (sides_of M))
+JoinsGround M l = (m : Label) × (M.ground ≡ Some m) × (l.first ≡ side_number M whole) × (l.second ≡ length (sides_of M))
 
 -- ls has a link for the sloop, if there is one
 pub record AreSloops (M : Map) (ls : List Link) : Type 0 where
   pub only : (i : ℕ) (l : Link) → IsAt ls i l → (k : ℕ) × JoinsSloop M k l
-  pub each : (k : ℕ) (c : MapSloop) → At (items M) k (sloop_item c) → HasLink ls (JoinsSloop M k)
+  pub each : (k : ℕ) (c : MapSloop) → IsAt (items M) k (sloop_item c) → HasLink ls (JoinsSloop M k)
 
 -- ls has a link for the ground, if there is one
 pub record AreGrounds (M : Map) (ls : List Link) : Type 0 where

@@ -1,9 +1,9 @@
 -- What has to hold of the labels of a map's sides so that two sides that see one direction have one label.
 use Rattle.std.specs.Prelude.{◌≡◌, ◌<ℤ◌}
-use Rattle.nef_geo.specs.Prelude.{ℕ, pos, Option, Some, None, Vector, dot, cross, triple, opposite, Label}
+use Rattle.nef_geo.specs.Prelude.{ℕ, pos, Option, Some, None, Vector, dot, cross, triple, opposite, Label, IsAt}
 use Rattle.nef_space.specs.declared.label.Label.TheVariants.{Out}
 use Rattle.law_cyclic.specs.Arcs.{IsOnCircle}
-use Rattle.law_sphere.specs.Maps.{At, MapVertex, Arc, MapSloop, Map, sloop_item, items, dir_of, Side, around_svertex, pos_item, neg_item, whole}
+use Rattle.law_sphere.specs.Maps.{MapVertex, Arc, MapSloop, Map, sloop_item, items, dir_of, Side, around_svertex, pos_item, neg_item, whole}
 use Rattle.nef_smap.specs.Above.{IsFirst, over_forms, Stands}
 
 -- the label of what is met first: the label of an item's lower side, or the label of u
@@ -50,16 +50,16 @@ pub record SloopFirst (M : Map) (u : Vector) (l : MapSloop) : Type 0 where
 
 -- what the sides of a map are joined with
 pub record Firsts (M : Map) (u : Vector) : Type 0 where
-  pub svertices : (k : ℕ) (v : MapVertex) → At M.svertices k v → BelowFirsts M u v.dir
-  pub arounds : (k : ℕ) (v : MapVertex) (m : Label) → At M.svertices k v → v.around ≡ Some m → BelowFirst M u v.dir
-  pub arcs : (k : ℕ) (a : Arc) → At M.arcs k a → ArcFirst M u a
-  pub sloops : (k : ℕ) (l : MapSloop) → At (items M) k (sloop_item l) → SloopFirst M u l
+  pub svertices : (k : ℕ) (v : MapVertex) → IsAt M.svertices k v → BelowFirsts M u v.dir
+  pub arounds : (k : ℕ) (v : MapVertex) (m : Label) → IsAt M.svertices k v → v.around ≡ Some m → BelowFirst M u v.dir
+  pub arcs : (k : ℕ) (a : Arc) → IsAt M.arcs k a → ArcFirst M u a
+  pub sloops : (k : ℕ) (l : MapSloop) → IsAt (items M) k (sloop_item l) → SloopFirst M u l
 
 -- the labels agree at all joins: below each svertex, round a svertex, and above each item; and none is Out
 pub record Joins (M : Map) (u : Vector) (G : Side → Label) (top : Label) (F : Firsts M u) : Type 0 where
-  pub below : (k : ℕ) (v : MapVertex) (a : At M.svertices k v) → (let j = F.svertices k v a in met G top j.left ≡ met G top j.right)
-  pub around : (k : ℕ) (v : MapVertex) (m : Label) (a : At M.svertices k v) (q : v.around ≡ Some m) → (let j = F.arounds k v m a q in met G top j.first ≡ G (around_svertex k))
-  pub arcs : (k : ℕ) (a : Arc) (h : At M.arcs k a) → (let j = F.arcs k a h in met G top j.first ≡ G (pos_item k))
-  pub sloops : (k : ℕ) (l : MapSloop) (h : At (items M) k (sloop_item l)) → (let j = F.sloops k l h in met G top j.first ≡ G (pos_item k))
+  pub below : (k : ℕ) (v : MapVertex) (a : IsAt M.svertices k v) → (let j = F.svertices k v a in met G top j.left ≡ met G top j.right)
+  pub around : (k : ℕ) (v : MapVertex) (m : Label) (a : IsAt M.svertices k v) (q : v.around ≡ Some m) → (let j = F.arounds k v m a q in met G top j.first ≡ G (around_svertex k))
+  pub arcs : (k : ℕ) (a : Arc) (h : IsAt M.arcs k a) → (let j = F.arcs k a h in met G top j.first ≡ G (pos_item k))
+  pub sloops : (k : ℕ) (l : MapSloop) (h : IsAt (items M) k (sloop_item l)) → (let j = F.sloops k l h in met G top j.first ≡ G (pos_item k))
   pub ground : (m : Label) → M.ground ≡ Some m → G whole ≡ top
   pub never_out : (o : Side) → G o ≡ Out → ⊥

@@ -1,7 +1,7 @@
 -- The program's sphere maps as maps of any size, and what holds of each sphere map.
 use Rattle.nef_geo.specs.Prelude.{Label, ℕ, map, Some, option_map, Option, All, normal_limit, svertex_limit, IsAtMost, vector_of}
 use Rattle.std.specs.Prelude.{◌≡◌}
-use Rattle.law_sphere.specs.Prelude.{At, MapVertex, Arc, MapSloop, Item, Map, items, item_normal, Valid, Least, Ordered, RawMap}
+use Rattle.law_sphere.specs.Prelude.{IsAt, MapVertex, Arc, MapSloop, Item, Map, items, item_normal, Valid, Least, Ordered, RawMap}
 use Rattle.nef_star.specs.Stars.{star_of, IsStar}
 use Rattle.nef_smap.specs.declared.map.SVertex.{SVertex}
 use Rattle.nef_smap.specs.declared.map.SArc.{SArc}
@@ -26,8 +26,8 @@ raw_of r = let ground : Option Label = r.ground in record { mark = r.mark; stars
 
 -- the numbers of the map's svertices and normals are within their limits
 pub record IsSmall (M : Map) : Type 0 where
-  pub svertices : (k : ℕ) (v : MapVertex) → At M.svertices k v → IsAtMost svertex_limit v.dir
-  pub normals : (k : ℕ) (x : Item) → At (items M) k x → IsAtMost normal_limit (item_normal x)
+  pub svertices : (k : ℕ) (v : MapVertex) → IsAt M.svertices k v → IsAtMost svertex_limit v.dir
+  pub normals : (k : ℕ) (x : Item) → IsAt (items M) k x → IsAtMost normal_limit (item_normal x)
 
 -- the map is valid, its lists are in order, and its numbers are small
 pub record IsSphereMap (m : SphereMap) : Type 0 where

@@ -5,19 +5,19 @@ use Rattle.law_sphere.specs.Maps.{MapVertex, Map, items, Side, around_svertex, p
 use Rattle.nef_smap.specs.Sides.{svertex_sides}
 
 -- 1 for a label, 0 for none
-abbrev pub one_if : Option Label → ℕ
-one_if None = 0
-one_if (Some l) = 1
+abbrev pub one_if_label : Option Label → ℕ
+one_if_label None = 0
+one_if_label (Some l) = 1
 
 -- the number of svertices among the first k with a label round the svertex
 abbrev pub arounds_before : List MapVertex → ℕ → ℕ
 arounds_before [] k = 0
 arounds_before (v ∷ vs) zero = 0
-arounds_before (v ∷ vs) (suc k) = one_if v.around + arounds_before vs k
+arounds_before (v ∷ vs) (suc k) = one_if_label v.around + arounds_before vs k
 
 -- the number of a side among the map's sides
-abbrev pub number_of : Map → Side → ℕ
-number_of M (around_svertex k) = arounds_before M.svertices k
-number_of M (pos_item k) = length (svertex_sides 0 M.svertices) + 2 * k
-number_of M (neg_item k) = length (svertex_sides 0 M.svertices) + (2 * k + 1)
-number_of M whole = length (svertex_sides 0 M.svertices) + 2 * length (items M)
+abbrev pub side_number : Map → Side → ℕ
+side_number M (around_svertex k) = arounds_before M.svertices k
+side_number M (pos_item k) = length (svertex_sides 0 M.svertices) + 2 * k
+side_number M (neg_item k) = length (svertex_sides 0 M.svertices) + (2 * k + 1)
+side_number M whole = length (svertex_sides 0 M.svertices) + 2 * length (items M)

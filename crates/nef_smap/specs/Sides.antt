@@ -2,7 +2,7 @@
 use Rattle.std.specs.Prelude.{◌≡◌, ◌<◌, ◌∷◌, ◌++◌, ℕ, suc, List, [], length, Option, Some, None}
 use Rattle.nef_space.specs.Prelude.{IsAt, NumbersClasses, Vector, SameDirection}
 use Rattle.nef_space.specs.declared.label.Label.{Label}
-use Rattle.law_sphere.specs.Maps.{At, MapVertex, Arc, MapSloop, Item, arc_item, sloop_item, Map, items, item_pos, item_neg, OnItem, Side, around_svertex, pos_item, neg_item, whole, Sees}
+use Rattle.law_sphere.specs.Maps.{MapVertex, Arc, MapSloop, Item, arc_item, sloop_item, Map, items, item_pos, item_neg, OnItem, Side, around_svertex, pos_item, neg_item, whole, Sees}
 use Rattle.nef_smap.specs.declared.map.SPlace.{SPlace}
 use Rattle.nef_smap.specs.declared.map.SPlace.TheVariants as place
 
@@ -38,8 +38,8 @@ SideSees M s d = (o : Side) × (l : Label) × IsSide M s o l × Sees M o d
 
 -- the direction d lies at the place of the map
 abbrev pub IsPlaceOf : Map → Vector → SPlace → Type 0
-IsPlaceOf M d (place.SVertex k) = (v : MapVertex) × At M.svertices k v × SameDirection v.dir d
-IsPlaceOf M d (place.Arc k) = (a : Arc) × At M.arcs k a × OnItem M (arc_item a) d
+IsPlaceOf M d (place.SVertex k) = (v : MapVertex) × IsAt M.svertices k v × SameDirection v.dir d
+IsPlaceOf M d (place.Arc k) = (a : Arc) × IsAt M.arcs k a × OnItem M (arc_item a) d
 IsPlaceOf M d place.Loop = (l : MapSloop) × (M.sloop ≡ Some l) × OnItem M (sloop_item l) d
 IsPlaceOf M d (place.Face s) = SideSees M s d
 

@@ -12,7 +12,7 @@ abbrev pub end_at : SpherePath → ℕ → Vector
 end_at w k = blend k (wide_vector w.end) 1 (wide_vector w.beside)
 
 -- all numbers of the way are at most 2^37 in size
-pub record IsWithin (w : SpherePath) : Type 0 where
+pub record IsWidePath (w : SpherePath) : Type 0 where
   pub start : IsAtMost (2 ^ 37) (wide_vector w.start)
   pub upward : IsAtMost (2 ^ 37) (wide_vector w.upward)
   pub end : IsAtMost (2 ^ 37) (wide_vector w.end)

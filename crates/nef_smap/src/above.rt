@@ -1,7 +1,7 @@
 //! What lies over directions of a sphere map: the item that the way up from a direction first meets.
 
 ghost use Rattle.std.specs.Prelude.{◌≡◌, ◌+◌, ◌<◌, ◌<ℤ◌, ◌↔◌};
-ghost use Rattle.nef_smap.specs.Prelude.{ℕ, IfSome, pos, IsTrue, length, normal_limit, svertex_limit, Sign as Signum, Vector, dot, cross, up, IsAtMost, vector_of, At, items, map_of, IsSphereMap, item_of, rise_form, IsOver, IsFirst, IsFirstOf, geo_sign, close_sign, beyond_sign, IsClose, ArcPasses, PassesArc};
+ghost use Rattle.nef_smap.specs.Prelude.{ℕ, IfSome, pos, IsTrue, length, normal_limit, svertex_limit, Sign as Signum, Vector, dot, cross, up, IsAtMost, vector_of, IsAt, items, map_of, IsSphereMap, item_of, rise_form, IsOver, IsFirst, IsFirstOf, geo_sign, close_sign, beyond_sign, IsClose, ArcPasses, PassesArc};
 
 use crate::item::Item;
 use crate::map::{SArc, SphereMap};
@@ -118,7 +118,7 @@ fn passes(map: &SphereMap, arc: &SArc, way: &Close) -> bool
 // Whether the way up from the close directions meets the item.
 fn is_over(map: &SphereMap, item: &Item, way: &Close) -> bool
     requires map { IsSphereMap map.now }
-    requires listed { (k : ℕ) × At (items (map_of map.now)) k (item_of item.now) }
+    requires listed { (k : ℕ) × IsAt (items (map_of map.now)) k (item_of item.now) }
     requires off { dot (cross up (vector_of way.now.at)) (vector_of way.now.aside) ≡ pos 0 → ⊥ }
     ensures over { (d : Vector) → IsClose map.now way.now d → IsTrue result ↔ IsOver (map_of map.now) up (item_of item.now) d }
 {

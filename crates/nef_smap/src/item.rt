@@ -1,7 +1,7 @@
 //! The items of a sphere map, which are its arcs and its sloop, and the numbered sides with their labels.
 
 ghost use Rattle.std.specs.Prelude.{◌≡◌, ◌<◌, ◌^◌, ◌↔◌, ◌≤◌};
-ghost use Rattle.nef_smap.specs.Prelude.{ℕ, length, cond, IsTrue, MatchOption, slice_get, normal_limit, svertex_limit, Vector, SameDirection, IsAtMost, vector_of, filter_map, IsOnCircle, normal_vector, IsOn, At, Item as PlainItem, items, item_normal, item_pos, item_mark, item_neg, arc_item, OnItem, Side, pos_item, neg_item, arc_of, map_of, IsSphereMap, item_of, IsItemThrough, IsSide, sides_of, number_of, arounds_before};
+ghost use Rattle.nef_smap.specs.Prelude.{ℕ, length, cond, IsTrue, MatchOption, slice_get, normal_limit, svertex_limit, Vector, SameDirection, IsAtMost, vector_of, filter_map, IsOnCircle, normal_vector, IsOn, IsAt, Item as PlainItem, items, item_normal, item_pos, item_mark, item_neg, arc_item, OnItem, Side, pos_item, neg_item, arc_of, map_of, IsSphereMap, item_of, IsItemThrough, IsSide, sides_of, side_number, arounds_before};
 
 use crate::map::{SArc, SLoop, SphereMap};
 use nef_arc::{Arc, strictly_on};
@@ -103,7 +103,7 @@ impl SphereMap {
     /// The item with this number: the arcs come first, by their numbers, and then the sloop.
     pub fn item_at(&self, number: usize) -> Item
         requires within { number < length (items (map_of self.now)) }
-        ensures item { At (items (map_of self.now)) number (item_of result) }
+        ensures item { IsAt (items (map_of self.now)) number (item_of result) }
     {
         match self.sloop {
             Some(circle) if number == self.arcs.len() => Item::Loop(circle),
@@ -114,7 +114,7 @@ impl SphereMap {
     /// The arc of the map as a set of directions, with the directions of its ends.
     pub fn great_arc(&self, arc: &SArc) -> Arc
         requires map { IsSphereMap self.now }
-        requires arc { (i : ℕ) × At (map_of self.now).arcs i (arc_of arc.now) }
+        requires arc { (i : ℕ) × IsAt (map_of self.now).arcs i (arc_of arc.now) }
         ensures normal { normal_vector result ≡ vector_of arc.now.normal }
         ensures on { (d : Vector) → IsOn result d ↔ OnItem (map_of self.now) (arc_item (arc_of arc.now)) d }
     {
@@ -127,7 +127,7 @@ impl SphereMap {
     pub fn item_holds(&self, number: usize, d: &Dir) -> bool
         requires map { IsSphereMap self.now }
         requires within { number < length (items (map_of self.now)) }
-        ensures on { (x : PlainItem) × At (items (map_of self.now)) number x × (IsTrue result ↔ OnItem (map_of self.now) x (vector_of d.now)) }
+        ensures on { (x : PlainItem) × IsAt (items (map_of self.now)) number x × (IsTrue result ↔ OnItem (map_of self.now) x (vector_of d.now)) }
     {
         match self.item_at(number) {
             Item::Arc(arc) => strictly_on(&self.great_arc(&arc), d),
@@ -137,7 +137,7 @@ impl SphereMap {
 
     /// The number of the first item with the normal. `None` comes exactly where no item has the normal.
     pub fn item_with(&self, normal: &Dir) -> Option<usize>
-        ensures item { MatchOption result ((k : ℕ) (x : PlainItem) → At (items (map_of self.now)) k x → SameDirection (item_normal x) (vector_of normal.now) → ⊥) (λ k. (x : PlainItem) × At (items (map_of self.now)) k x × SameDirection (item_normal x) (vector_of normal.now)) }
+        ensures item { MatchOption result ((k : ℕ) (x : PlainItem) → IsAt (items (map_of self.now)) k x → SameDirection (item_normal x) (vector_of normal.now) → ⊥) (λ k. (x : PlainItem) × IsAt (items (map_of self.now)) k x × SameDirection (item_normal x) (vector_of normal.now)) }
     {
         for number in 0..self.item_count() {
             if self.item_at(number).normal().is_same(normal) {
@@ -177,8 +177,8 @@ impl SphereMap {
     /// The number of the item's side to which the item's normal points if `above`, or else of its other side.
     pub fn item_side(&self, number: usize, above: bool) -> usize
         requires within { number < length (items (map_of self.now)) }
-        ensures number { result ≡ number_of (map_of self.now) (cond above (pos_item number) (neg_item number)) }
-        ensures side { (x : PlainItem) × At (items (map_of self.now)) number x × IsSide (map_of self.now) result (cond above (pos_item number) (neg_item number)) (cond above (item_pos x) (item_neg x)) }
+        ensures number { result ≡ side_number (map_of self.now) (cond above (pos_item number) (neg_item number)) }
+        ensures side { (x : PlainItem) × IsAt (items (map_of self.now)) number x × IsSide (map_of self.now) result (cond above (pos_item number) (neg_item number)) (cond above (item_pos x) (item_neg x)) }
     {
         let within = number < self.item_count();
         prove!(within);

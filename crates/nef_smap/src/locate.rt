@@ -1,7 +1,7 @@
 //! Where a direction lies on a sphere map, its label, and the star there.
 
 ghost use Rattle.std.specs.Prelude.{◌≡◌, ◌++◌, ◌∷◌};
-ghost use Rattle.nef_smap.specs.Prelude.{ℕ, MatchOption, [], cond, IfOk, OnOk, vector_of, svertex_limit, SameDirection, IsAtMost, MapLabel, At, Item as PlainItem, MapVertex, items, OnItem, map_of, IsSphereMap, IsPlaceOf, star_of, IsStar, AreArcEnds, IsNeighbourhood};
+ghost use Rattle.nef_smap.specs.Prelude.{ℕ, MatchOption, [], cond, IfOk, OnOk, vector_of, svertex_limit, SameDirection, IsAtMost, MapLabel, IsAt, Item as PlainItem, MapVertex, items, OnItem, map_of, IsSphereMap, IsPlaceOf, star_of, IsStar, AreArcEnds, IsNeighbourhood};
 
 use crate::OutOfMemory;
 use crate::item::side_label;
@@ -25,7 +25,7 @@ fn svertex_at(map: &SphereMap, d: &Dir) -> Option<usize>
 // The number of the item on which the direction lies; on an arc strictly.
 fn item_on(map: &SphereMap, d: &Dir) -> Option<usize>
     requires map { IsSphereMap map.now }
-    ensures item { MatchOption result ((k : ℕ) (x : PlainItem) → At (items (map_of map.now)) k x → OnItem (map_of map.now) x (vector_of d.now) → ⊥) (λ k. (x : PlainItem) × At (items (map_of map.now)) k x × OnItem (map_of map.now) x (vector_of d.now)) }
+    ensures item { MatchOption result ((k : ℕ) (x : PlainItem) → IsAt (items (map_of map.now)) k x → OnItem (map_of map.now) x (vector_of d.now) → ⊥) (λ k. (x : PlainItem) × IsAt (items (map_of map.now)) k x × OnItem (map_of map.now) x (vector_of d.now)) }
 {
     for number in 0..map.item_count() {
         if map.item_holds(number, d) {
@@ -104,7 +104,7 @@ fn arc_ends(
 fn star_on_item(alloc: Global, map: &SphereMap, d: &Dir, number: usize) -> Result<Star, OutOfMemory>
     requires map { IsSphereMap map.now }
     requires small { IsAtMost svertex_limit (vector_of d.now) }
-    requires on { (x : PlainItem) × At (items (map_of map.now)) number x × OnItem (map_of map.now) x (vector_of d.now) }
+    requires on { (x : PlainItem) × IsAt (items (map_of map.now)) number x × OnItem (map_of map.now) x (vector_of d.now) }
     ensures star { IfOk result (λ t. IsStar t) }
     ensures axis { IfOk result (λ t. t.axis ≡ d.now) }
     ensures shows { IfOk result (λ t. IsNeighbourhood (star_of t) (map_of map.now) (vector_of d.now)) }
@@ -126,7 +126,7 @@ fn star_at_svertex(
 ) -> Result<Star, OutOfMemory>
     requires map { IsSphereMap map.now }
     requires small { IsAtMost svertex_limit (vector_of d.now) }
-    requires at { (v : MapVertex) × At (map_of map.now).svertices number v × SameDirection v.dir (vector_of d.now) }
+    requires at { (v : MapVertex) × IsAt (map_of map.now).svertices number v × SameDirection v.dir (vector_of d.now) }
     ensures star { IfOk result (λ t. IsStar t) }
     ensures axis { IfOk result (λ t. t.axis ≡ d.now) }
     ensures shows { IfOk result (λ t. IsNeighbourhood (star_of t) (map_of map.now) (vector_of d.now)) }

@@ -2,7 +2,7 @@
 //! which is told by signs of expressions that are linear in a large number.
 
 ghost use Rattle.std.specs.Prelude.{◌≡◌, ◌*◌, ◌^◌, ◌<◌, ◌*ℤ◌, ◌<ℤ◌, ◌↔◌, ◌≤◌, ◌-ℤ◌};
-ghost use Rattle.nef_smap.specs.Prelude.{ℕ, pos, length, IsTrue, ℤ, nat_abs, normal_limit, svertex_limit, Vector, dot, cross, up, IsAtMost, IsDirection, vector_of, sign_of, wide_vector, At, arc_item, items, item_normal, OnItem, IsFree, arc_of, map_of, IsSphereMap, item_of, linear_at, turn_value, AreAtMost, IsLarge, leading_of, IsWithin, AreValues, met_at, IsMet, OnFairPaths, MeetsFirst, SideSees};
+ghost use Rattle.nef_smap.specs.Prelude.{ℕ, pos, length, IsTrue, ℤ, nat_abs, normal_limit, svertex_limit, Vector, dot, cross, up, IsAtMost, IsDirection, vector_of, sign_of, wide_vector, IsAt, arc_item, items, item_normal, OnItem, IsFree, arc_of, map_of, IsSphereMap, item_of, linear_at, turn_value, AreAtMost, IsLarge, leading_of, IsWidePath, AreValues, met_at, IsMetOnWay, OnFairPaths, MeetsFirst, SideSees};
 
 use crate::item::Item;
 use crate::map::{SArc, SphereMap};
@@ -95,7 +95,7 @@ struct SpherePath {
 
 // The values of the form g at the ends of the way.
 fn form_values(way: &SpherePath, g: &Wide) -> Values
-    requires way { IsWithin way.now }
+    requires way { IsWidePath way.now }
     requires form { IsAtMost (2 ^ 35) (wide_vector g.now) }
     ensures values { AreValues way.now (wide_vector g.now) result }
     ensures small { (m : ℕ) → IsAtMost m (wide_vector g.now) → AreAtMost (m * 2 ^ 39) result }
@@ -116,7 +116,7 @@ fn form_values(way: &SpherePath, g: &Wide) -> Values
 fn way_to(d: &Dir, svertex: &Dir, normal: &Dir) -> SpherePath
     requires svertex_small { IsAtMost svertex_limit (vector_of svertex.now) }
     requires normal_small { IsAtMost normal_limit (vector_of normal.now) }
-    ensures within { IsWithin result }
+    ensures within { IsWidePath result }
     ensures start { wide_vector result.start ≡ vector_of d.now }
     ensures upward { wide_vector result.upward ≡ up }
     ensures end { wide_vector result.end ≡ vector_of svertex.now }
@@ -133,7 +133,7 @@ fn way_to(d: &Dir, svertex: &Dir, normal: &Dir) -> SpherePath
 
 // The sign of the form g where the way meets the plane of a form that has the values n.
 fn sign_where_met(way: &SpherePath, n: &Values, g: &Wide) -> Sign
-    requires way { IsWithin way.now }
+    requires way { IsWidePath way.now }
     requires n_small { AreAtMost (2 ^ 50) n.now }
     requires g_small { IsAtMost (2 ^ 35) (wide_vector g.now) }
     ensures sign { (m : Vector) (j k : ℕ) → AreValues way.now m n.now → IsLarge j k → result ≡ sign_of (dot (wide_vector g.now) (met_at way.now m j k)) }
@@ -144,8 +144,8 @@ fn sign_where_met(way: &SpherePath, n: &Values, g: &Wide) -> Sign
 // Whether the way meets the plane of the arc, which has the values n, on the arc, if it meets the plane at all.
 fn is_met_on_arc(map: &SphereMap, way: &SpherePath, arc: &SArc, n: &Values) -> bool
     requires map { IsSphereMap map.now }
-    requires arc { (i : ℕ) × At (map_of map.now).arcs i (arc_of arc.now) }
-    requires way { IsWithin way.now }
+    requires arc { (i : ℕ) × IsAt (map_of map.now).arcs i (arc_of arc.now) }
+    requires way { IsWidePath way.now }
     requires values { AreValues way.now (vector_of arc.now.normal) n.now }
     requires small { AreAtMost (2 ^ 50) n.now }
     ensures on { (j k : ℕ) → IsLarge j k → IsDirection (met_at way.now (vector_of arc.now.normal) j k) → IsTrue result ↔ OnItem (map_of map.now) (arc_item (arc_of arc.now)) (met_at way.now (vector_of arc.now.normal) j k) }
@@ -165,7 +165,7 @@ fn is_met_on_arc(map: &SphereMap, way: &SpherePath, arc: &SArc, n: &Values) -> b
 }
 
 fn item_values(way: &SpherePath, item: &Item) -> Values
-    requires way { IsWithin way.now }
+    requires way { IsWidePath way.now }
     requires normal { IsAtMost normal_limit (item_normal (item_of item.now)) }
     ensures values { AreValues way.now (item_normal (item_of item.now)) result }
     ensures small { AreAtMost (2 ^ 50) result }
@@ -176,11 +176,11 @@ fn item_values(way: &SpherePath, item: &Item) -> Values
 // Whether the way meets the item, whose form has the values n.
 fn is_met(map: &SphereMap, way: &SpherePath, item: &Item, n: &Values) -> bool
     requires map { IsSphereMap map.now }
-    requires item { (i : ℕ) × At (items (map_of map.now)) i (item_of item.now) }
-    requires way { IsWithin way.now }
+    requires item { (i : ℕ) × IsAt (items (map_of map.now)) i (item_of item.now) }
+    requires way { IsWidePath way.now }
     requires values { AreValues way.now (item_normal (item_of item.now)) n.now }
     requires small { AreAtMost (2 ^ 50) n.now }
-    ensures met { OnFairPaths (map_of map.now) way.now (λ a b. IsTrue result ↔ IsMet (map_of map.now) a b (item_of item.now)) }
+    ensures met { OnFairPaths (map_of map.now) way.now (λ a b. IsTrue result ↔ IsMetOnWay (map_of map.now) a b (item_of item.now)) }
 {
     if !n.start.sign().is_opposite_to(n.end.sign()) {
         return false;
@@ -205,7 +205,7 @@ fn is_before(n: &Values, first: &Values) -> bool
 fn first_met(map: &SphereMap, way: &SpherePath) -> usize
     requires map { IsSphereMap map.now }
     requires some { 0 < length (items (map_of map.now)) }
-    requires way { IsWithin way.now }
+    requires way { IsWidePath way.now }
     ensures small { result < 2 ^ 60 }
     ensures first { MeetsFirst (map_of map.now) way.now result }
 {

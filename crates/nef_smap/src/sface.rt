@@ -1,7 +1,7 @@
 //! The sfaces of a sphere map: which of its sides are joined, by what lies over directions.
 
 ghost use Rattle.std.specs.Prelude.{◌≡◌, ◌<◌, ◌<ℤ◌};
-ghost use Rattle.nef_smap.specs.Prelude.{ℕ, length, IfOk, pos, Option, Some, up, dot, cross, IsAtMost, IsDirection, svertex_limit, vector_of, map_of, IsSphereMap, AreSfaces, AreLinked, ComesOf, AreEach, AreArounds, AreSloops, AreGrounds, JoinsBelow, JoinsArc, JoinsSloop, AreJoins, met_number, toward, then_toward, FirstNear};
+ghost use Rattle.nef_smap.specs.Prelude.{ℕ, length, IfOk, pos, Option, Some, up, dot, cross, IsAtMost, IsDirection, svertex_limit, vector_of, map_of, IsSphereMap, AreSfaces, AreLinked, ComesOf, AreEach, AreArounds, AreSloops, AreGrounds, JoinsBelow, JoinsArc, JoinsSloop, AreJoins, met_number, lean_direction, then_toward, FirstNear};
 
 use crate::OutOfMemory;
 use crate::above::{Close, Lean, above};
@@ -64,7 +64,7 @@ fn number_near(map: &SphereMap, at: Dir, aside: Dir, lean: Lean) -> usize
     requires off { dot (cross up (vector_of at)) (vector_of aside) ≡ pos 0 → ⊥ }
     requires at_small { IsAtMost svertex_limit (vector_of at) }
     requires aside_small { IsAtMost svertex_limit (vector_of aside) }
-    ensures number { (r : Option ℕ) × (result ≡ met_number (map_of map.now) r) × FirstNear (map_of map.now) up (vector_of at) (toward lean (vector_of aside)) (then_toward lean (vector_of aside)) r }
+    ensures number { (r : Option ℕ) × (result ≡ met_number (map_of map.now) r) × FirstNear (map_of map.now) up (vector_of at) (lean_direction lean (vector_of aside)) (then_toward lean (vector_of aside)) r }
 {
     match above(map, &Close { at, aside, lean }) {
         Some(item) => map.item_side(item, false),

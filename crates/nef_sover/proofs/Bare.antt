@@ -1,5 +1,5 @@
 -- A map's labels along a circle that nothing of the map crosses.
-use Rattle.nef_sover.proofs.Prelude.{◌≡◌, ℕ, ◌<◌, pos, ◌+ℤ◌, ◌*ℤ◌, ◌-ℤ◌, Some, arith, refl, sym, ap, subst, ◌∙◌, inl, inr, [], ◌∷◌, ints, ring, at, num, neg, ◌⊕◌, ◌⊖◌, ◌⊗◌, sign-plus, sign-minus, Vector, IsDirection, IsNormal, IsZero, blend, cross, dot, opposite, Label, Decided, IsOnCircle, IsPrimitive, At, MapSloop, Item, arc_item, sloop_item, Map, items, item_normal, OnItem, IsFree, IsClear, MapLabel, NearLabel, on_item, Valid, by_side, Ordered, dot-comb, normal-direction, Beside, same_way, other_way, beside, arc-at, sloop-at, at-sloop, lowest-same, normals-not_opposite, between-direction, label-exists, near-free, near-item, IsUncrossed, zero-decided, self-pos, cross-turned, level-way, square-cross, level_cross_second, SameDirection-turned, nought-if, parallel-trans}
+use Rattle.nef_sover.proofs.Prelude.{◌≡◌, ℕ, ◌<◌, pos, ◌+ℤ◌, ◌*ℤ◌, ◌-ℤ◌, Some, arith, refl, sym, ap, subst, ◌∙◌, inl, inr, [], ◌∷◌, ints, ring, at, num, neg, ◌⊕◌, ◌⊖◌, ◌⊗◌, sign-plus, sign-minus, Vector, IsDirection, IsNormal, IsZero, blend, cross, dot, opposite, Label, Decided, IsOnCircle, IsPrimitive, IsAt, MapSloop, Item, arc_item, sloop_item, Map, items, item_normal, OnItem, IsFree, IsClear, MapLabel, NearLabel, on_item, Valid, by_side, Ordered, dot-comb, normal-direction, Beside, same_way, other_way, beside, arc-at, sloop-at, at-sloop, lowest-same, normals-not_opposite, between-direction, label-exists, near-free, near-item, IsUncrossed, zero-decided, self-pos, cross-turned, level-way, square-cross, level_cross_second, SameDirection-turned, nought-if, parallel-trans}
 use Rattle.law_sphere.proofs.Labels.{clear-label}
 
 -- ---- directions on one circle
@@ -55,7 +55,7 @@ module _ (M : Map) (V : Valid M) (n : Vector) (hn : IsDirection n) (free : (d : 
 -- ---- an uncrossed circle
 module _ (M : Map) (V : Valid M) (O : Ordered M) (n : Vector) (N : IsNormal n) (P : IsPrimitive n) (U : IsUncrossed M n) where
   -- an item that meets the circle has its normal
-  item-normal : (k : ℕ) (x : Item) (d : Vector) → At (items M) k x → OnItem M x d → dot n d ≡ pos 0 → n ≡ item_normal x
+  item-normal : (k : ℕ) (x : Item) (d : Vector) → IsAt (items M) k x → OnItem M x d → dot n d ≡ pos 0 → n ≡ item_normal x
   item-normal k x d a o z = by (beside n (item_normal x) (normal-direction n N) (normal-direction (item_normal x) (V.shaped.normals k x a)) (U.items k x d a o z))
     where
       by : Beside n (item_normal x) → n ≡ item_normal x
@@ -63,7 +63,7 @@ module _ (M : Map) (V : Valid M) (O : Ordered M) (n : Vector) (N : IsNormal n) (
       by (other_way w) = absurd (normals-not_opposite n (item_normal x) N (V.shaped.normals k x a) w)
 
   -- it is no arc, whose source would lie on the circle
-  off-item : ((l : MapSloop) → M.sloop ≡ Some l → l.normal ≡ n → ⊥) → (k : ℕ) (x : Item) (d : Vector) → At (items M) k x → OnItem M x d → dot n d ≡ pos 0 → ⊥
+  off-item : ((l : MapSloop) → M.sloop ≡ Some l → l.normal ≡ n → ⊥) → (k : ℕ) (x : Item) (d : Vector) → IsAt (items M) k x → OnItem M x d → dot n d ≡ pos 0 → ⊥
   off-item absent k (sloop_item l) d a o z = absent l (sloop-at M.arcs M.sloop k l a) (sym (item-normal k (sloop_item l) d a o z))
   off-item absent k (arc_item r) d a o z =
       let b = V.shaped.arcs_between k r (arc-at M.arcs M.sloop k r a) in
@@ -82,7 +82,7 @@ dot-opposite : (n : Vector) → dot n (opposite n) ≡ pos 0 -ℤ dot n n
 dot-opposite n = ring (n.x ∷ n.y ∷ n.z ∷ []) (at 0 ⊗ neg (at 0) ⊕ at 1 ⊗ neg (at 1) ⊕ at 2 ⊗ neg (at 2)) (num (pos 0) ⊖ (at 0 ⊗ at 0 ⊕ at 1 ⊗ at 1 ⊕ at 2 ⊗ at 2)) tt
 
 module _ (M : Map) (V : Valid M) (l : MapSloop) (e : M.sloop ≡ Some l) where
-  number : (k : ℕ) × At (items M) k (sloop_item l)
+  number : (k : ℕ) × IsAt (items M) k (sloop_item l)
   number = at-sloop M.arcs M.sloop l e
 
   normal-way : IsDirection l.normal

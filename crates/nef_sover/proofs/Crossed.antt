@@ -1,10 +1,10 @@
 -- The axes of an overlay are the svertices and the meets of items.
-use Rattle.nef_sover.proofs.Prelude.{List, [], Some, None, arith, refl, sym, subst, inl, inr, ◌⊎◌, Contains, Vector, IsDirection, SameDirection, cross, vector_of, Dir, Map, items, item_normal, IsCrossing, IsAxis, Axis, Track, normal_of, number_of, IsTrackOf, AreTracks, Crossed, Adds, HasDirection, HasEachOf, AreInOrder, AreAxes, IsOnSvertex, IsPlaced, MeetsSome}
+use Rattle.nef_sover.proofs.Prelude.{List, [], Some, None, arith, refl, sym, subst, inl, inr, ◌⊎◌, Contains, Vector, IsDirection, SameDirection, cross, vector_of, Dir, Map, items, item_normal, IsItemCrossing, IsAxis, Axis, Track, track_normal, track_number, IsTrackOf, AreTracks, CrossedItems, AddsAxes, HasDirection, HasEachOf, AxesAreInOrder, AreAxes, IsOnSvertex, CrossesAt, MeetsSome}
 use Rattle.nef_sover.proofs.Places.{zip-first, zip-second}
-use Rattle.nef_sover.proofs.Adding.{IsNew, adds-both}
+use Rattle.nef_sover.proofs.Adding.{IsNewAxis, adds-both}
 
 module _ (A B : Map) (xs ys : List Track) (I : AreTracks A xs) (J : AreTracks B ys) where
-  meet-crossing : (c : Crossed) (d : Vector) → MeetsSome xs ys c d → IsCrossing A B d
+  meet-crossing : (c : CrossedItems) (d : Vector) → MeetsSome xs ys c d → IsItemCrossing A B d
   meet-crossing c d (i, x, a, m) =
       let p = zip-second (IsTrackOf A) xs (items A) i x I a in
       let q = zip-second (IsTrackOf B) ys (items B) m.0 m.1 J m.2 in
@@ -15,59 +15,59 @@ module _ (A B : Map) (xs ys : List Track) (I : AreTracks A xs) (J : AreTracks B 
         y = q.0;
         of_a = p.1;
         of_b = q.1;
-        apart = subst (λ (v : Vector). IsDirection (cross (item_normal p.0) v)) q.2.normal (subst (λ (v : Vector). IsDirection (cross v (normal_of m.1))) p.2.normal b.1);
+        apart = subst (λ (v : Vector). IsDirection (cross (item_normal p.0) v)) q.2.normal (subst (λ (v : Vector). IsDirection (cross v (track_normal m.1))) p.2.normal b.1);
         on_x = (p.2.on d).0 o.0;
         on_y = (q.2.on d).0 o.1;
       }
 
   -- the items that are named cross there
-  meet-placed : (c : Crossed) (d : Vector) → MeetsSome xs ys c d → IsPlaced A B c d
+  meet-placed : (c : CrossedItems) (d : Vector) → MeetsSome xs ys c d → CrossesAt A B c d
   meet-placed c d (i, x, a, m) =
       let p = zip-second (IsTrackOf A) xs (items A) i x I a in
       let q = zip-second (IsTrackOf B) ys (items B) m.0 m.1 J m.2 in
       let b = m.3 in let o = b.0 in
-      subst (λ (e : Crossed). IsPlaced A B e d) (sym b.2) (record {
+      subst (λ (e : CrossedItems). CrossesAt A B e d) (sym b.2) (record {
         x = p.0;
         y = q.0;
         of_a = p.2.number;
         of_b = q.2.number;
-        apart = subst (λ (v : Vector). IsDirection (cross (item_normal p.0) v)) q.2.normal (subst (λ (v : Vector). IsDirection (cross v (normal_of m.1))) p.2.normal b.1);
+        apart = subst (λ (v : Vector). IsDirection (cross (item_normal p.0) v)) q.2.normal (subst (λ (v : Vector). IsDirection (cross v (track_normal m.1))) p.2.normal b.1);
         on_x = (p.2.on d).0 o.0;
         on_y = (q.2.on d).0 o.1;
       })
 
-  crossing-meet : (d : Vector) → IsCrossing A B d → (c : Crossed) × MeetsSome xs ys c d
+  crossing-meet : (d : Vector) → IsItemCrossing A B d → (c : CrossedItems) × MeetsSome xs ys c d
   crossing-meet d c =
       let p = zip-first (IsTrackOf A) xs (items A) c.i c.x I c.of_a in
       let q = zip-first (IsTrackOf B) ys (items B) c.k c.y J c.of_b in
-      let apart = subst (λ (v : Vector). IsDirection (cross (normal_of p.0) v)) (sym q.2.normal) (subst (λ (v : Vector). IsDirection (cross v (item_normal c.y))) (sym p.2.normal) c.apart) in
-      (Some (number_of p.0, number_of q.0), (c.i, p.0, p.1, (c.k, q.0, q.1, (((p.2.on d).1 c.on_x, (q.2.on d).1 c.on_y), apart, refl))))
+      let apart = subst (λ (v : Vector). IsDirection (cross (track_normal p.0) v)) (sym q.2.normal) (subst (λ (v : Vector). IsDirection (cross v (item_normal c.y))) (sym p.2.normal) c.apart) in
+      (Some (track_number p.0, track_number q.0), (c.i, p.0, p.1, (c.k, q.0, q.1, (((p.2.on d).1 c.on_x, (q.2.on d).1 c.on_y), apart, refl))))
 
   -- a svertex, or a direction in which two items meet, which are named
-  abbrev pub IsFound : Crossed → Vector → Type 0
+  abbrev pub IsFound : CrossedItems → Vector → Type 0
   IsFound c d = (IsOnSvertex A c d ⊎ IsOnSvertex B c d) ⊎ MeetsSome xs ys c d
 
-  pub all-found : (ds es fs gs : List Axis) → Adds (IsOnSvertex A) ds es → Adds (IsOnSvertex B) es fs → Adds (MeetsSome xs ys) fs gs → Adds IsFound ds gs
+  pub all-found : (ds es fs gs : List Axis) → AddsAxes (IsOnSvertex A) ds es → AddsAxes (IsOnSvertex B) es fs → AddsAxes (MeetsSome xs ys) fs gs → AddsAxes IsFound ds gs
   all-found ds es fs gs a b m =
-      let OnEither : Crossed → Vector → Type 0 = λ c d. IsOnSvertex A c d ⊎ IsOnSvertex B c d in
+      let OnEither : CrossedItems → Vector → Type 0 = λ c d. IsOnSvertex A c d ⊎ IsOnSvertex B c d in
       adds-both OnEither (MeetsSome xs ys) IsFound ds fs gs (adds-both (IsOnSvertex A) (IsOnSvertex B) OnEither ds es fs a b (λ c d h. h) (λ c d h. h)) m (λ c d h. h) (λ c d h. h)
 
-  found-axis : (c : Crossed) (d : Vector) → IsFound c d → IsAxis A B d
+  found-axis : (c : CrossedItems) (d : Vector) → IsFound c d → IsAxis A B d
   found-axis c d (inl (inl h)) = inl h.0
   found-axis c d (inl (inr h)) = inr (inl h.0)
   found-axis c d (inr h) = inr (inr (meet-crossing c d h))
 
-  found-placed : (c : Crossed) (d : Vector) → IsFound c d → IsPlaced A B c d
-  found-placed c d (inl (inl h)) = subst (λ (e : Crossed). IsPlaced A B e d) (sym h.1) tt
-  found-placed c d (inl (inr h)) = subst (λ (e : Crossed). IsPlaced A B e d) (sym h.1) tt
+  found-placed : (c : CrossedItems) (d : Vector) → IsFound c d → CrossesAt A B c d
+  found-placed c d (inl (inl h)) = subst (λ (e : CrossedItems). CrossesAt A B e d) (sym h.1) tt
+  found-placed c d (inl (inr h)) = subst (λ (e : CrossedItems). CrossesAt A B e d) (sym h.1) tt
   found-placed c d (inr h) = meet-placed c d h
 
-  axis-found : (d : Vector) → IsAxis A B d → (c : Crossed) × IsFound c d
+  axis-found : (d : Vector) → IsAxis A B d → (c : CrossedItems) × IsFound c d
   axis-found d (inl h) = (None, inl (inl (h, refl)))
   axis-found d (inr (inl h)) = (None, inl (inr (h, refl)))
   axis-found d (inr (inr h)) = let m = crossing-meet d h in (m.0, inr m.1)
 
-  pub axes-are : (gs hs : List Axis) → Adds IsFound [] gs → AreInOrder hs → HasEachOf gs hs → AreAxes A B hs
+  pub axes-are : (gs hs : List Axis) → AddsAxes IsFound [] gs → AxesAreInOrder hs → HasEachOf gs hs → AreAxes A B hs
   axes-are gs hs a o s = record {
     ordered = o;
     small = λ e h. let p = new e (a.added e (s.among e h)) in p.1;
@@ -76,7 +76,7 @@ module _ (A B : Map) (xs ys : List Track) (I : AreTracks A xs) (J : AreTracks B 
     placed = λ e h. let p = new e (a.added e (s.among e h)) in found-placed e.crossed (vector_of e.dir) p.0;
   }
     where
-      new : (e : Axis) → Contains [] e ⊎ IsNew IsFound e → IsNew IsFound e
+      new : (e : Axis) → Contains [] e ⊎ IsNewAxis IsFound e → IsNewAxis IsFound e
       new e (inl (k, h, q)) = absurd (omega (arith, h))
       new e (inr p) = p
 

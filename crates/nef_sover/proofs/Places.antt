@@ -1,20 +1,20 @@
 -- Elements of lists by their places.
-use Rattle.nef_sover.proofs.Prelude.{◌≡◌, ℕ, zero, suc, ◌+◌, ◌<◌, ◌≤◌, List, [], ◌∷◌, ◌++◌, length, take, get_or, Option, Some, None, Result, Ok, Err, refl, sym, ap, subst, ◌∙◌, AllZip, At, at-within, at-get, get-at, is-at_none, is-at_first}
+use Rattle.nef_sover.proofs.Prelude.{◌≡◌, ℕ, zero, suc, ◌+◌, ◌<◌, ◌≤◌, List, [], ◌∷◌, ◌++◌, length, take, get_or, Option, Some, None, Result, Ok, Err, refl, sym, ap, subst, ◌∙◌, AllZip, IsAt, at-within, at-get, get-at, is-at_none, is-at_first}
 use Rattle.std.specs.Option.{MatchOption}
 use Rattle.std.specs.Result.{IfOk}
 use Rattle.std.proofs.lemmas.List.{take_more, take_all}
 
-pub read-at : {X : Type 0} (xs : List X) (k : ℕ) (x : X) → k < length xs → x ≡ get_or xs k x → At xs k x
-read-at xs k x l e = subst (At xs k) (sym e) (get-at xs k x l)
+pub read-at : {X : Type 0} (xs : List X) (k : ℕ) (x : X) → k < length xs → x ≡ get_or xs k x → IsAt xs k x
+read-at xs k x l e = subst (IsAt xs k) (sym e) (get-at xs k x l)
 
 -- two lists place by place
-pub zip-second : {X Y : Type 0} (R : X → Y → Type 0) (xs : List X) (ys : List Y) (k : ℕ) (x : X) → AllZip R xs ys → At xs k x → (y : Y) × At ys k y × R x y
+pub zip-second : {X Y : Type 0} (R : X → Y → Type 0) (xs : List X) (ys : List Y) (k : ℕ) (x : X) → AllZip R xs ys → IsAt xs k x → (y : Y) × IsAt ys k y × R x y
 zip-second R [] ys k x z h = absurd (is-at_none h)
 zip-second R (a ∷ as') [] k x z h = absurd z
 zip-second R (a ∷ as') (b ∷ bs) zero x z h = (b, refl, subst (λ c. R c b) (is-at_first h) z.0)
 zip-second R (a ∷ as') (b ∷ bs) (suc k) x z h = zip-second R as' bs k x z.1 h
 
-pub zip-first : {X Y : Type 0} (R : X → Y → Type 0) (xs : List X) (ys : List Y) (k : ℕ) (y : Y) → AllZip R xs ys → At ys k y → (x : X) × At xs k x × R x y
+pub zip-first : {X Y : Type 0} (R : X → Y → Type 0) (xs : List X) (ys : List Y) (k : ℕ) (y : Y) → AllZip R xs ys → IsAt ys k y → (x : X) × IsAt xs k x × R x y
 zip-first R xs [] k y z h = absurd (is-at_none h)
 zip-first R [] (b ∷ bs) k y z h = absurd z
 zip-first R (a ∷ as') (b ∷ bs) zero y z h = (a, refl, subst (λ c. R a c) (is-at_first h) z.0)
@@ -27,7 +27,7 @@ zip-append R (a ∷ as') [] us vs z w = absurd z
 zip-append R (a ∷ as') (b ∷ bs) us vs z w = (z.0, zip-append R as' bs us vs z.1 w)
 
 -- one more of the first elements
-pub zip-more : {X Y : Type 0} (R : X → Y → Type 0) (xs : List X) (ys : List Y) (k : ℕ) (x : X) (y : Y) → AllZip R xs (take k ys) → At ys k y → R x y → AllZip R (xs ++ x ∷ []) (take (k + 1) ys)
+pub zip-more : {X Y : Type 0} (R : X → Y → Type 0) (xs : List X) (ys : List Y) (k : ℕ) (x : X) (y : Y) → AllZip R xs (take k ys) → IsAt ys k y → R x y → AllZip R (xs ++ x ∷ []) (take (k + 1) ys)
 zip-more R xs ys k x y z h r = subst (AllZip R (xs ++ x ∷ [])) (sym (take_more ys k y (at-within ys k y h) ∙ ap (λ w. take k ys ++ w ∷ []) (at-get ys k y y h))) (zip-append R xs (take k ys) (x ∷ []) (y ∷ []) z (r, tt))
 
 pub zip-all : {X Y : Type 0} (R : X → Y → Type 0) (xs : List X) (ys : List Y) (k : ℕ) → length ys ≤ k → AllZip R xs (take k ys) → AllZip R xs ys

@@ -1,5 +1,5 @@
 -- The sloop of an overlay.
-use Rattle.nef_sover.proofs.Prelude.{◌≡◌, pos, List, Option, Some, option_map, sym, ap, subst, ◌∙◌, inl, inr, ◌⊎◌, neg, normal_limit, Vector, IsAtMost, IsNormal, opposite, Label, vector_of, Dir, IsOnCircle, MapSloop, sloop_item, Map, IsFree, MapLabel, NearLabel, at-sloop, IsAxis, IsLoneSloop, IsMergedSloop, SLoop, SphereMap, sloop_of, map_of, IsSphereMap, dir-primitive, dir-equal, Axis, AreAxes, AreOff, IsUncrossed, HasLabels, HasOpLabels, IsLoneNormal, level-way, SameDirection-turned}
+use Rattle.nef_sover.proofs.Prelude.{◌≡◌, pos, List, Option, Some, option_map, sym, ap, subst, ◌∙◌, inl, inr, ◌⊎◌, neg, normal_limit, Vector, IsAtMost, IsNormal, opposite, Label, vector_of, Dir, IsOnCircle, MapSloop, sloop_item, Map, IsFree, MapLabel, NearLabel, at-sloop, IsAxis, IsLoneSloop, IsMergedSloop, SLoop, SphereMap, sloop_of, map_of, IsSphereMap, dir-primitive, dir-equal, Axis, AreAxes, AreOff, IsUncrossed, HasCircleLabels, HasOpLabels, IsLoneNormal, level-way, SameDirection-turned}
 use Rattle.nef_smap.proofs.MapLists.{sloop-was}
 use Rattle.nef_sover.proofs.Bare.{one-label, near-circle, free-circle, sloop-mark, sloop-pos, sloop-neg}
 use Rattle.nef_sover.proofs.Lone.{uncrossed-a, uncrossed-b}
@@ -45,15 +45,15 @@ module _ (a b : SphereMap) (ds : List Axis) (X : AreAxes (map_of a) (map_of b) d
 
 -- ---- a map's labels along a circle
 module _ (m : SphereMap) (S : IsSphereMap m) (n : Dir) where
-  pub along-sloop : (s : SLoop) → m.sloop ≡ Some s → s.normal ≡ n → HasLabels (map_of m) (vector_of n) s
-  along-sloop s e q = let f = ap (option_map sloop_of) e in subst (λ (d : Dir). HasLabels (map_of m) (vector_of d) s) q (record {
+  pub along-sloop : (s : SLoop) → m.sloop ≡ Some s → s.normal ≡ n → HasCircleLabels (map_of m) (vector_of n) s
+  along-sloop s e q = let f = ap (option_map sloop_of) e in subst (λ (d : Dir). HasCircleLabels (map_of m) (vector_of d) s) q (record {
     mark = sloop-mark (map_of m) S.valid (sloop_of s) f;
     pos = sloop-pos (map_of m) S.valid (sloop_of s) f;
     neg = sloop-neg (map_of m) S.valid (sloop_of s) f;
   })
 
   pub along-face : IsNormal (vector_of n) → IsUncrossed (map_of m) (vector_of n) → ((s : SLoop) → m.sloop ≡ Some s → s.normal ≡ n → ⊥)
-      → (d : Vector) (k : Label) → IsOnCircle (vector_of n) d → MapLabel (map_of m) d k → (l : SLoop) → l.mark ≡ k → l.pos ≡ k → l.neg ≡ k → HasLabels (map_of m) (vector_of n) l
+      → (d : Vector) (k : Label) → IsOnCircle (vector_of n) d → MapLabel (map_of m) d k → (l : SLoop) → l.mark ≡ k → l.pos ≡ k → l.neg ≡ k → HasCircleLabels (map_of m) (vector_of n) l
   along-face N U absent d k o a l em ep en = record {
     mark = λ e p. subst (MapLabel (map_of m) e) (sym em) (one-label (map_of m) S.valid (vector_of n) n.some free d e k o p a);
     pos = λ e p. subst (NearLabel (map_of m) e (vector_of n)) (sym ep) (near-circle (map_of m) S.valid (vector_of n) n.some free d e (vector_of n) k o p a);
@@ -68,7 +68,7 @@ module _ (m : SphereMap) (S : IsSphereMap m) (n : Dir) where
 
 -- ---- both maps' labels
 module _ (A B : Map) (op : Label → Label → Label) (n : Dir) where
-  pub along-both : (p q l : SLoop) → HasLabels A (vector_of n) p → HasLabels B (vector_of n) q → l.mark ≡ op p.mark q.mark → l.pos ≡ op p.pos q.pos → l.neg ≡ op p.neg q.neg → HasOpLabels A B op (vector_of n) l
+  pub along-both : (p q l : SLoop) → HasCircleLabels A (vector_of n) p → HasCircleLabels B (vector_of n) q → l.mark ≡ op p.mark q.mark → l.pos ≡ op p.pos q.pos → l.neg ≡ op p.neg q.neg → HasOpLabels A B op (vector_of n) l
   along-both p q l P Q em ep en = record {
     mark = λ d o. (p.mark, q.mark, P.mark d o, Q.mark d o, sym em);
     pos = λ d o. (p.pos, q.pos, P.pos d o, Q.pos d o, sym ep);

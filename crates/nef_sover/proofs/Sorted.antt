@@ -1,5 +1,5 @@
 -- Axes sorted by their directions, one of each.
-use Rattle.nef_sover.proofs.Prelude.{◌≡◌, List, Bool, true, Equal, Less, Ordering, sym, eq_by_cmp, IsTotalOrder, dedup, IsSorted, IsPermutation, on_total, vector_of, Dir, same_directions_equal, VectorBelow, below-vectors, Axis, AreInOrder, HasEachOf}
+use Rattle.nef_sover.proofs.Prelude.{◌≡◌, List, Bool, true, Equal, Less, Ordering, sym, eq_by_cmp, IsTotalOrder, dedup, IsSorted, IsPermutation, on_total, vector_of, Dir, same_directions_equal, VectorBelow, below-vectors, Axis, AxesAreInOrder, HasEachOf}
 use Rattle.std.specs.Cmp.{IsEquivalence}
 use Rattle.std.proofs.lemmas.Cmp.{int_eq_equiv, on_equiv, and_equiv}
 use Rattle.std.proofs.lemmas.List.Kept.{Any-dedup}
@@ -30,7 +30,7 @@ axis_total = on_total (λ (x : Axis). x.dir) dir_total
 axis_equivalence : IsEquivalence axis_test
 axis_equivalence = on_equiv (λ (x : Axis). x.dir) dir_equivalence
 
-pub once-in_order : (xs : List Axis) → IsSorted axis_order xs → AreInOrder (dedup axis_test xs)
+pub once-in_order : (xs : List Axis) → IsSorted axis_order xs → AxesAreInOrder (dedup axis_test xs)
 once-in_order = in_order axis_total (λ x y. ties x.dir y.dir) (λ x y. VectorBelow (vector_of x.dir) (vector_of y.dir))
     (λ x y h. below-vectors (vector_of x.dir) (vector_of y.dir) (dir-ordered x.dir y.dir Less (sym h)))
 

@@ -1,5 +1,5 @@
 -- Two stars of one direction, merged.
-use Rattle.nef_sover.proofs.Prelude.{◌≡◌, ℕ, List, map, sym, subst, ◌∙◌, All, Vector, IsDirection, cross, SameDirection, Label, vector_of, Dir, At, Map, StarLabel, ByOp, InOrder, VectorBelow, IsAxis, NearByOp, IsMerged, Op, Star, op_label, star_of, IsStar, IsCombined, each_has_one_label, IsNeighbourhood, map-at, at-map, at-get, at-contains, contains-at, star-well_formed, Axis, AreAxes, IsMergedAt, AreMerged}
+use Rattle.nef_sover.proofs.Prelude.{◌≡◌, ℕ, List, map, sym, subst, ◌∙◌, All, Vector, IsDirection, cross, SameDirection, Label, vector_of, Dir, IsAt, Map, StarLabel, ByOp, InOrder, VectorBelow, IsAxis, NearByOp, IsMerged, Op, Star, op_label, star_of, IsStar, IsCombined, each_has_one_label, IsNeighbourhood, map-at, at-map, at-get, at-contains, contains-at, star-well_formed, Axis, AreAxes, IsMergedAt, AreMerged}
 use Rattle.law_sphere.specs.Stars.{Star as PlainStar}
 use Rattle.nef_smap.proofs.SideLists.{at-some}
 use Rattle.nef_sover.proofs.Places.{zip-first, zip-second}
@@ -34,15 +34,15 @@ module _ (A B : Map) (op : Label → Label → Label) (ds : List Axis) (ts : Lis
     labels = λ e l h s. subst (λ (f : Dir). NearByOp A B op (vector_of f) e l) (sym m.axis) (m.labels e l (subst (λ (f : Dir). IsDirection (cross (vector_of f) e)) m.axis h) s);
   }
 
-  of_star : (k : ℕ) (t : Star) → At ts k t → (x : Axis) × At ds k x × IsMergedAt A B op x.dir t
+  of_star : (k : ℕ) (t : Star) → IsAt ts k t → (x : Axis) × IsAt ds k x × IsMergedAt A B op x.dir t
   of_star k t h = zip-second (λ (s : Star) (x : Axis). IsMergedAt A B op x.dir s) ts ds k t Z h
 
-  pub all-merged : (k : ℕ) (t : PlainStar) → At (map star_of ts) k t → IsMerged A B op t
+  pub all-merged : (k : ℕ) (t : PlainStar) → IsAt (map star_of ts) k t → IsMerged A B op t
   all-merged k t h =
       let s = at-map star_of ts k t h in let d = of_star k s.0 s.1 in
       subst (IsMerged A B op) s.2 (merged-from d.0.dir s.0 (X.axis d.0 (at-contains ds k d.0 d.1)) d.2)
 
-  pub all-complete : (d : Vector) → IsAxis A B d → (k : ℕ) × (t : PlainStar) × At (map star_of ts) k t × SameDirection t.axis d
+  pub all-complete : (d : Vector) → IsAxis A B d → (k : ℕ) × (t : PlainStar) × IsAt (map star_of ts) k t × SameDirection t.axis d
   all-complete d x =
       let e = X.all d x in let k = contains-at ds e.0 e.1 in
       let t = zip-first (λ (s : Star) (f : Axis). IsMergedAt A B op f.dir s) ts ds k.0 e.0 Z k.1 in let m = t.2 in

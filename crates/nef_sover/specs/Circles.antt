@@ -5,7 +5,7 @@ use Rattle.std.specs.List.{Contains}
 use Rattle.nef_space.specs.Vectors.{Vector, IsAtMost, IsNormal, IsZero, cross, dot, opposite}
 use Rattle.nef_geo.specs.declared.dir.Dir.{Dir}
 use Rattle.law_cyclic.specs.Arcs.{IsOnCircle}
-use Rattle.law_sphere.specs.Prelude.{At, MapVertex, MapSloop, Item, Map, items, item_normal, OnItem, MapLabel, NearLabel, ByOp}
+use Rattle.law_sphere.specs.Prelude.{IsAt, MapVertex, MapSloop, Item, Map, items, item_normal, OnItem, MapLabel, NearLabel, ByOp}
 use Rattle.law_build.specs.Overlays.{IsLoneSloop, NearByOp}
 use Rattle.nef_smap.specs.declared.map.SLoop.{SLoop}
 use Rattle.nef_sover.specs.declared.axes.Axis.{Axis}
@@ -20,11 +20,11 @@ IsBareNormal o xs n = (l : SLoop) × (o ≡ Some l) × (l.normal ≡ n) × AreOf
 
 -- no svertex of the map lies on the circle of n, and no item crosses this circle
 pub record IsUncrossed (M : Map) (n : Vector) : Type 0 where
-  pub svertices : (k : ℕ) (v : MapVertex) → At M.svertices k v → dot n v.dir ≡ pos 0 → ⊥
-  pub items : (k : ℕ) (x : Item) (d : Vector) → At (items M) k x → OnItem M x d → dot n d ≡ pos 0 → IsZero (cross n (item_normal x))
+  pub svertices : (k : ℕ) (v : MapVertex) → IsAt M.svertices k v → dot n v.dir ≡ pos 0 → ⊥
+  pub items : (k : ℕ) (x : Item) (d : Vector) → IsAt (items M) k x → OnItem M x d → dot n d ≡ pos 0 → IsZero (cross n (item_normal x))
 
 -- l has the normal n, and the map's labels all along the circle of n and on both its sides
-pub record HasLabels (M : Map) (n : Vector) (l : SLoop) : Type 0 where
+pub record HasCircleLabels (M : Map) (n : Vector) (l : SLoop) : Type 0 where
   pub mark : (d : Vector) → IsOnCircle n d → MapLabel M d l.mark
   pub pos : (d : Vector) → IsOnCircle n d → NearLabel M d n l.pos
   pub neg : (d : Vector) → IsOnCircle n d → NearLabel M d (opposite n) l.neg

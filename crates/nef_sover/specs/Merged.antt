@@ -5,13 +5,13 @@ use Rattle.std.specs.List.{AllZip}
 use Rattle.nef_geo.specs.declared.dir.Dir.{Dir}
 use Rattle.law_sphere.specs.Prelude.{Map, Item, item_normal, item_mark, item_pos, item_neg, StarLabel, ByOp}
 use Rattle.law_build.specs.Overlays.{NearByOp}
-use Rattle.nef_star.specs.declared.rounds.Line.{Line}
+use Rattle.nef_star.specs.declared.rounds.CircleLabels.{CircleLabels}
 use Rattle.nef_star.specs.declared.star.Star.{Star}
 use Rattle.nef_star.specs.Stars.{star_of, IsStar}
 use Rattle.nef_sover.specs.declared.axes.Axis.{Axis}
 
 -- l is the great circle of the item x near a direction on x
-pub record IsLineOf (x : Item) (l : Line) : Type 0 where
+pub record AreCircleLabelsOf (x : Item) (l : CircleLabels) : Type 0 where
   pub normal : vector_of l.normal ≡ item_normal x
   pub mark : l.mark ≡ item_mark x
   pub pos : l.pos ≡ item_pos x

@@ -1,11 +1,11 @@
 //! The axes of an overlay: the svertices of both maps, and the directions in which items of the two maps cross.
 
 ghost use Rattle.std.specs.Prelude.{◌≡◌, ◌↔◌, ◌<◌};
-ghost use Rattle.nef_geo.specs.Prelude.{length, IsTrue, IfOk, OnOk, normal_limit, svertex_limit, IsAtMost, vector_of};
-ghost use Rattle.law_sphere.specs.Maps.{At, Item as PlainItem, items};
+ghost use Rattle.nef_geo.specs.Prelude.{length, IsTrue, IfOk, OnOk, normal_limit, svertex_limit, IsAtMost, vector_of, IsAt};
+ghost use Rattle.law_sphere.specs.Maps.{Item as PlainItem, items};
 ghost use Rattle.nef_smap.specs.Maps.{map_of, IsSphereMap};
-ghost use Rattle.nef_sover.specs.Tracks.{normal_of, number_of, LiesOn, IsTrackOf, AreTracks, AreSmall};
-ghost use Rattle.nef_sover.specs.Axes.{Adds, AreAxes, IsOnSvertex, IsMeet, IsMeetAlong, MeetsOne, MeetsSome};
+ghost use Rattle.nef_sover.specs.Tracks.{track_normal, track_number, IsOnTrack, IsTrackOf, AreTracks, AreSmallTracks};
+ghost use Rattle.nef_sover.specs.Axes.{AddsAxes, AreAxes, IsOnSvertex, IsTrackMeet, IsMeetAlong, MeetsOne, MeetsSome};
 
 use crate::OutOfMemory;
 use nef_arc::{Arc, strictly_on};
@@ -31,7 +31,7 @@ enum Track {
 impl Track {
     // The normal of the item's great circle.
     fn normal(&self) -> &Dir
-        ensures normal { vector_of result.now ≡ normal_of self.now }
+        ensures normal { vector_of result.now ≡ track_normal self.now }
     {
         match self {
             Track::Arc(_, arc) => &arc.normal,
@@ -41,7 +41,7 @@ impl Track {
 
     // Whether the direction lies on the sloop, or strictly on the arc.
     fn holds(&self, d: &Dir) -> bool
-        ensures on { IsTrue result ↔ LiesOn self.now (vector_of d.now) }
+        ensures on { IsTrue result ↔ IsOnTrack self.now (vector_of d.now) }
     {
         match self {
             Track::Arc(_, arc) => strictly_on(arc, d),
@@ -50,7 +50,7 @@ impl Track {
     }
 
     fn number(&self) -> usize
-        ensures number { result ≡ number_of self.now }
+        ensures number { result ≡ track_number self.now }
     {
         match self {
             Track::Arc(number, _) | Track::Sloop(number, _) => *number,
@@ -62,7 +62,7 @@ impl Track {
 fn track_at(map: &SphereMap, number: usize) -> Track
     requires map { IsSphereMap map.now }
     requires within { number < length (items (map_of map.now)) }
-    ensures track { (x : PlainItem) × At (items (map_of map.now)) number x × IsTrackOf (map_of map.now) result x }
+    ensures track { (x : PlainItem) × IsAt (items (map_of map.now)) number x × IsTrackOf (map_of map.now) result x }
 {
     match map.item_at(number) {
         Item::Arc(arc) => Track::Arc(number, map.great_arc(&arc)),
@@ -74,7 +74,7 @@ fn track_at(map: &SphereMap, number: usize) -> Track
 fn tracks_of(alloc: Global, map: &SphereMap) -> Result<Vec<Track>, OutOfMemory>
     requires map { IsSphereMap map.now }
     ensures tracks { IfOk result (λ v. AreTracks (map_of map.now) v.items) }
-    ensures small { IfOk result (λ v. AreSmall v.items) }
+    ensures small { IfOk result (λ v. AreSmallTracks v.items) }
 {
     let mut tracks = Vec::with_capacity(alloc, map.item_count())?;
     for number in 0..map.item_count() {
@@ -83,10 +83,10 @@ fn tracks_of(alloc: Global, map: &SphereMap) -> Result<Vec<Track>, OutOfMemory>
     Ok(tracks)
 }
 
-// Adds the directions of the map's svertices.
+// AddsAxes the directions of the map's svertices.
 fn add_svertices(axes: &mut Vec<Axis>, map: &SphereMap) -> Result<(), OutOfMemory>
     requires map { IsSphereMap map.now }
-    ensures added { OnOk result (Adds (IsOnSvertex (map_of map.now)) axes.old.items axes.new.items) }
+    ensures added { OnOk result (AddsAxes (IsOnSvertex (map_of map.now)) axes.old.items axes.new.items) }
 {
     for svertex in map.svertices.as_slice() {
         axes.push(Axis {
@@ -97,10 +97,10 @@ fn add_svertices(axes: &mut Vec<Axis>, map: &SphereMap) -> Result<(), OutOfMemor
     Ok(())
 }
 
-// Adds the direction if both items hold the direction.
+// AddsAxes the direction if both items hold the direction.
 fn add_common(axes: &mut Vec<Axis>, x: &Track, y: &Track, d: Dir) -> Result<(), OutOfMemory>
     requires small { IsAtMost svertex_limit (vector_of d) }
-    ensures added { OnOk result (Adds (IsMeetAlong x.now y.now (vector_of d)) axes.old.items axes.new.items) }
+    ensures added { OnOk result (AddsAxes (IsMeetAlong x.now y.now (vector_of d)) axes.old.items axes.new.items) }
 {
     if x.holds(&d) && y.holds(&d) {
         axes.push(Axis {
@@ -111,12 +111,12 @@ fn add_common(axes: &mut Vec<Axis>, x: &Track, y: &Track, d: Dir) -> Result<(), 
     Ok(())
 }
 
-// Adds the directions that both items hold, if their normals aren't parallel: then their great circles meet in two
+// AddsAxes the directions that both items hold, if their normals aren't parallel: then their great circles meet in two
 // opposite directions.
 fn add_meets(axes: &mut Vec<Axis>, x: &Track, y: &Track) -> Result<(), OutOfMemory>
-    requires x_small { IsAtMost normal_limit (normal_of x.now) }
-    requires y_small { IsAtMost normal_limit (normal_of y.now) }
-    ensures added { OnOk result (Adds (IsMeet x.now y.now) axes.old.items axes.new.items) }
+    requires x_small { IsAtMost normal_limit (track_normal x.now) }
+    requires y_small { IsAtMost normal_limit (track_normal y.now) }
+    ensures added { OnOk result (AddsAxes (IsTrackMeet x.now y.now) axes.old.items axes.new.items) }
 {
     let Some(ahead) = cross(x.normal(), y.normal()) else {
         return Ok(());
@@ -125,11 +125,11 @@ fn add_meets(axes: &mut Vec<Axis>, x: &Track, y: &Track) -> Result<(), OutOfMemo
     add_common(axes, x, y, ahead.back())
 }
 
-// Adds the directions in which the item x meets an item of ys.
+// AddsAxes the directions in which the item x meets an item of ys.
 fn add_meets_with(axes: &mut Vec<Axis>, x: &Track, ys: &[Track]) -> Result<(), OutOfMemory>
-    requires x_small { IsAtMost normal_limit (normal_of x.now) }
-    requires ys_small { AreSmall ys.now }
-    ensures added { OnOk result (Adds (MeetsOne x.now ys.now) axes.old.items axes.new.items) }
+    requires x_small { IsAtMost normal_limit (track_normal x.now) }
+    requires ys_small { AreSmallTracks ys.now }
+    ensures added { OnOk result (AddsAxes (MeetsOne x.now ys.now) axes.old.items axes.new.items) }
 {
     for y in ys {
         add_meets(axes, x, y)?;
@@ -137,11 +137,11 @@ fn add_meets_with(axes: &mut Vec<Axis>, x: &Track, ys: &[Track]) -> Result<(), O
     Ok(())
 }
 
-// Adds the directions in which an item of xs meets an item of ys.
+// AddsAxes the directions in which an item of xs meets an item of ys.
 fn add_crossings(axes: &mut Vec<Axis>, xs: &[Track], ys: &[Track]) -> Result<(), OutOfMemory>
-    requires xs_small { AreSmall xs.now }
-    requires ys_small { AreSmall ys.now }
-    ensures added { OnOk result (Adds (MeetsSome xs.now ys.now) axes.old.items axes.new.items) }
+    requires xs_small { AreSmallTracks xs.now }
+    requires ys_small { AreSmallTracks ys.now }
+    ensures added { OnOk result (AddsAxes (MeetsSome xs.now ys.now) axes.old.items axes.new.items) }
 {
     for x in xs {
         add_meets_with(axes, x, ys)?;

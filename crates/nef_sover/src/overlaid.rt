@@ -1,22 +1,22 @@
 //! Two maps overlaid: the stars of all axes, and the sloop on which no axis lies.
 
 ghost use Rattle.std.specs.Prelude.{◌<◌, ◌⊎◌, ◌≡◌, ◌↔◌};
-ghost use Rattle.nef_geo.specs.Prelude.{length, IfOk, MatchOption, IsTrue, Some, option_map, svertex_limit, normal_limit, IsAtMost, IsNormal, vector_of};
+ghost use Rattle.nef_geo.specs.Prelude.{length, IfOk, MatchOption, IsTrue, Some, option_map, svertex_limit, normal_limit, IsAtMost, IsNormal, vector_of, IsAt};
 ghost use Rattle.nef_geo.specs.declared.dir.Dir.{Dir};
-ghost use Rattle.law_sphere.specs.Maps.{At, Item as PlainItem, items, MapSloop};
-ghost use Rattle.law_build.specs.Overlays.{Raw, HasItem, IsMergedGround, IsLoneSloop, IsMergedSloop};
+ghost use Rattle.law_sphere.specs.Maps.{Item as PlainItem, items, MapSloop};
+ghost use Rattle.law_build.specs.Overlays.{Raw, HasSvertexOrSloop, IsMergedGround, IsLoneSloop, IsMergedSloop};
 ghost use Rattle.nef_star.specs.Ops.{op_label};
 ghost use Rattle.nef_smap.specs.Maps.{map_of, raw_of, IsSphereMap, IsRawStars, sloop_of};
-ghost use Rattle.nef_sover.specs.Axes.{AreAxes, IsPlaced};
-ghost use Rattle.nef_sover.specs.Merged.{IsLineOf, IsMergedAt, AreMerged};
+ghost use Rattle.nef_sover.specs.Axes.{AreAxes, CrossesAt};
+ghost use Rattle.nef_sover.specs.Merged.{AreCircleLabelsOf, IsMergedAt, AreMerged};
 ghost use Rattle.nef_smap.specs.declared.map.SLoop.{SLoop};
-ghost use Rattle.nef_sover.specs.Circles.{AreOff, IsBareNormal, IsUncrossed, HasLabels, IsLoneNormal};
+ghost use Rattle.nef_sover.specs.Circles.{AreOff, IsBareNormal, IsUncrossed, HasCircleLabels, IsLoneNormal};
 
 use crate::OutOfMemory;
 use crate::axes::{Axis, axes_of};
 use nef_geo::{Dir, Label, List};
 use nef_smap::{RawStars, SLoop, SphereMap, on_circle, star_at};
-use nef_star::{Line, Op, Star, crossed, merge};
+use nef_star::{CircleLabels, Op, Star, crossed, merge};
 use std::alloc::Global;
 
 // Whether no axis lies on the sloop.
@@ -79,7 +79,7 @@ fn labels_along(alloc: Global, map: &SphereMap, normal: &Dir) -> Result<SLoop, O
     requires small { IsAtMost normal_limit (vector_of normal.now) }
     requires normal { IsNormal (vector_of normal.now) }
     requires uncrossed { IsUncrossed (map_of map.now) (vector_of normal.now) }
-    ensures labels { IfOk result (HasLabels (map_of map.now) (vector_of normal.now)) }
+    ensures labels { IfOk result (HasCircleLabels (map_of map.now) (vector_of normal.now)) }
 {
     if let Some(sloop) = sloop_with(map, normal) {
         return Ok(sloop);
@@ -122,12 +122,12 @@ fn merged_sloop(
 }
 
 // The great circle of the item with this number, near a direction on the item.
-fn line(map: &SphereMap, number: usize) -> Line
+fn line(map: &SphereMap, number: usize) -> CircleLabels
     requires within { number < length (items (map_of map.now)) }
-    ensures line { (x : PlainItem) × At (items (map_of map.now)) number x × IsLineOf x result }
+    ensures line { (x : PlainItem) × IsAt (items (map_of map.now)) number x × AreCircleLabelsOf x result }
 {
     let item = map.item_at(number);
-    Line {
+    CircleLabels {
         normal: *item.normal(),
         mark: item.mark(),
         pos: item.label(true),
@@ -146,7 +146,7 @@ fn merged_star(
     requires first { IsSphereMap a.now }
     requires second { IsSphereMap b.now }
     requires small { IsAtMost svertex_limit (vector_of axis.now.dir) }
-    requires placed { IsPlaced (map_of a.now) (map_of b.now) axis.now.crossed (vector_of axis.now.dir) }
+    requires placed { CrossesAt (map_of a.now) (map_of b.now) axis.now.crossed (vector_of axis.now.dir) }
     ensures merged { IfOk result (IsMergedAt (map_of a.now) (map_of b.now) (op_label op) axis.now.dir) }
 {
     if let Some(numbers) = axis.crossed {
@@ -182,7 +182,7 @@ fn merged_stars(
 fn merged_ground(a: &SphereMap, b: &SphereMap, op: Op) -> Option<Label>
     requires first { IsSphereMap a.now }
     requires second { IsSphereMap b.now }
-    ensures ground { MatchOption result (HasItem (map_of a.now) ⊎ HasItem (map_of b.now)) (IsMergedGround (map_of a.now) (map_of b.now) (op_label op)) }
+    ensures ground { MatchOption result (HasSvertexOrSloop (map_of a.now) ⊎ HasSvertexOrSloop (map_of b.now)) (IsMergedGround (map_of a.now) (map_of b.now) (op_label op)) }
 {
     match (a.ground, b.ground) {
         (Some(first), Some(second)) => Some(op.label(first, second)),

@@ -1,7 +1,7 @@
 -- The small facts on the definitions.
 use Rattle.nef_space.proofs.Prelude.{◌≡◌, ℕ, ◌+◌, ◌*◌, ◌<◌, pos, negsuc, ◌+ℤ◌, ◌-ℤ◌, ◌*ℤ◌, nat_abs, arith, ap, ints}
 use Rattle.nef_space.specs.Limits.{half_side}
-use Rattle.nef_space.specs.Place.{Place}
+use Rattle.nef_space.specs.Points.{SpacePoint}
 use Rattle.nef_space.specs.Sets.{Holds}
 use Rattle.nef_space.specs.Laws.{InteriorOfWhole, OpenHalfAtBoundary, ClosureAtBoundary, MissingPoint, GermBesideHalf}
 
@@ -13,7 +13,7 @@ pub not-at_origin : OpenHalfAtBoundary
 unfolding Holds
 not-at_origin h = omega (arith, ints)
 
-abbrev beside : ℕ → Place
+abbrev beside : ℕ → SpacePoint
 beside n = record { x = negsuc 0; y = pos 0; z = pos 0; w = n + 1; proper = omega arith }
 
 pub closure-at_origin : ClosureAtBoundary

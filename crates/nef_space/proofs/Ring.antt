@@ -1,5 +1,5 @@
 -- Equations between polynomials with whole coefficients, decided by computation.
-use Rattle.nef_space.proofs.Prelude.{◌≡◌, ℕ, ℤ, pos, negsuc, ◌+ℤ◌, ◌*ℤ◌, neg_ℤ, arith, refl, ap, sym, ◌∙◌, Bool, true, false, ◌&&◌, T, ltb, eqb, List, [], ◌∷◌, ◌++◌, ints, put, put_all, Term, times_term, times, negated, terms, Tree, leaf, node, KeyOrder, key_less, key_same, key_more, order, gather_term, gather, is_nought, all_nought}
+use Rattle.nef_space.proofs.Prelude.{◌≡◌, ℕ, ℤ, pos, negsuc, ◌+ℤ◌, ◌*ℤ◌, neg_ℤ, arith, refl, ap, sym, ◌∙◌, Bool, true, false, ◌&&◌, T, ltb, eqb, List, [], ◌∷◌, ◌++◌, ints, insert_variable, insert_variables, Term, times_term, times_terms, negated_terms, terms, Tree, leaf, node, KeyOrder, key_less, key_same, key_more, order_keys, gather_term, gather_terms, is_nought, all_nought}
 use Rattle.std.proofs.lemmas.Bool.{eqb-true}
 use Rattle.nef_space.proofs.Products.{*ℤ_distribute, *ℤ_assoc, neg-*ℤ}
 pub use Rattle.nef_space.specs.Polynomial.{Poly, at, num, neg, ◌⊕◌, ◌⊖◌, ◌⊗◌, entry, value, IsNought}
@@ -28,23 +28,23 @@ distribute_right a b c = *ℤ_comm (a +ℤ b) c ∙ *ℤ_distribute c a b ∙ ap
 one_times : (a : ℤ) → pos 1 *ℤ a ≡ a
 one_times a = omega (arith, ints)
 
-put-value : (xs : List ℤ) (n : ℕ) (m : List ℕ) → product xs (put n m) ≡ entry xs n *ℤ product xs m
+put-value : (xs : List ℤ) (n : ℕ) (m : List ℕ) → product xs (insert_variable n m) ≡ entry xs n *ℤ product xs m
 put-value xs n [] = refl
 put-value xs n (k ∷ m) = by (ltb k n) (put-value xs n m)
   where
-    by : (t : Bool) → product xs (put n m) ≡ entry xs n *ℤ product xs m → product xs (elim t [ true ↦ k ∷ put n m | false ↦ n ∷ k ∷ m ]) ≡ entry xs n *ℤ (entry xs k *ℤ product xs m)
+    by : (t : Bool) → product xs (insert_variable n m) ≡ entry xs n *ℤ product xs m → product xs (elim t [ true ↦ k ∷ insert_variable n m | false ↦ n ∷ k ∷ m ]) ≡ entry xs n *ℤ (entry xs k *ℤ product xs m)
     by true h = ap (λ z. entry xs k *ℤ z) h ∙ swap (entry xs k) (entry xs n) (product xs m)
     by false h = refl
 
-put_all-value : (xs : List ℤ) (l m : List ℕ) → product xs (put_all l m) ≡ product xs l *ℤ product xs m
-put_all-value xs [] m = sym (one_times (product xs m))
-put_all-value xs (n ∷ l) m = put-value xs n (put_all l m) ∙ ap (λ z. entry xs n *ℤ z) (put_all-value xs l m) ∙ sym (*ℤ_assoc (entry xs n) (product xs l) (product xs m))
+insert_variables-value : (xs : List ℤ) (l m : List ℕ) → product xs (insert_variables l m) ≡ product xs l *ℤ product xs m
+insert_variables-value xs [] m = sym (one_times (product xs m))
+insert_variables-value xs (n ∷ l) m = put-value xs n (insert_variables l m) ∙ ap (λ z. entry xs n *ℤ z) (insert_variables-value xs l m) ∙ sym (*ℤ_assoc (entry xs n) (product xs l) (product xs m))
 
 append-value : (xs : List ℤ) (ts ss : List Term) → terms_value xs (ts ++ ss) ≡ terms_value xs ts +ℤ terms_value xs ss
 append-value xs [] ss = omega (arith, ints)
 append-value xs (t ∷ ts) ss = let h = append-value xs ts ss in omega (arith, ints)
 
-negated-value : (xs : List ℤ) (ts : List Term) → terms_value xs (negated ts) ≡ neg_ℤ (terms_value xs ts)
+negated-value : (xs : List ℤ) (ts : List Term) → terms_value xs (negated_terms ts) ≡ neg_ℤ (terms_value xs ts)
 negated-value xs [] = refl
 negated-value xs (t ∷ ts) = let h = negated-value xs ts in let e = neg-*ℤ t.by (product xs t.of) in omega (arith, ints)
 
@@ -52,32 +52,32 @@ times_term-value : (xs : List ℤ) (t : Term) (ss : List Term) → terms_value x
 times_term-value xs t [] = sym (*ℤ-zero (term_value xs t))
 times_term-value xs t (s ∷ ss) =
     let h = times_term-value xs t ss in
-    let e = ap (λ z. t.by *ℤ s.by *ℤ z) (put_all-value xs t.of s.of) ∙ *ℤ_assoc t.by s.by (product xs t.of *ℤ product xs s.of) ∙ ap (λ z. t.by *ℤ z) (swap s.by (product xs t.of) (product xs s.of)) ∙ sym (*ℤ_assoc t.by (product xs t.of) (s.by *ℤ product xs s.of)) in
+    let e = ap (λ z. t.by *ℤ s.by *ℤ z) (insert_variables-value xs t.of s.of) ∙ *ℤ_assoc t.by s.by (product xs t.of *ℤ product xs s.of) ∙ ap (λ z. t.by *ℤ z) (swap s.by (product xs t.of) (product xs s.of)) ∙ sym (*ℤ_assoc t.by (product xs t.of) (s.by *ℤ product xs s.of)) in
     ap (λ z. z +ℤ terms_value xs (times_term t ss)) e ∙ ap (λ z. term_value xs t *ℤ term_value xs s +ℤ z) h ∙ sym (*ℤ_distribute (term_value xs t) (term_value xs s) (terms_value xs ss))
 
-times-value : (xs : List ℤ) (ts ss : List Term) → terms_value xs (times ts ss) ≡ terms_value xs ts *ℤ terms_value xs ss
+times-value : (xs : List ℤ) (ts ss : List Term) → terms_value xs (times_terms ts ss) ≡ terms_value xs ts *ℤ terms_value xs ss
 times-value xs [] ss = sym (zero-*ℤ (terms_value xs ss))
-times-value xs (t ∷ ts) ss = append-value xs (times_term t ss) (times ts ss) ∙ ap (λ z. z +ℤ terms_value xs (times ts ss)) (times_term-value xs t ss) ∙ ap (λ z. term_value xs t *ℤ terms_value xs ss +ℤ z) (times-value xs ts ss) ∙ sym (distribute_right (term_value xs t) (terms_value xs ts) (terms_value xs ss))
+times-value xs (t ∷ ts) ss = append-value xs (times_term t ss) (times_terms ts ss) ∙ ap (λ z. z +ℤ terms_value xs (times_terms ts ss)) (times_term-value xs t ss) ∙ ap (λ z. term_value xs t *ℤ terms_value xs ss +ℤ z) (times-value xs ts ss) ∙ sym (distribute_right (term_value xs t) (terms_value xs ts) (terms_value xs ss))
 
 terms-value : (xs : List ℤ) (p : Poly) → terms_value xs (terms p) ≡ value xs p
 terms-value xs (at n) = omega (arith, ints)
 terms-value xs (num z) = omega (arith, ints)
 terms-value xs (neg p) = negated-value xs (terms p) ∙ ap neg_ℤ (terms-value xs p)
 terms-value xs (p ⊕ q) = append-value xs (terms p) (terms q) ∙ ap (λ z. z +ℤ terms_value xs (terms q)) (terms-value xs p) ∙ ap (λ z. value xs p +ℤ z) (terms-value xs q)
-terms-value xs (p ⊖ q) = append-value xs (terms p) (negated (terms q)) ∙ ap (λ z. z +ℤ terms_value xs (negated (terms q))) (terms-value xs p) ∙ ap (λ z. value xs p +ℤ z) (negated-value xs (terms q) ∙ ap neg_ℤ (terms-value xs q))
+terms-value xs (p ⊖ q) = append-value xs (terms p) (negated_terms (terms q)) ∙ ap (λ z. z +ℤ terms_value xs (negated_terms (terms q))) (terms-value xs p) ∙ ap (λ z. value xs p +ℤ z) (negated-value xs (terms q) ∙ ap neg_ℤ (terms-value xs q))
 terms-value xs (p ⊗ q) = times-value xs (terms p) (terms q) ∙ ap (λ z. z *ℤ terms_value xs (terms q)) (terms-value xs p) ∙ ap (λ z. value xs p *ℤ z) (terms-value xs q)
 
 abbrev pub tree_value : List ℤ → Tree → ℤ
 tree_value xs leaf = pos 0
 tree_value xs (node l k w r) = tree_value xs l +ℤ (w *ℤ product xs k +ℤ tree_value xs r)
 
-order-same : (l m : List ℕ) → order l m ≡ key_same → l ≡ m
+order-same : (l m : List ℕ) → order_keys l m ≡ key_same → l ≡ m
 order-same [] [] e = refl
 order-same [] (k ∷ m) e = cc
 order-same (n ∷ l) [] e = cc
 order-same (n ∷ l) (k ∷ m) e = by (eqb n k) refl (order-same l m) e
   where
-    by : (t : Bool) → eqb n k ≡ t → (order l m ≡ key_same → l ≡ m) → elim t [ true ↦ order l m | false ↦ elim (ltb n k) [ true ↦ key_less | false ↦ key_more ] ] ≡ key_same → n ∷ l ≡ k ∷ m
+    by : (t : Bool) → eqb n k ≡ t → (order_keys l m ≡ key_same → l ≡ m) → elim t [ true ↦ order_keys l m | false ↦ elim (ltb n k) [ true ↦ key_less | false ↦ key_more ] ] ≡ key_same → n ∷ l ≡ k ∷ m
     by true q r h = ap (λ i. i ∷ l) (eqb-true n k q) ∙ ap (λ i. k ∷ i) (r h)
     by false q r h = absurd (never (ltb n k) h)
       where
@@ -87,16 +87,16 @@ order-same (n ∷ l) (k ∷ m) e = by (eqb n k) refl (order-same l m) e
 
 gather_term-value : (xs : List ℤ) (m : List ℕ) (z : ℤ) (t : Tree) → tree_value xs (gather_term m z t) ≡ z *ℤ product xs m +ℤ tree_value xs t
 gather_term-value xs m z leaf = omega (arith, ints)
-gather_term-value xs m z (node l k w r) = by (order m k) refl (gather_term-value xs m z l) (gather_term-value xs m z r)
+gather_term-value xs m z (node l k w r) = by (order_keys m k) refl (gather_term-value xs m z l) (gather_term-value xs m z r)
   where
-    by : (o : KeyOrder) → order m k ≡ o → tree_value xs (gather_term m z l) ≡ z *ℤ product xs m +ℤ tree_value xs l → tree_value xs (gather_term m z r) ≡ z *ℤ product xs m +ℤ tree_value xs r → tree_value xs (elim o [ key_less ↦ node (gather_term m z l) k w r | key_same ↦ node l k (z +ℤ w) r | key_more ↦ node l k w (gather_term m z r) ]) ≡ z *ℤ product xs m +ℤ tree_value xs (node l k w r)
+    by : (o : KeyOrder) → order_keys m k ≡ o → tree_value xs (gather_term m z l) ≡ z *ℤ product xs m +ℤ tree_value xs l → tree_value xs (gather_term m z r) ≡ z *ℤ product xs m +ℤ tree_value xs r → tree_value xs (elim o [ key_less ↦ node (gather_term m z l) k w r | key_same ↦ node l k (z +ℤ w) r | key_more ↦ node l k w (gather_term m z r) ]) ≡ z *ℤ product xs m +ℤ tree_value xs (node l k w r)
     by key_less e f g = omega (arith, ints)
     by key_same e f g = let q = ap (product xs) (order-same m k e) in let d = distribute_right z w (product xs k) in let h = ap (λ i. z *ℤ i) q in omega (arith, ints)
     by key_more e f g = omega (arith, ints)
 
-gather-value : (xs : List ℤ) (ts : List Term) → tree_value xs (gather ts) ≡ terms_value xs ts
+gather-value : (xs : List ℤ) (ts : List Term) → tree_value xs (gather_terms ts) ≡ terms_value xs ts
 gather-value xs [] = refl
-gather-value xs (t ∷ ts) = gather_term-value xs t.of t.by (gather ts) ∙ ap (λ z. t.by *ℤ product xs t.of +ℤ z) (gather-value xs ts)
+gather-value xs (t ∷ ts) = gather_term-value xs t.of t.by (gather_terms ts) ∙ ap (λ z. t.by *ℤ product xs t.of +ℤ z) (gather-value xs ts)
 
 both : (a b : Bool) → T (a && b) → T a × T b
 both true true h = (tt, tt)
@@ -120,7 +120,7 @@ all_nought-value xs (node l k w r) h =
 
 -- a polynomial whose gathered terms are all nought is nought everywhere
 pub is_zero : (xs : List ℤ) (p : Poly) → IsNought p → value xs p ≡ pos 0
-is_zero xs p h = sym (terms-value xs p) ∙ sym (gather-value xs (terms p)) ∙ all_nought-value xs (gather (terms p)) h
+is_zero xs p h = sym (terms-value xs p) ∙ sym (gather-value xs (terms p)) ∙ all_nought-value xs (gather_terms (terms p)) h
 
 -- two polynomials whose difference gathers to nought are equal everywhere
 pub ring : (xs : List ℤ) (p q : Poly) → IsNought (p ⊖ q) → value xs p ≡ value xs q

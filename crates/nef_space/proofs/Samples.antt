@@ -4,7 +4,7 @@ use lib.IntN.{*ℤ-zero, zero-*ℤ}
 use Rattle.nef_space.proofs.Ring.{ring, at, num, ◌⊕◌, ◌⊖◌, ◌⊗◌}
 pub use Rattle.nef_space.specs.Signs.{Lies}
 pub use Rattle.nef_space.proofs.Lists.{each, pairs, lies-left, lies-right, lies-each, lies-pairs, lies-append}
-pub use Rattle.nef_space.specs.Linear.{dot, IsPoint}
+pub use Rattle.nef_space.specs.Linear.{dot_list, IsPoint}
 use Rattle.nef_space.proofs.Products.{neg-*ℤ}
 use Rattle.nef_space.proofs.Order.{sign, sign_times, sign-plus, sign-minus, sign_of_product, mul_pos, mul_nonneg, mul_lt_right, by_order, sign-scaled, sign-turned}
 use Rattle.nef_space.proofs.Fractions.{fraction-le-trans}
@@ -14,27 +14,27 @@ stretch k [] = []
 stretch k (x ∷ u) = (k *ℤ x) ∷ stretch k u
 
 -- a f + b g
-abbrev pub comb : ℤ → List ℤ → ℤ → List ℤ → List ℤ
-comb a [] b g = stretch b g
-comb a (x ∷ f) b [] = stretch a (x ∷ f)
-comb a (x ∷ f) b (y ∷ g) = (a *ℤ x +ℤ b *ℤ y) ∷ comb a f b g
+abbrev pub comb_lists : ℤ → List ℤ → ℤ → List ℤ → List ℤ
+comb_lists a [] b g = stretch b g
+comb_lists a (x ∷ f) b [] = stretch a (x ∷ f)
+comb_lists a (x ∷ f) b (y ∷ g) = (a *ℤ x +ℤ b *ℤ y) ∷ comb_lists a f b g
 
-pub dot-stretch_left : (k : ℤ) (f u : List ℤ) → dot (stretch k f) u ≡ k *ℤ dot f u
+pub dot-stretch_left : (k : ℤ) (f u : List ℤ) → dot_list (stretch k f) u ≡ k *ℤ dot_list f u
 dot-stretch_left k [] u = sym (*ℤ-zero k)
 dot-stretch_left k (a ∷ f) [] = sym (*ℤ-zero k)
-dot-stretch_left k (a ∷ f) (x ∷ u) = ap (λ z. k *ℤ a *ℤ x +ℤ z) (dot-stretch_left k f u) ∙ ring (k ∷ a ∷ x ∷ dot f u ∷ []) (at 0 ⊗ at 1 ⊗ at 2 ⊕ at 0 ⊗ at 3) (at 0 ⊗ (at 1 ⊗ at 2 ⊕ at 3)) tt
+dot-stretch_left k (a ∷ f) (x ∷ u) = ap (λ z. k *ℤ a *ℤ x +ℤ z) (dot-stretch_left k f u) ∙ ring (k ∷ a ∷ x ∷ dot_list f u ∷ []) (at 0 ⊗ at 1 ⊗ at 2 ⊕ at 0 ⊗ at 3) (at 0 ⊗ (at 1 ⊗ at 2 ⊕ at 3)) tt
 
-pub dot-stretch_right : (k : ℤ) (f u : List ℤ) → dot f (stretch k u) ≡ k *ℤ dot f u
+pub dot-stretch_right : (k : ℤ) (f u : List ℤ) → dot_list f (stretch k u) ≡ k *ℤ dot_list f u
 dot-stretch_right k [] u = sym (*ℤ-zero k)
 dot-stretch_right k (a ∷ f) [] = sym (*ℤ-zero k)
-dot-stretch_right k (a ∷ f) (x ∷ u) = ap (λ z. a *ℤ (k *ℤ x) +ℤ z) (dot-stretch_right k f u) ∙ ring (k ∷ a ∷ x ∷ dot f u ∷ []) (at 1 ⊗ (at 0 ⊗ at 2) ⊕ at 0 ⊗ at 3) (at 0 ⊗ (at 1 ⊗ at 2 ⊕ at 3)) tt
+dot-stretch_right k (a ∷ f) (x ∷ u) = ap (λ z. a *ℤ (k *ℤ x) +ℤ z) (dot-stretch_right k f u) ∙ ring (k ∷ a ∷ x ∷ dot_list f u ∷ []) (at 1 ⊗ (at 0 ⊗ at 2) ⊕ at 0 ⊗ at 3) (at 0 ⊗ (at 1 ⊗ at 2 ⊕ at 3)) tt
 
-pub dot-comb : (a : ℤ) (f : List ℤ) (b : ℤ) (g u : List ℤ) → dot (comb a f b g) u ≡ a *ℤ dot f u +ℤ b *ℤ dot g u
-dot-comb a [] b g u = dot-stretch_left b g u ∙ ring (a ∷ b ∷ dot g u ∷ []) (at 1 ⊗ at 2) (at 0 ⊗ num (pos 0) ⊕ at 1 ⊗ at 2) tt
-dot-comb a (x ∷ f) b [] u = dot-stretch_left a (x ∷ f) u ∙ ring (a ∷ b ∷ dot (x ∷ f) u ∷ []) (at 0 ⊗ at 2) (at 0 ⊗ at 2 ⊕ at 1 ⊗ num (pos 0)) tt
+pub dot-comb : (a : ℤ) (f : List ℤ) (b : ℤ) (g u : List ℤ) → dot_list (comb_lists a f b g) u ≡ a *ℤ dot_list f u +ℤ b *ℤ dot_list g u
+dot-comb a [] b g u = dot-stretch_left b g u ∙ ring (a ∷ b ∷ dot_list g u ∷ []) (at 1 ⊗ at 2) (at 0 ⊗ num (pos 0) ⊕ at 1 ⊗ at 2) tt
+dot-comb a (x ∷ f) b [] u = dot-stretch_left a (x ∷ f) u ∙ ring (a ∷ b ∷ dot_list (x ∷ f) u ∷ []) (at 0 ⊗ at 2) (at 0 ⊗ at 2 ⊕ at 1 ⊗ num (pos 0)) tt
 dot-comb a (x ∷ f) b (y ∷ g) [] = ring (a ∷ b ∷ []) (num (pos 0)) (at 0 ⊗ num (pos 0) ⊕ at 1 ⊗ num (pos 0)) tt
 dot-comb a (x ∷ f) b (y ∷ g) (z ∷ u) = ap (λ r. (a *ℤ x +ℤ b *ℤ y) *ℤ z +ℤ r) (dot-comb a f b g u)
-    ∙ ring (a ∷ b ∷ x ∷ y ∷ z ∷ dot f u ∷ dot g u ∷ []) ((at 0 ⊗ at 2 ⊕ at 1 ⊗ at 3) ⊗ at 4 ⊕ (at 0 ⊗ at 5 ⊕ at 1 ⊗ at 6)) (at 0 ⊗ (at 2 ⊗ at 4 ⊕ at 5) ⊕ at 1 ⊗ (at 3 ⊗ at 4 ⊕ at 6)) tt
+    ∙ ring (a ∷ b ∷ x ∷ y ∷ z ∷ dot_list f u ∷ dot_list g u ∷ []) ((at 0 ⊗ at 2 ⊕ at 1 ⊗ at 3) ⊗ at 4 ⊕ (at 0 ⊗ at 5 ⊕ at 1 ⊗ at 6)) (at 0 ⊗ (at 2 ⊗ at 4 ⊕ at 5) ⊕ at 1 ⊗ (at 3 ⊗ at 4 ⊕ at 6)) tt
 
 -- ---- one variable: a place n/d for it, where the other variables give n
 pub record Root : Type 0 where
@@ -60,7 +60,7 @@ roots [] = []
 roots (k ∷ ks) = root_of (head k) (tail k) ++ roots ks
 
 abbrev pub root_value : Root → List ℤ → ℤ
-root_value s u = dot s.form u
+root_value s u = dot_list s.form u
 
 -- in plain numbers: the root n/d lies below z, and is at most n1/d1; then n1/d1 + 1 lies above it
 above-one : (d n d1 n1 w : ℤ) → pos 0 <ℤ d → pos 0 <ℤ d1 → pos 0 <ℤ w → (n *ℤ d1) ≤ℤ (n1 *ℤ d) → pos 0 <ℤ (d *ℤ (n1 +ℤ d1 *ℤ w) -ℤ d1 *ℤ n)
@@ -186,7 +186,7 @@ abbrev pub unit : ℕ → List ℤ
 unit zero = pos 1 ∷ []
 unit (suc n) = pos 0 ∷ unit n
 
-unit-value : (n : ℕ) (u : List ℤ) → IsPoint n u → pos 0 <ℤ dot (unit n) u
+unit-value : (n : ℕ) (u : List ℤ) → IsPoint n u → pos 0 <ℤ dot_list (unit n) u
 unit-value n [] h = absurd h
 unit-value zero (w ∷ []) h = omega (arith, ints)
 unit-value zero (w ∷ x ∷ u) h = absurd h
@@ -199,13 +199,13 @@ stretch-point zero k (w ∷ x ∷ u) p h = h
 stretch-point (suc n) k (x ∷ u) p h = stretch-point n k u p h
 
 abbrev pub more : ℕ → Root → Root
-more n s = record { over = s.over; form = comb (pos 1) s.form (pos s.over) (unit n) }
+more n s = record { over = s.over; form = comb_lists (pos 1) s.form (pos s.over) (unit n) }
 
 abbrev pub fewer : ℕ → Root → Root
-fewer n s = record { over = s.over; form = comb (pos 1) s.form (neg_ℤ (pos s.over)) (unit n) }
+fewer n s = record { over = s.over; form = comb_lists (pos 1) s.form (neg_ℤ (pos s.over)) (unit n) }
 
 abbrev pub middle : Root → Root → Root
-middle s t = record { over = 2 * s.over * t.over; form = comb (pos t.over) s.form (pos s.over) t.form }
+middle s t = record { over = 2 * s.over * t.over; form = comb_lists (pos t.over) s.form (pos s.over) t.form }
 
 abbrev pub candidates : ℕ → List Root → List Root
 candidates n ss = record { over = 1; form = [] } ∷ (ss ++ (each (more n) ss ++ (each (fewer n) ss ++ pairs middle ss ss)))
@@ -228,7 +228,7 @@ same_side n ss u z p h = ⊎_elim
         let i = ap (λ r. pos t.over *ℤ r -ℤ pos s.over *ℤ root_value t u) e ∙ ring (pos t.over ∷ pos s.over ∷ z ∷ root_value t u ∷ []) (at 0 ⊗ (at 1 ⊗ at 2) ⊖ at 1 ⊗ at 3) (at 1 ⊗ (at 0 ⊗ at 2 ⊖ at 3)) tt in
         sym (ap sign i ∙ sign_of_product (pos s.over) x ∙ ap (λ r. sign_times r (sign x)) (sign-plus (pos s.over) (omega (arith, ints))))
 
-    wp : pos 0 <ℤ dot (unit n) u
+    wp : pos 0 <ℤ dot_list (unit n) u
     wp = unit-value n u h
 
     both-plus : (a c : ℤ) → pos 0 <ℤ a → pos 0 <ℤ c → sign a ≡ sign c
@@ -244,8 +244,8 @@ same_side n ss u z p h = ⊎_elim
       listed = inr (lies-right ss (each (more n) ss ++ (each (fewer n) ss ++ pairs middle ss ss)) (more n lo) (lies-left (each (more n) ss) (each (fewer n) ss ++ pairs middle ss ss) (more n lo) (lies-each (more n) ss lo l)));
       some = p lo l;
       same = λ s m. ⊎_elim
-          (λ d. let a = above-one (pos s.over) (root_value s u) (pos lo.over) (root_value lo u) (dot (unit n) u) (let q = p s m in omega (arith, ints)) (let q = p lo l in omega (arith, ints)) wp (f s m d) in
-          let e = dot-comb (pos 1) lo.form (pos lo.over) (unit n) u ∙ ring (root_value lo u ∷ pos lo.over ∷ dot (unit n) u ∷ []) (num (pos 1) ⊗ at 0 ⊕ at 1 ⊗ at 2) (at 0 ⊕ at 1 ⊗ at 2) tt in
+          (λ d. let a = above-one (pos s.over) (root_value s u) (pos lo.over) (root_value lo u) (dot_list (unit n) u) (let q = p s m in omega (arith, ints)) (let q = p lo l in omega (arith, ints)) wp (f s m d) in
+          let e = dot-comb (pos 1) lo.form (pos lo.over) (unit n) u ∙ ring (root_value lo u ∷ pos lo.over ∷ dot_list (unit n) u ∷ []) (num (pos 1) ⊗ at 0 ⊕ at 1 ⊗ at 2) (at 0 ⊕ at 1 ⊗ at 2) tt in
           both-plus (pos s.over *ℤ z -ℤ root_value s u) (pos s.over *ℤ root_value (more n lo) u -ℤ pos lo.over *ℤ root_value s u) (omega (arith, ints))
           (subst (λ (r : ℤ). pos 0 <ℤ (pos s.over *ℤ r -ℤ pos lo.over *ℤ root_value s u)) (sym e) a))
           (λ d. absurd (g s m d)) (apart s m);
@@ -256,8 +256,8 @@ same_side n ss u z p h = ⊎_elim
       some = p hi l;
       same = λ s m. ⊎_elim
           (λ d. absurd (f s m d))
-          (λ d. let a = below-one (pos s.over) (root_value s u) (pos hi.over) (root_value hi u) (dot (unit n) u) (let q = p s m in omega (arith, ints)) (let q = p hi l in omega (arith, ints)) wp (g s m d) in
-          let e = dot-comb (pos 1) hi.form (neg_ℤ (pos hi.over)) (unit n) u ∙ negated (root_value hi u) (pos hi.over) (dot (unit n) u) in
+          (λ d. let a = below-one (pos s.over) (root_value s u) (pos hi.over) (root_value hi u) (dot_list (unit n) u) (let q = p s m in omega (arith, ints)) (let q = p hi l in omega (arith, ints)) wp (g s m d) in
+          let e = dot-comb (pos 1) hi.form (neg_ℤ (pos hi.over)) (unit n) u ∙ negated (root_value hi u) (pos hi.over) (dot_list (unit n) u) in
           both-minus (pos s.over *ℤ z -ℤ root_value s u) (pos s.over *ℤ root_value (fewer n hi) u -ℤ pos hi.over *ℤ root_value s u) (omega (arith, ints))
           (subst (λ (r : ℤ). (pos s.over *ℤ r -ℤ pos hi.over *ℤ root_value s u) <ℤ pos 0) (sym e) a))
           (apart s m);
@@ -285,25 +285,25 @@ same_side n ss u z p h = ⊎_elim
 -- c z + f u and c n + d (f u), with n the value of the spot m and d what it is over
 head-sign : (c : ℤ) (f u : List ℤ) (z : ℤ) (m : Root) → 0 < m.over
     → ((s : Root) → Lies (root_of c f) s → sign (pos s.over *ℤ z -ℤ root_value s u) ≡ sign (pos s.over *ℤ root_value m u -ℤ pos m.over *ℤ root_value s u))
-    → sign (c *ℤ z +ℤ dot f u) ≡ sign (c *ℤ root_value m u +ℤ pos m.over *ℤ dot f u)
+    → sign (c *ℤ z +ℤ dot_list f u) ≡ sign (c *ℤ root_value m u +ℤ pos m.over *ℤ dot_list f u)
 head-sign (pos zero) f u z m p same =
-    let e = ring (z ∷ dot f u ∷ []) (num (pos 0) ⊗ at 0 ⊕ at 1) (at 1) tt in
-    let g = ring (root_value m u ∷ dot f u ∷ pos m.over ∷ []) (num (pos 0) ⊗ at 0 ⊕ at 2 ⊗ at 1) (at 2 ⊗ at 1) tt in
-    ap sign e ∙ sym (ap sign g ∙ sign-scaled (pos m.over) (dot f u) (omega (arith, ints)))
+    let e = ring (z ∷ dot_list f u ∷ []) (num (pos 0) ⊗ at 0 ⊕ at 1) (at 1) tt in
+    let g = ring (root_value m u ∷ dot_list f u ∷ pos m.over ∷ []) (num (pos 0) ⊗ at 0 ⊕ at 2 ⊗ at 1) (at 2 ⊗ at 1) tt in
+    ap sign e ∙ sym (ap sign g ∙ sign-scaled (pos m.over) (dot_list f u) (omega (arith, ints)))
 head-sign (pos (suc c)) f u z m p same =
     let h = same (record { over = suc c; form = stretch (negsuc 0) f }) (inl refl) in
     let e = dot-stretch_left (negsuc 0) f u in
-    let i = ap (λ r. pos (suc c) *ℤ z -ℤ r) e ∙ ring (pos (suc c) ∷ z ∷ dot f u ∷ []) (at 0 ⊗ at 1 ⊖ num (negsuc 0) ⊗ at 2) (at 0 ⊗ at 1 ⊕ at 2) tt in
-    let j = ap (λ r. pos (suc c) *ℤ root_value m u -ℤ pos m.over *ℤ r) e ∙ ring (pos (suc c) ∷ root_value m u ∷ dot f u ∷ pos m.over ∷ []) (at 0 ⊗ at 1 ⊖ at 3 ⊗ (num (negsuc 0) ⊗ at 2)) (at 0 ⊗ at 1 ⊕ at 3 ⊗ at 2) tt in
+    let i = ap (λ r. pos (suc c) *ℤ z -ℤ r) e ∙ ring (pos (suc c) ∷ z ∷ dot_list f u ∷ []) (at 0 ⊗ at 1 ⊖ num (negsuc 0) ⊗ at 2) (at 0 ⊗ at 1 ⊕ at 2) tt in
+    let j = ap (λ r. pos (suc c) *ℤ root_value m u -ℤ pos m.over *ℤ r) e ∙ ring (pos (suc c) ∷ root_value m u ∷ dot_list f u ∷ pos m.over ∷ []) (at 0 ⊗ at 1 ⊖ at 3 ⊗ (num (negsuc 0) ⊗ at 2)) (at 0 ⊗ at 1 ⊕ at 3 ⊗ at 2) tt in
     ap sign (sym i) ∙ h ∙ ap sign j
 head-sign (negsuc c) f u z m p same =
-    let h = sign-turned (pos (suc c) *ℤ z -ℤ dot f u) (pos (suc c) *ℤ root_value m u -ℤ pos m.over *ℤ dot f u) (same (record { over = suc c; form = f }) (inl refl)) in
+    let h = sign-turned (pos (suc c) *ℤ z -ℤ dot_list f u) (pos (suc c) *ℤ root_value m u -ℤ pos m.over *ℤ dot_list f u) (same (record { over = suc c; form = f }) (inl refl)) in
     let n : negsuc c ≡ pos 0 -ℤ pos (suc c) = omega (arith, ints) in
-    let i = ap (λ r. r *ℤ z +ℤ dot f u) n ∙ ring (pos (suc c) ∷ z ∷ dot f u ∷ []) ((num (pos 0) ⊖ at 0) ⊗ at 1 ⊕ at 2) (num (negsuc 0) ⊗ (at 0 ⊗ at 1 ⊖ at 2)) tt in
-    let j = ap (λ r. r *ℤ root_value m u +ℤ pos m.over *ℤ dot f u) n ∙ ring (pos (suc c) ∷ root_value m u ∷ dot f u ∷ pos m.over ∷ []) ((num (pos 0) ⊖ at 0) ⊗ at 1 ⊕ at 3 ⊗ at 2) (num (negsuc 0) ⊗ (at 0 ⊗ at 1 ⊖ at 3 ⊗ at 2)) tt in
+    let i = ap (λ r. r *ℤ z +ℤ dot_list f u) n ∙ ring (pos (suc c) ∷ z ∷ dot_list f u ∷ []) ((num (pos 0) ⊖ at 0) ⊗ at 1 ⊕ at 2) (num (negsuc 0) ⊗ (at 0 ⊗ at 1 ⊖ at 2)) tt in
+    let j = ap (λ r. r *ℤ root_value m u +ℤ pos m.over *ℤ dot_list f u) n ∙ ring (pos (suc c) ∷ root_value m u ∷ dot_list f u ∷ pos m.over ∷ []) ((num (pos 0) ⊖ at 0) ⊗ at 1 ⊕ at 3 ⊗ at 2) (num (negsuc 0) ⊗ (at 0 ⊗ at 1 ⊖ at 3 ⊗ at 2)) tt in
     ap sign i ∙ h ∙ sym (ap sign j)
 
-dot-split : (k : List ℤ) (z : ℤ) (u : List ℤ) → dot k (z ∷ u) ≡ head k *ℤ z +ℤ dot (tail k) u
+dot-split : (k : List ℤ) (z : ℤ) (u : List ℤ) → dot_list k (z ∷ u) ≡ head k *ℤ z +ℤ dot_list (tail k) u
 dot-split [] z u = ring (z ∷ []) (num (pos 0)) (num (pos 0) ⊗ at 0 ⊕ num (pos 0)) tt
 dot-split (c ∷ f) z u = refl
 
@@ -326,7 +326,7 @@ roots-proper (k ∷ ks) s l = ⊎_elim (root-proper (head k) (tail k) s) (roots-
 -- ---- all variables
 -- the form k where the first variable stands at the spot m
 abbrev pub placed : Root → List ℤ → List ℤ
-placed m k = comb (head k) m.form (pos m.over) (tail k)
+placed m k = comb_lists (head k) m.form (pos m.over) (tail k)
 
 abbrev pub raised : Root → List ℤ → List ℤ
 raised m u = root_value m u ∷ stretch (pos m.over) u
@@ -335,28 +335,28 @@ abbrev pub samples : ℕ → List (List ℤ) → List (List ℤ)
 samples zero ks = (pos 1 ∷ []) ∷ []
 samples (suc n) ks = let ms = candidates n (roots ks) in pairs raised ms (samples n (pairs placed ms ks))
 
-placed-value : (m : Root) (k u : List ℤ) → dot (placed m k) u ≡ dot k (raised m u)
-placed-value m k u = dot-comb (head k) m.form (pos m.over) (tail k) u ∙ ap (λ r. head k *ℤ dot m.form u +ℤ r) (sym (dot-stretch_right (pos m.over) (tail k) u)) ∙ sym (dot-split k (root_value m u) (stretch (pos m.over) u))
+placed-value : (m : Root) (k u : List ℤ) → dot_list (placed m k) u ≡ dot_list k (raised m u)
+placed-value m k u = dot-comb (head k) m.form (pos m.over) (tail k) u ∙ ap (λ r. head k *ℤ dot_list m.form u +ℤ r) (sym (dot-stretch_right (pos m.over) (tail k) u)) ∙ sym (dot-split k (root_value m u) (stretch (pos m.over) u))
 
 pub record Sample (n : ℕ) (ks : List (List ℤ)) (v : List ℤ) : Type 0 where
   pub vector : List ℤ
   pub listed : Lies (samples n ks) vector
   pub point : IsPoint n vector
-  pub same : (k : List ℤ) → Lies ks k → sign (dot k v) ≡ sign (dot k vector)
+  pub same : (k : List ℤ) → Lies ks k → sign (dot_list k v) ≡ sign (dot_list k vector)
 
 -- EVERY VECTOR HAS A SAMPLE WITH ITS SIGNS
 pub sample_of : (n : ℕ) (ks : List (List ℤ)) (v : List ℤ) → IsPoint n v → Sample n ks v
 sample_of zero ks [] h = absurd h
 sample_of zero ks (w ∷ []) h = record { vector = pos 1 ∷ []; listed = inl refl; point = omega (arith, ints); same = λ k l. one k }
   where
-    one : (k : List ℤ) → sign (dot k (w ∷ [])) ≡ sign (dot k (pos 1 ∷ []))
+    one : (k : List ℤ) → sign (dot_list k (w ∷ [])) ≡ sign (dot_list k (pos 1 ∷ []))
     one [] = refl
     one (c ∷ f) =
         let e = ap (λ r. c *ℤ w +ℤ r) (dot-nil f) ∙ ring (c ∷ w ∷ []) (at 0 ⊗ at 1 ⊕ num (pos 0)) (at 1 ⊗ at 0) tt in
         let g = ap (λ r. c *ℤ pos 1 +ℤ r) (dot-nil f) ∙ ring (c ∷ []) (at 0 ⊗ num (pos 1) ⊕ num (pos 0)) (at 0) tt in
         ap sign e ∙ sign-scaled w c h ∙ sym (ap sign g)
       where
-        dot-nil : (f : List ℤ) → dot f [] ≡ pos 0
+        dot-nil : (f : List ℤ) → dot_list f [] ≡ pos 0
         dot-nil [] = refl
         dot-nil (a ∷ f) = refl
 sample_of zero ks (w ∷ x ∷ u) h = absurd h
@@ -382,11 +382,11 @@ cut zero u = []
 cut (suc n) [] = []
 cut (suc n) (x ∷ u) = x ∷ cut n u
 
-dot-nil : (k : List ℤ) → dot k [] ≡ pos 0
+dot-nil : (k : List ℤ) → dot_list k [] ≡ pos 0
 dot-nil [] = refl
 dot-nil (a ∷ k) = refl
 
-dot-cut : (n : ℕ) (k u : List ℤ) → dot (cut n k) u ≡ dot k (cut n u)
+dot-cut : (n : ℕ) (k u : List ℤ) → dot_list (cut n k) u ≡ dot_list k (cut n u)
 dot-cut zero k u = sym (dot-nil k)
 dot-cut (suc n) [] u = refl
 dot-cut (suc n) (a ∷ k) [] = refl
@@ -412,11 +412,11 @@ pub record VectorSample (n : ℕ) (ks : List (List ℤ)) (v : List ℤ) : Type 0
   pub vector : List ℤ
   pub listed : Lies (vectors n ks) vector
   pub long : length vector ≡ n
-  pub same : (k : List ℤ) → Lies ks k → sign (dot k v) ≡ sign (dot k vector)
+  pub same : (k : List ℤ) → Lies ks k → sign (dot_list k v) ≡ sign (dot_list k vector)
 
-pub vector_of : (n : ℕ) (ks : List (List ℤ)) (v : List ℤ) → length v ≡ n → VectorSample n ks v
+pub vector_sample : (n : ℕ) (ks : List (List ℤ)) (v : List ℤ) → length v ≡ n → VectorSample n ks v
 unfolding vectors
-vector_of n ks v e =
+vector_sample n ks v e =
     let l = v ++ pos 1 ∷ [] in
     let s = sample_of n (each (cut n) ks) l (subst (λ (m : ℕ). IsPoint m l) e (longer-point v)) in
     let c : cut n l ≡ v = subst (λ (m : ℕ). cut m l ≡ v) e (cut-longer v) in
@@ -424,5 +424,5 @@ vector_of n ks v e =
       vector = cut n s.vector;
       listed = lies-each (cut n) (samples n (each (cut n) ks)) s.vector s.listed;
       long = length-cut n s.vector s.point;
-      same = λ k m. ap (λ (u : List ℤ). sign (dot k u)) (sym c) ∙ ap sign (sym (dot-cut n k l)) ∙ s.same (cut n k) (lies-each (cut n) ks k m) ∙ ap sign (dot-cut n k s.vector);
+      same = λ k m. ap (λ (u : List ℤ). sign (dot_list k u)) (sym c) ∙ ap sign (sym (dot-cut n k l)) ∙ s.same (cut n k) (lies-each (cut n) ks k m) ∙ ap sign (dot-cut n k s.vector);
     }

@@ -2,7 +2,7 @@
 use Rattle.nef_space.proofs.Prelude.{◌≡◌, ℕ, ◌+◌, ◌*◌, ◌<◌, ℤ, pos, neg_ℤ, ◌+ℤ◌, ◌-ℤ◌, ◌*ℤ◌, ◌<ℤ◌, arith, ap, sym, ◌∙◌, inl, inr, ◌⊎◌, ⊎_elim, List, [], ◌∷◌, subst, ints}
 use lib.IntN.{*ℤ-zero}
 use Rattle.nef_space.proofs.Ring.{ring, Poly, at, num, neg, ◌⊕◌, ◌⊖◌, ◌⊗◌, value}
-use Rattle.nef_space.proofs.Combination.{follows, follows_times, Given, given, none}
+use Rattle.nef_space.proofs.Combination.{follows, follows_times, GivenEquations, given, none}
 use Rattle.nef_space.proofs.Order.{sign, sign-plus, sign-scaled, plus-is, nought-is, by_order, square_nonneg, square_pos, nought-or}
 use Rattle.nef_space.specs.Vectors.{Vector, vector, blend, dot, cross, triple, opposite, IsZero, IsDirection, SameDirection, IsOpposite}
 
@@ -22,8 +22,8 @@ dot_of a b = a.0 ⊗ b.0 ⊕ a.1 ⊗ b.1 ⊕ a.2 ⊗ b.2
 abbrev pub cross_of : Polys → Polys → Polys
 cross_of a b = (a.1 ⊗ b.2 ⊖ a.2 ⊗ b.1, a.2 ⊗ b.0 ⊖ a.0 ⊗ b.2, a.0 ⊗ b.1 ⊖ a.1 ⊗ b.0)
 
-abbrev pub triple_of : Polys → Polys → Polys → Poly
-triple_of a b c = dot_of a (cross_of b c)
+abbrev pub poly_triple : Polys → Polys → Polys → Poly
+poly_triple a b c = dot_of a (cross_of b c)
 
 abbrev pub blend_of : Poly → Polys → Poly → Polys → Polys
 blend_of i a j b = (i ⊗ a.0 ⊕ j ⊗ b.0, i ⊗ a.1 ⊕ j ⊗ b.1, i ⊗ a.2 ⊕ j ⊗ b.2)
@@ -32,10 +32,10 @@ abbrev pub dot_poly : ℕ → ℕ → Poly
 dot_poly i j = dot_of (vec i) (vec j)
 
 abbrev pub triple_poly : ℕ → ℕ → ℕ → Poly
-triple_poly n i j = triple_of (vec n) (vec i) (vec j)
+triple_poly n i j = poly_triple (vec n) (vec i) (vec j)
 
 -- each number of p is nought
-abbrev pub each_nought : (xs : List ℤ) (f p : Polys) → value xs p.0 ≡ pos 0 → value xs p.1 ≡ pos 0 → value xs p.2 ≡ pos 0 → Given xs
+abbrev pub each_nought : (xs : List ℤ) (f p : Polys) → value xs p.0 ≡ pos 0 → value xs p.1 ≡ pos 0 → value xs p.2 ≡ pos 0 → GivenEquations xs
 each_nought xs f p x y z = given f.0 p.0 (num (pos 0)) x (given f.1 p.1 (num (pos 0)) y (given f.2 p.2 (num (pos 0)) z none))
 
 -- ---- products

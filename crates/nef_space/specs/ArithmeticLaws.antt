@@ -1,10 +1,10 @@
 -- The laws of exact arithmetic. Each is a clause of a public function of this crate.
 use Rattle.std.specs.Prelude.{◌≡◌, ℕ, ◌*◌, ◌<◌, ◌≤◌, ℤ, pos, ◌-ℤ◌, ◌+ℤ◌, ◌*ℤ◌, neg_ℤ, ◌≤ℤ◌, ◌<ℤ◌, nat_abs, unsigned_abs, List, length, ◌↔◌, T, leb, FitsSigned}
 use mir.Syntax.{Width}
-use Rattle.nef_space.specs.Polynomial.{Poly, ◌⊖◌, ◌⊗◌, value, IsNought, Given, combined}
+use Rattle.nef_space.specs.Polynomial.{Poly, ◌⊖◌, ◌⊗◌, value, IsNought, GivenEquations, weighted_sum}
 use Rattle.nef_space.specs.Machine.{Code, wrap, run, meant, limit, fits, Limited}
 use Rattle.nef_space.specs.Signs.{Sign, minus, nought, plus, sign, sign_times, Lies}
-use Rattle.nef_space.specs.Linear.{dot, IsPoint}
+use Rattle.nef_space.specs.Linear.{dot_list, IsPoint}
 
 -- ---- identities
 -- two polynomials whose difference computes to nought are equal at all values
@@ -13,12 +13,12 @@ EveryIdentity = (xs : List ℤ) (p q : Poly) → IsNought (p ⊖ q) → value xs
 
 -- two polynomials whose difference computes to a combination of equations that hold are equal at the values
 abbrev pub EveryCombination : Type 0
-EveryCombination = (xs : List ℤ) (p q : Poly) (g : Given xs) → IsNought (p ⊖ q ⊖ combined g) → value xs p ≡ value xs q
+EveryCombination = (xs : List ℤ) (p q : Poly) (g : GivenEquations xs) → IsNought (p ⊖ q ⊖ weighted_sum g) → value xs p ≡ value xs q
 
 -- p and q are equal, where p k - q k computes to a combination of equations that hold, and k is positive; not where k
 -- is nought: then any two would be
 abbrev pub EveryCombinationTimes : Type 0
-EveryCombinationTimes = (xs : List ℤ) (k p q : Poly) (g : Given xs) → pos 0 <ℤ value xs k → IsNought (p ⊗ k ⊖ q ⊗ k ⊖ combined g) → value xs p ≡ value xs q
+EveryCombinationTimes = (xs : List ℤ) (k p q : Poly) (g : GivenEquations xs) → pos 0 <ℤ value xs k → IsNought (p ⊗ k ⊖ q ⊗ k ⊖ weighted_sum g) → value xs p ≡ value xs q
 
 -- where q - p computes to r, a positive r gives p < q, and an r that isn't negative p <= q
 abbrev pub EveryOrder : Type 0
@@ -62,29 +62,29 @@ EqualFractionsCompareAlike = (a b c d e f : ℤ) → pos 0 <ℤ b → pos 0 <ℤ
 -- ---- sizes
 -- a sum of products of numbers of size at most m and n is at most m n, times their count
 abbrev pub SizeOfSum : Type 0
-SizeOfSum = (m n : ℕ) (xs ys : List ℤ) → ((x : ℤ) → Lies xs x → nat_abs x ≤ m) → ((y : ℤ) → Lies ys y → nat_abs y ≤ n) → nat_abs (dot xs ys) ≤ length xs * (m * n)
+SizeOfSum = (m n : ℕ) (xs ys : List ℤ) → ((x : ℤ) → Lies xs x → nat_abs x ≤ m) → ((y : ℤ) → Lies ys y → nat_abs y ≤ n) → nat_abs (dot_list xs ys) ≤ length xs * (m * n)
 
 -- ---- n |a| < b, which says that a/b is nearer to nought than 1/n
-abbrev pub IsSmall : ℕ → ℤ → ℕ → Type 0
-IsSmall n a b = n * nat_abs a < b
+abbrev pub IsSmallRatio : ℕ → ℤ → ℕ → Type 0
+IsSmallRatio n a b = n * nat_abs a < b
 
 abbrev pub SmallWeakens : Type 0
-SmallWeakens = (m n : ℕ) (a : ℤ) (b : ℕ) → m ≤ n → IsSmall n a b → IsSmall m a b
+SmallWeakens = (m n : ℕ) (a : ℤ) (b : ℕ) → m ≤ n → IsSmallRatio n a b → IsSmallRatio m a b
 
 -- the sum of two numbers is half as near to nought as each of the two
 abbrev pub SmallAdds : Type 0
-SmallAdds = (n : ℕ) (a c : ℤ) (b : ℕ) → IsSmall (2 * n) a b → IsSmall (2 * n) c b → IsSmall n (a +ℤ c) b
+SmallAdds = (n : ℕ) (a c : ℤ) (b : ℕ) → IsSmallRatio (2 * n) a b → IsSmallRatio (2 * n) c b → IsSmallRatio n (a +ℤ c) b
 
 abbrev pub SmallScales : Type 0
-SmallScales = (n : ℕ) (a : ℤ) (b k : ℕ) → 0 < k → IsSmall n a b ↔ IsSmall n (pos k *ℤ a) (k * b)
+SmallScales = (n : ℕ) (a : ℤ) (b k : ℕ) → 0 < k → IsSmallRatio n a b ↔ IsSmallRatio n (pos k *ℤ a) (k * b)
 
 abbrev pub SmallIsTwoSided : Type 0
-SmallIsTwoSided = (n : ℕ) (a : ℤ) (b : ℕ) → IsSmall n a b ↔ (neg_ℤ (pos b) <ℤ (pos n *ℤ a)) × (pos n *ℤ a) <ℤ pos b
+SmallIsTwoSided = (n : ℕ) (a : ℤ) (b : ℕ) → IsSmallRatio n a b ↔ (neg_ℤ (pos b) <ℤ (pos n *ℤ a)) × (pos n *ℤ a) <ℤ pos b
 
 -- finitely many vectors with a positive last number have all signs that such vectors have on finitely many linear forms
 abbrev pub FinitelyManyPoints : Type 0
-FinitelyManyPoints = (n : ℕ) (ks : List (List ℤ)) → (us : List (List ℤ)) × ((v : List ℤ) → IsPoint n v → (u : List ℤ) × Lies us u × IsPoint n u × ((k : List ℤ) → Lies ks k → sign (dot k v) ≡ sign (dot k u)))
+FinitelyManyPoints = (n : ℕ) (ks : List (List ℤ)) → (us : List (List ℤ)) × ((v : List ℤ) → IsPoint n v → (u : List ℤ) × Lies us u × IsPoint n u × ((k : List ℤ) → Lies ks k → sign (dot_list k v) ≡ sign (dot_list k u)))
 
 -- finitely many vectors of n numbers have all signs that such vectors have on finitely many linear forms
 abbrev pub FinitelyManyVectors : Type 0
-FinitelyManyVectors = (n : ℕ) (ks : List (List ℤ)) → (us : List (List ℤ)) × ((v : List ℤ) → length v ≡ n → (u : List ℤ) × Lies us u × (length u ≡ n) × ((k : List ℤ) → Lies ks k → sign (dot k v) ≡ sign (dot k u)))
+FinitelyManyVectors = (n : ℕ) (ks : List (List ℤ)) → (us : List (List ℤ)) × ((v : List ℤ) → length v ≡ n → (u : List ℤ) × Lies us u × (length u ≡ n) × ((k : List ℤ) → Lies ks k → sign (dot_list k v) ≡ sign (dot_list k u)))

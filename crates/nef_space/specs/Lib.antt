@@ -7,7 +7,7 @@ pub mod Limits
 pub mod Numbers
 pub mod Lists
 pub mod Vectors
-pub mod Place
+pub mod Points
 pub mod Sets
 pub mod Local
 pub mod Labels

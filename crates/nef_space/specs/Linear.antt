@@ -2,10 +2,10 @@
 use Rattle.std.specs.Prelude.{ℕ, zero, suc, ℤ, pos, ◌+ℤ◌, ◌*ℤ◌, ◌<ℤ◌, List, [], ◌∷◌}
 
 -- the value of the form f at the vector u
-abbrev pub dot : List ℤ → List ℤ → ℤ
-dot [] u = pos 0
-dot (a ∷ f) [] = pos 0
-dot (a ∷ f) (x ∷ u) = a *ℤ x +ℤ dot f u
+abbrev pub dot_list : List ℤ → List ℤ → ℤ
+dot_list [] u = pos 0
+dot_list (a ∷ f) [] = pos 0
+dot_list (a ∷ f) (x ∷ u) = a *ℤ x +ℤ dot_list f u
 
 -- the list has n numbers, and then a last one that is positive
 abbrev pub IsPoint : ℕ → List ℤ → Type 0

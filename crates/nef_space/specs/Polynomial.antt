@@ -28,13 +28,13 @@ value xs (p ⊖ q) = value xs p -ℤ value xs q
 value xs (p ⊗ q) = value xs p *ℤ value xs q
 
 -- ---- the normal form: terms, each a coefficient and a list of variables in increasing order
-abbrev pub put : ℕ → List ℕ → List ℕ
-put n [] = n ∷ []
-put n (k ∷ m) = elim (ltb k n) [ true ↦ k ∷ put n m | false ↦ n ∷ k ∷ m ]
+abbrev pub insert_variable : ℕ → List ℕ → List ℕ
+insert_variable n [] = n ∷ []
+insert_variable n (k ∷ m) = elim (ltb k n) [ true ↦ k ∷ insert_variable n m | false ↦ n ∷ k ∷ m ]
 
-abbrev pub put_all : List ℕ → List ℕ → List ℕ
-put_all [] m = m
-put_all (n ∷ l) m = put n (put_all l m)
+abbrev pub insert_variables : List ℕ → List ℕ → List ℕ
+insert_variables [] m = m
+insert_variables (n ∷ l) m = insert_variable n (insert_variables l m)
 
 pub record Term : Type 0 where
   pub by : ℤ
@@ -42,23 +42,23 @@ pub record Term : Type 0 where
 
 abbrev pub times_term : Term → List Term → List Term
 times_term t [] = []
-times_term t (s ∷ ss) = record { by = t.by *ℤ s.by; of = put_all t.of s.of } ∷ times_term t ss
+times_term t (s ∷ ss) = record { by = t.by *ℤ s.by; of = insert_variables t.of s.of } ∷ times_term t ss
 
-abbrev pub times : List Term → List Term → List Term
-times [] ss = []
-times (t ∷ ts) ss = times_term t ss ++ times ts ss
+abbrev pub times_terms : List Term → List Term → List Term
+times_terms [] ss = []
+times_terms (t ∷ ts) ss = times_term t ss ++ times_terms ts ss
 
-abbrev pub negated : List Term → List Term
-negated [] = []
-negated (t ∷ ts) = record { by = neg_ℤ t.by; of = t.of } ∷ negated ts
+abbrev pub negated_terms : List Term → List Term
+negated_terms [] = []
+negated_terms (t ∷ ts) = record { by = neg_ℤ t.by; of = t.of } ∷ negated_terms ts
 
 abbrev pub terms : Poly → List Term
 terms (at n) = record { by = pos 1; of = n ∷ [] } ∷ []
 terms (num z) = record { by = z; of = [] } ∷ []
-terms (neg p) = negated (terms p)
+terms (neg p) = negated_terms (terms p)
 terms (p ⊕ q) = terms p ++ terms q
-terms (p ⊖ q) = terms p ++ negated (terms q)
-terms (p ⊗ q) = times (terms p) (terms q)
+terms (p ⊖ q) = terms p ++ negated_terms (terms q)
+terms (p ⊗ q) = times_terms (terms p) (terms q)
 
 -- the terms in a search tree by their variables, where coefficients of equal variables are added
 pub data Tree : Type 0 where
@@ -68,19 +68,19 @@ pub data Tree : Type 0 where
 pub data KeyOrder : Type 0 where
   key_less key_same key_more : KeyOrder
 
-abbrev pub order : List ℕ → List ℕ → KeyOrder
-order [] [] = key_same
-order [] (k ∷ m) = key_less
-order (n ∷ l) [] = key_more
-order (n ∷ l) (k ∷ m) = elim (eqb n k) [ true ↦ order l m | false ↦ elim (ltb n k) [ true ↦ key_less | false ↦ key_more ] ]
+abbrev pub order_keys : List ℕ → List ℕ → KeyOrder
+order_keys [] [] = key_same
+order_keys [] (k ∷ m) = key_less
+order_keys (n ∷ l) [] = key_more
+order_keys (n ∷ l) (k ∷ m) = elim (eqb n k) [ true ↦ order_keys l m | false ↦ elim (ltb n k) [ true ↦ key_less | false ↦ key_more ] ]
 
 abbrev pub gather_term : List ℕ → ℤ → Tree → Tree
 gather_term m z leaf = node leaf m z leaf
-gather_term m z (node l k w r) = elim (order m k) [ key_less ↦ node (gather_term m z l) k w r | key_same ↦ node l k (z +ℤ w) r | key_more ↦ node l k w (gather_term m z r) ]
+gather_term m z (node l k w r) = elim (order_keys m k) [ key_less ↦ node (gather_term m z l) k w r | key_same ↦ node l k (z +ℤ w) r | key_more ↦ node l k w (gather_term m z r) ]
 
-abbrev pub gather : List Term → Tree
-gather [] = leaf
-gather (t ∷ ts) = gather_term t.of t.by (gather ts)
+abbrev pub gather_terms : List Term → Tree
+gather_terms [] = leaf
+gather_terms (t ∷ ts) = gather_term t.of t.by (gather_terms ts)
 
 abbrev pub is_nought : ℤ → Bool
 is_nought (pos n) = eqb n 0
@@ -92,14 +92,14 @@ all_nought (node l k w r) = is_nought w && (all_nought l && all_nought r)
 
 -- the test: each coefficient of the normal form is nought
 abbrev pub IsNought : Poly → Type 0
-IsNought p = T (all_nought (gather (terms p)))
+IsNought p = T (all_nought (gather_terms (terms p)))
 
 -- ---- equations l = r that are given, each with a polynomial m by which it is multiplied
-pub data Given (xs : List ℤ) : Type 0 where
-  none : Given xs
-  given : (m l r : Poly) → value xs l ≡ value xs r → Given xs → Given xs
+pub data GivenEquations (xs : List ℤ) : Type 0 where
+  none : GivenEquations xs
+  given : (m l r : Poly) → value xs l ≡ value xs r → GivenEquations xs → GivenEquations xs
 
 -- the sum of all m (l - r)
-abbrev pub combined : {xs : List ℤ} → Given xs → Poly
-combined none = num (pos 0)
-combined (given m l r e g) = m ⊗ (l ⊖ r) ⊕ combined g
+abbrev pub weighted_sum : {xs : List ℤ} → GivenEquations xs → Poly
+weighted_sum none = num (pos 0)
+weighted_sum (given m l r e g) = m ⊗ (l ⊖ r) ⊕ weighted_sum g

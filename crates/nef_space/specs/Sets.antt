@@ -1,6 +1,6 @@
 -- Sets as trees of operations, and where sets hold.
 use Rattle.std.specs.Prelude.{ℕ, ◌<◌, pos, ◌≤ℤ◌, ◌<ℤ◌, List, [], ◌∷◌, ◌++◌, ◌⊎◌, Bool, true, false}
-use Rattle.nef_space.specs.Place.{Place, Form, form_at, Within, InFrame}
+use Rattle.nef_space.specs.Points.{SpacePoint, Form, form_at, Within, InFrame}
 
 -- a set: a half-space, the empty set, the whole, or an operation on sets
 pub data Set : Type 0 where
@@ -18,19 +18,19 @@ pub data Set : Type 0 where
   regular : Set → Set
 
 -- some neighbourhood of p lies in P, within the frame
-abbrev pub Interior : (Place → Type 0) → Place → Type 0
-Interior P p = (n : ℕ) × (0 < n) × ((q : Place) → InFrame q → Within n p q → P q)
+abbrev pub Interior : (SpacePoint → Type 0) → SpacePoint → Type 0
+Interior P p = (n : ℕ) × (0 < n) × ((q : SpacePoint) → InFrame q → Within n p q → P q)
 
 -- each neighbourhood of p meets P within the frame
-abbrev pub Closure : (Place → Type 0) → Place → Type 0
-Closure P p = (n : ℕ) → 0 < n → (q : Place) × InFrame q × Within n p q × P q
+abbrev pub Closure : (SpacePoint → Type 0) → SpacePoint → Type 0
+Closure P p = (n : ℕ) → 0 < n → (q : SpacePoint) × InFrame q × Within n p q × P q
 
-abbrev pub InHalf : Form → Bool → Place → Type 0
+abbrev pub InHalf : Form → Bool → SpacePoint → Type 0
 InHalf h false p = form_at h p <ℤ pos 0
 InHalf h true p = form_at h p ≤ℤ pos 0
 
 -- the set holds at the point p of the frame
-unfoldable pub Holds : Set → Place → Type 0
+unfoldable pub Holds : Set → SpacePoint → Type 0
 Holds (Set.half h c) p = InHalf h c p
 Holds Set.empty p = ⊥
 Holds Set.full p = Unit {0}

@@ -1,15 +1,15 @@
 -- What is apart in an order stands in order once it is sorted.
-use Rattle.nef_spair.proofs.Prelude.{◌≡◌, ℕ, ◌<◌, ⊎_elim, List, get_or, false, Ordering, Equal, arith, sym, ap, subst, ◌∙◌, IsDistinct, IsPermutation, IsSorted, MatchOrdering, eq_by_cmp, is_lt, is_eq, IsTotalOrder, false≢true, by_ranked, eq_by_cmp_equiv, tied_back, ranks_by, sorted_far, Contains-permutation, IsPermutation-sym, At, InOrder, at-within, get-at, at-contains, contains-at, StandApart}
+use Rattle.nef_spair.proofs.Prelude.{◌≡◌, ℕ, ◌<◌, ⊎_elim, List, get_or, false, Ordering, Equal, arith, sym, ap, subst, ◌∙◌, IsDistinct, IsPermutation, IsSorted, MatchOrdering, eq_by_cmp, is_lt, is_eq, IsTotalOrder, false≢true, by_ranked, eq_by_cmp_equiv, tied_back, ranks_by, sorted_far, Contains-permutation, IsPermutation-sym, IsAt, InOrder, at-within, get-at, at-contains, contains-at, StandApart}
 use Rattle.std.proofs.lemmas.Bool.{cases_order}
 use Rattle.std.proofs.lemmas.Map.Keys.{IsDistinct-from_apart, IsDistinct-IsPermutation, apart_from_distinct}
 use Rattle.nef_smap.proofs.SortedOnce.{both-at}
 
 -- ---- what is moved stays listed
 module _ {A : Type 0} (xs ys : List A) (moved : IsPermutation xs ys) where
-  pub was-listed : (k : ℕ) (y : A) → At ys k y → (j : ℕ) × At xs j y
+  pub was-listed : (k : ℕ) (y : A) → IsAt ys k y → (j : ℕ) × IsAt xs j y
   was-listed k y a = contains-at xs y (Contains-permutation ys xs y (IsPermutation-sym xs ys moved) (at-contains ys k y a))
 
-  pub still-listed : (j : ℕ) (x : A) → At xs j x → (k : ℕ) × At ys k x
+  pub still-listed : (j : ℕ) (x : A) → IsAt xs j x → (k : ℕ) × IsAt ys k x
   still-listed j x a = contains-at ys x (Contains-permutation xs ys x moved (at-contains xs j x a))
 
 -- ---- what is apart stays so, and is in order once it is sorted
@@ -27,7 +27,7 @@ module _ {A : Type 0} (order : A → A → Ordering) (total : IsTotalOrder order
   apart : (xs : List A) → IsDistinct (eq_by_cmp order) xs → StandApart Same xs
   apart xs h j k a b l r s = ⊎_elim (λ e. e) (λ d. absurd (⊎_elim (λ m. differ j k a b m l r s) (λ m. differ k j b a m r l (turned-same a b s)) d)) (cases_order j k)
     where
-      differ : (j k : ℕ) (a b : A) → j < k → At xs j a → At xs k b → Same a b → ⊥
+      differ : (j k : ℕ) (a b : A) → j < k → IsAt xs j a → IsAt xs k b → Same a b → ⊥
       differ j k a b m l r s = false≢true (sym (both-at (λ v w. eq_by_cmp order v w ≡ false) xs j k a b l r (λ d. apart_from_distinct (eq_by_cmp order) xs j k d h m (at-within xs k b r))) ∙ ap is_eq (equal a b s))
 
   pub still-apart : (xs ys : List A) → IsPermutation xs ys → StandApart Same xs → StandApart Same ys

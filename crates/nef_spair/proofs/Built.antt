@@ -1,5 +1,5 @@
 -- What is made of the pieces of simplified stars is built from these stars.
-use Rattle.nef_spair.proofs.Prelude.{◌≡◌, ℕ, suc, List, [], ◌∷◌, length, map, get_or, option_map, arith, refl, sym, ap, subst, ◌∙◌, inl, inr, ◌⊎◌, All, vector_of, VectorBelow, At, InOrder, IsPlain, IsStraight, IsSimplified, IsKeptStar, IsKeptRaw, AreSimplified, Star, star_of, IsStar, RawStars, sloop_of, raw_of, at-map, map-at, at-within, get-at, star-well_formed, Pieces, IsSimple, AreSimple, IsDropped, ArePiecesOf}
+use Rattle.nef_spair.proofs.Prelude.{◌≡◌, ℕ, suc, List, [], ◌∷◌, length, map, get_or, option_map, arith, refl, sym, ap, subst, ◌∙◌, inl, inr, ◌⊎◌, All, vector_of, VectorBelow, IsAt, InOrder, IsPlain, IsStraight, IsSimplified, IsKeptStar, IsKeptRaw, AreSimplified, Star, star_of, IsStar, RawStars, sloop_of, raw_of, at-map, map-at, at-within, get-at, star-well_formed, Pieces, IsSimple, AreSimple, IsDropped, ArePiecesOf}
 use Rattle.law_sphere.specs.Stars.{Star as PlainStar}
 use Rattle.nef_spair.proofs.Places.{others-from, others-all, others-in_order, all-at, at-all}
 
@@ -22,10 +22,10 @@ module _ (r q : RawStars) (w : AreSimple r.stars q.stars) where
     same_ground = ground;
   }
     where
-      one : (k : ℕ) (t s : Star) → At r.stars k t → At q.stars k s → IsKeptStar (star_of t) (star_of s)
+      one : (k : ℕ) (t s : Star) → IsAt r.stars k t → IsAt q.stars k s → IsKeptStar (star_of t) (star_of s)
       one k t s a b = let i = w.each k t s a b in record { star = star-well_formed s i.star; axis = ap vector_of i.kept.axis; mark = i.kept.mark; labels = i.kept.labels }
 
-  simple-at : (k : ℕ) (s : Star) → At q.stars k s → IsSimple (get_or r.stars k s) s
+  simple-at : (k : ℕ) (s : Star) → IsAt q.stars k s → IsSimple (get_or r.stars k s) s
   simple-at k s a = w.each k (get_or r.stars k s) s (get-at r.stars k s (omega (arith, at-within q.stars k s a, w.as_many))) a
 
   pub all-stars : All IsStar q.stars
@@ -42,22 +42,22 @@ module _ (q : RawStars) (p : Pieces) (pieces : ArePiecesOf q p) where
   abbrev K : List PlainStar
   K = map star_of p.kept
 
-  from-raw : (k : ℕ) (t : Star) → At p.kept k t → (j : ℕ) × At q.stars j t × (IsDropped t → ⊥)
+  from-raw : (k : ℕ) (t : Star) → IsAt p.kept k t → (j : ℕ) × IsAt q.stars j t × (IsDropped t → ⊥)
   from-raw = others-from IsDropped q.stars p.kept pieces.kept
 
   pub kept-stars : All IsStar q.stars → All IsStar p.kept
   kept-stars all = at-all IsStar p.kept (λ k t a. let f = from-raw k t a in all-at IsStar q.stars all f.0 t f.1)
 
-  pub plain-from : (k : ℕ) (t : PlainStar) → At K k t → (j : ℕ) × At (map star_of q.stars) j t
-  plain-from k t a = let u = at-map star_of p.kept k t a in let f = from-raw k u.0 u.1 in (f.0, subst (At (map star_of q.stars) f.0) u.2 (map-at star_of q.stars f.0 u.0 f.1))
+  pub plain-from : (k : ℕ) (t : PlainStar) → IsAt K k t → (j : ℕ) × IsAt (map star_of q.stars) j t
+  plain-from k t a = let u = at-map star_of p.kept k t a in let f = from-raw k u.0 u.1 in (f.0, subst (IsAt (map star_of q.stars) f.0) u.2 (map-at star_of q.stars f.0 u.0 f.1))
 
-  pub plain-needed : (k : ℕ) (t : PlainStar) → At K k t → IsPlain t ⊎ IsStraight t → ⊥
+  pub plain-needed : (k : ℕ) (t : PlainStar) → IsAt K k t → IsPlain t ⊎ IsStraight t → ⊥
   plain-needed k t a d = let u = at-map star_of p.kept k t a in let f = from-raw k u.0 u.1 in f.2 (subst (λ (x : PlainStar). IsPlain x ⊎ IsStraight x) (sym u.2) d)
 
-  pub plain-all : (j : ℕ) (t : PlainStar) → At (map star_of q.stars) j t → IsPlain t ⊎ IsStraight t ⊎ ((k : ℕ) × At K k t)
+  pub plain-all : (j : ℕ) (t : PlainStar) → IsAt (map star_of q.stars) j t → IsPlain t ⊎ IsStraight t ⊎ ((k : ℕ) × IsAt K k t)
   plain-all j t a =
       let u = at-map star_of q.stars j t a in
-      subst (λ (x : PlainStar). IsPlain x ⊎ IsStraight x ⊎ ((k : ℕ) × At K k x)) u.2
+      subst (λ (x : PlainStar). IsPlain x ⊎ IsStraight x ⊎ ((k : ℕ) × IsAt K k x)) u.2
       (elim (others-all IsDropped q.stars p.kept pieces.kept j u.0 u.1) [
         | inl d ↦ elim d [ inl x ↦ inl x | inr x ↦ inr (inl x) ]
         | inr f ↦ inr (inr (f.0, map-at star_of p.kept f.0 u.0 f.1))

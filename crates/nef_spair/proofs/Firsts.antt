@@ -1,40 +1,40 @@
 -- The first axis after another on a circle, found star by star.
-use Rattle.nef_spair.proofs.Prelude.{◌≡◌, ℕ, ◌+◌, ◌<◌, ◌≤◌, pos, List, length, map, arith, sym, subst, inl, inr, ◌⊎◌, eq-or-lt_of_le, dot, SameDirection, vector_of, Dir, IsStrictlyOn, AboutFour, order_is_transitive, At, at-one, IsFirstAfter, Star, star_of, four, at-map, map-at, at-within, dir-self}
+use Rattle.nef_spair.proofs.Prelude.{◌≡◌, ℕ, ◌+◌, ◌<◌, ◌≤◌, pos, List, length, map, arith, sym, subst, inl, inr, ◌⊎◌, eq-or-lt_of_le, dot, SameDirection, vector_of, Dir, IsStrictlyOn, AboutFour, order_is_transitive, IsAt, at-one, IsFirstAfter, Star, star_of, four, at-map, map-at, at-within, dir-self}
 use Rattle.law_sphere.specs.Stars.{Star as PlainStar}
 use Rattle.nef_star.proofs.Labelled.{strictly, passes}
 
 -- the axis of the star with this number
 abbrev pub IsAxisOf : List Star → ℕ → Dir → Type 0
-IsAxisOf kept k d = (t : Star) → At kept k t → t.axis ≡ d
+IsAxisOf kept k d = (t : Star) → IsAt kept k t → t.axis ≡ d
 
 -- of the first k axes none is strictly on the way from s to the axis of star j
-pub record IsFirstOf (kept : List Star) (n s : Dir) (k j : ℕ) : Type 0 where
+pub record IsFirstStar (kept : List Star) (n s : Dir) (k j : ℕ) : Type 0 where
   pub within : j < length kept
-  pub level : (t : Star) → At kept j t → dot (vector_of n) (vector_of t.axis) ≡ pos 0
-  pub none_before : (i : ℕ) (t u : Star) → i < k → At kept j t → At kept i u → IsStrictlyOn (vector_of n) (vector_of s) (vector_of t.axis) (vector_of u.axis) → ⊥
+  pub level : (t : Star) → IsAt kept j t → dot (vector_of n) (vector_of t.axis) ≡ pos 0
+  pub none_before : (i : ℕ) (t u : Star) → i < k → IsAt kept j t → IsAt kept i u → IsStrictlyOn (vector_of n) (vector_of s) (vector_of t.axis) (vector_of u.axis) → ⊥
 
-module _ (kept : List Star) (n s : Dir) (k j : ℕ) (t u : Star) (w : IsFirstOf kept n s k j) (a : At kept j t) (b : At kept k u) (kh : k < length kept) where
+module _ (kept : List Star) (n s : Dir) (k j : ℕ) (t u : Star) (w : IsFirstStar kept n s k j) (a : IsAt kept j t) (b : IsAt kept k u) (kh : k < length kept) where
   -- star k isn't on the way
-  pub first-stays : (IsStrictlyOn (vector_of n) (vector_of s) (vector_of t.axis) (vector_of u.axis) → ⊥) → IsFirstOf kept n s (k + 1) j
+  pub first-stays : (IsStrictlyOn (vector_of n) (vector_of s) (vector_of t.axis) (vector_of u.axis) → ⊥) → IsFirstStar kept n s (k + 1) j
   first-stays off = record { within = w.within; level = w.level; none_before = λ i t' u' l a' b'. by i t' u' (eq-or-lt_of_le {n = i} {m = k} (omega (arith, l))) a' b' }
     where
-      by : (i : ℕ) (t' u' : Star) → (i ≡ k) ⊎ (i < k) → At kept j t' → At kept i u' → IsStrictlyOn (vector_of n) (vector_of s) (vector_of t'.axis) (vector_of u'.axis) → ⊥
+      by : (i : ℕ) (t' u' : Star) → (i ≡ k) ⊎ (i < k) → IsAt kept j t' → IsAt kept i u' → IsStrictlyOn (vector_of n) (vector_of s) (vector_of t'.axis) (vector_of u'.axis) → ⊥
       by i t' u' (inl e) a' b' on =
-          let t_is : t' ≡ t = at-one kept j t' t a' a in let u_is : u' ≡ u = at-one kept k u' u (subst (λ (m : ℕ). At kept m u') e b') b in
+          let t_is : t' ≡ t = at-one kept j t' t a' a in let u_is : u' ≡ u = at-one kept k u' u (subst (λ (m : ℕ). IsAt kept m u') e b') b in
           off (subst (λ (x : Star). IsStrictlyOn (vector_of n) (vector_of s) (vector_of t.axis) (vector_of x.axis)) u_is (subst (λ (x : Star). IsStrictlyOn (vector_of n) (vector_of s) (vector_of x.axis) (vector_of u'.axis)) t_is on))
       by i t' u' (inr l) a' b' on = w.none_before i t' u' l a' b' on
 
   -- star k is on the way: then it comes first
-  pub first-changes : dot (vector_of n) (vector_of s) ≡ pos 0 → IsStrictlyOn (vector_of n) (vector_of s) (vector_of t.axis) (vector_of u.axis) → IsFirstOf kept n s (k + 1) k
+  pub first-changes : dot (vector_of n) (vector_of s) ≡ pos 0 → IsStrictlyOn (vector_of n) (vector_of s) (vector_of t.axis) (vector_of u.axis) → IsFirstStar kept n s (k + 1) k
   first-changes source on = record {
     within = kh;
     level = λ v c. let e : v ≡ u = at-one kept k v u c b in subst (λ (x : Star). dot (vector_of n) (vector_of x.axis) ≡ pos 0) (sym e) on.on_circle.level;
     none_before = λ i v x l c d o. by i v x (eq-or-lt_of_le {n = i} {m = k} (omega (arith, l))) c d o;
   }
     where
-      by : (i : ℕ) (v x : Star) → (i ≡ k) ⊎ (i < k) → At kept k v → At kept i x → IsStrictlyOn (vector_of n) (vector_of s) (vector_of v.axis) (vector_of x.axis) → ⊥
+      by : (i : ℕ) (v x : Star) → (i ≡ k) ⊎ (i < k) → IsAt kept k v → IsAt kept i x → IsStrictlyOn (vector_of n) (vector_of s) (vector_of v.axis) (vector_of x.axis) → ⊥
       by i v x (inl e) c d o =
-          let same : x ≡ v = at-one kept k x v (subst (λ (m : ℕ). At kept m x) e d) c in
+          let same : x ≡ v = at-one kept k x v (subst (λ (m : ℕ). IsAt kept m x) e d) c in
           o.not_target (subst (λ (y : Star). SameDirection (vector_of v.axis) (vector_of y.axis)) (sym same) (dir-self (vector_of v.axis) v.axis.some))
       by i v x (inr l) c d o =
           let e : v ≡ u = at-one kept k v u c b in
@@ -44,7 +44,7 @@ module _ (kept : List Star) (n s : Dir) (k j : ℕ) (t u : Star) (w : IsFirstOf 
           w.none_before i t x l a d (strictly _ _ _ _ (order_is_transitive (vector_of n) (vector_of s) (vector_of x.axis) (vector_of u.axis) (vector_of t.axis) about (passes _ _ _ _ o') (passes _ _ _ _ on)))
 
 -- after all stars it is the first of all
-pub first-all : (kept : List Star) (n s : Dir) (k j : ℕ) (f : Star) → length kept ≤ k → IsFirstOf kept n s k j → At kept j f → (t : Star) → t.axis ≡ s → IsFirstAfter (map star_of kept) (vector_of n) (star_of t) j
+pub first-all : (kept : List Star) (n s : Dir) (k j : ℕ) (f : Star) → length kept ≤ k → IsFirstStar kept n s k j → IsAt kept j f → (t : Star) → t.axis ≡ s → IsFirstAfter (map star_of kept) (vector_of n) (star_of t) j
 first-all kept n s k j f h w a t e = record {
   first = star_of f;
   listed = map-at star_of kept j f a;

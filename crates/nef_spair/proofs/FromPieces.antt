@@ -1,5 +1,5 @@
 -- The map that is made of the pieces of simplified stars is built from these stars, and its numbers are small.
-use Rattle.nef_spair.proofs.Prelude.{◌≡◌, ℕ, zero, suc, List, [], ◌∷◌, map, Option, Some, None, option_map, MatchOption, true, refl, sym, ap, subst, ◌∙◌, inl, inr, All, normal_limit, svertex_limit, Vector, IsAtMost, Label, vector_of, At, MapVertex, Arc, MapSloop, Item, items_then, item_normal, InOrder, ArcBelow, IsStraight, IsBare, IsRawOf, svertex_at, IsArcFrom, IsSloopFrom, raw_sloop, straight_sloop, IsRawLabel, IsBuiltFrom, ray_of, star_of, IsStar, SArc, SLoop, RawStars, SphereMap, svertex_of, arc_of, sloop_of, map_of, raw_of, IsSmall, at-map, map-at, at-within, IsMadeOf, Pieces, ArePiecesOf, IsChosen, not-both as none-some, is-at_none, is-at_first}
+use Rattle.nef_spair.proofs.Prelude.{◌≡◌, ℕ, zero, suc, List, [], ◌∷◌, map, Option, Some, None, option_map, MatchOption, true, refl, sym, ap, subst, ◌∙◌, inl, inr, All, normal_limit, svertex_limit, Vector, IsAtMost, Label, vector_of, IsAt, MapVertex, Arc, MapSloop, Item, items_then, item_normal, InOrder, ArcBelow, IsStraight, IsBare, IsRawOf, svertex_at, IsArcFrom, IsSloopFrom, raw_sloop, straight_sloop, IsRawLabel, IsBuiltFrom, ray_of, star_of, IsStar, SArc, SLoop, RawStars, SphereMap, svertex_of, arc_of, sloop_of, map_of, raw_of, IsSmall, at-map, map-at, at-within, IsMadeOf, Pieces, ArePiecesOf, IsChosen, not-both as none-some, is-at_none, is-at_first}
 use Rattle.law_sphere.specs.Stars.{Ray as PlainRay, Star as PlainStar}
 use Rattle.nef_spair.proofs.OneKind.{no-sloop-was, none-was}
 use Rattle.nef_spair.proofs.Places.{all-at}
@@ -12,13 +12,13 @@ module _ (q : RawStars) (p : Pieces) (m : SphereMap) (pieces : ArePiecesOf q p) 
   K = map star_of p.kept
 
   -- ---- arcs
-  arcs-from : (k : ℕ) (a : Arc) → At (map arc_of m.arcs) k a → IsArcFrom K a
+  arcs-from : (k : ℕ) (a : Arc) → IsAt (map arc_of m.arcs) k a → IsArcFrom K a
   arcs-from k a h = let b = at-map arc_of m.arcs k a h in let w = made.arcs in subst (IsArcFrom K) b.2 (w.from k b.0 b.1)
 
-  arcs-all : (i k : ℕ) (t : PlainStar) (r : PlainRay) → At K i t → At t.rays k r → r.ahead ≡ true → (j : ℕ) × (a : Arc) × At (map arc_of m.arcs) j a × (a.source ≡ i) × (a.normal ≡ r.normal)
+  arcs-all : (i k : ℕ) (t : PlainStar) (r : PlainRay) → IsAt K i t → IsAt t.rays k r → r.ahead ≡ true → (j : ℕ) × (a : Arc) × IsAt (map arc_of m.arcs) j a × (a.source ≡ i) × (a.normal ≡ r.normal)
   arcs-all i k t r h b f =
       let u = at-map star_of p.kept i t h in
-      let v = at-map ray_of u.0.rays.items k r (subst (λ (x : PlainStar). At x.rays k r) (sym u.2) b) in
+      let v = at-map ray_of u.0.rays.items k r (subst (λ (x : PlainStar). IsAt x.rays k r) (sym u.2) b) in
       let w = made.arcs in
       let o = w.all i k u.0 v.0 u.1 v.1 (ap (λ (x : PlainRay). x.ahead) v.2 ∙ f) (inl (at-within p.kept i u.0 u.1)) in
       (o.0, arc_of o.1, map-at arc_of m.arcs o.0 o.1 o.2, o.3, ap vector_of o.4 ∙ ap (λ (x : PlainRay). x.normal) v.2)
@@ -93,9 +93,9 @@ module _ (q : RawStars) (p : Pieces) (m : SphereMap) (pieces : ArePiecesOf q p) 
 
   -- ---- sizes
   module _ (stars : All IsStar q.stars) (circle : (l : SLoop) → q.sloop ≡ Some l → IsAtMost normal_limit (vector_of l.normal)) where
-    way-small : (k : ℕ) (v : MapVertex) → At (map svertex_of m.svertices) k v → IsAtMost svertex_limit v.dir
+    way-small : (k : ℕ) (v : MapVertex) → IsAt (map svertex_of m.svertices) k v → IsAtMost svertex_limit v.dir
     way-small k v a =
-        let t = at-map svertex_at K k v (subst (λ (l : List MapVertex). At l k v) made.svertices a) in
+        let t = at-map svertex_at K k v (subst (λ (l : List MapVertex). IsAt l k v) made.svertices a) in
         let u = at-map star_of p.kept k t.0 t.1 in
         let s = all-at IsStar p.kept (kept-stars q p pieces stars) k u.0 u.1 in
         subst (λ (x : MapVertex). IsAtMost svertex_limit x.dir) t.2 (subst (λ (x : PlainStar). IsAtMost svertex_limit x.axis) u.2 s.turned.axis_small)
@@ -104,9 +104,9 @@ module _ (q : RawStars) (p : Pieces) (m : SphereMap) (pieces : ArePiecesOf q p) 
     chosen-small c (inl (given, proper)) = circle c given
     chosen-small c (inr (k, listed, bare)) = let w = pieces.circles in all-at (λ (x : SLoop). IsAtMost normal_limit (vector_of x.normal)) p.circles w.small k c listed
 
-    items-small : (arcs : List SArc) (o : Option SLoop) → ((k : ℕ) (a : SArc) → At arcs k a → IsAtMost normal_limit (vector_of a.normal))
+    items-small : (arcs : List SArc) (o : Option SLoop) → ((k : ℕ) (a : SArc) → IsAt arcs k a → IsAtMost normal_limit (vector_of a.normal))
         → MatchOption o ((d : SLoop) → IsChosen p.kept p.circles q.sloop d → ⊥) (IsChosen p.kept p.circles q.sloop)
-        → (k : ℕ) (x : Item) → At (items_then (map arc_of arcs) (option_map sloop_of o)) k x → IsAtMost normal_limit (item_normal x)
+        → (k : ℕ) (x : Item) → IsAt (items_then (map arc_of arcs) (option_map sloop_of o)) k x → IsAtMost normal_limit (item_normal x)
     items-small [] None f w k x a = absurd (is-at_none a)
     items-small [] (Some c) f w zero x a = subst (λ (y : Item). IsAtMost normal_limit (item_normal y)) (is-at_first a) (chosen-small c w)
     items-small [] (Some c) f w (suc k) x a = absurd (is-at_none a)

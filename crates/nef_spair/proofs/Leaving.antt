@@ -1,16 +1,16 @@
 -- The arcs that leave stars, one ray after another.
-use Rattle.nef_spair.proofs.Prelude.{◌≡◌, ℕ, zero, suc, ◌+◌, ◌<◌, ◌≤◌, List, [], ◌∷◌, ◌++◌, length, map, get_or, true, Bool, cond, arith, sym, ap, subst, ◌∙◌, inl, inr, ◌⊎◌, eq-or-lt_of_le, length-map, normal_limit, opposite, IsAtMost, SameDirection, Label, Out, vector_of, Dir, At, Arc as PlainArc, Follows, at-one, IsArcFrom, IsFirstAfter, Ray, Star, ray_of, star_of, left_of, left_at, IsRay, IsTurned, IsNext, three_ways, count-some, SArc, arc_of, map-at, at-within, get-at, IsEarlier, IsAlong, IsTwin, AreApart, AreArcs, SameDirection-turned, dir-self, is-at_none, is-at_first}
+use Rattle.nef_spair.proofs.Prelude.{◌≡◌, ℕ, zero, suc, ◌+◌, ◌<◌, ◌≤◌, List, [], ◌∷◌, ◌++◌, length, map, get_or, true, Bool, cond, arith, sym, ap, subst, ◌∙◌, inl, inr, ◌⊎◌, eq-or-lt_of_le, length-map, normal_limit, opposite, IsAtMost, SameDirection, Label, Out, vector_of, Dir, IsAt, Arc as PlainArc, Follows, at-one, IsArcFrom, IsFirstAfter, Ray, Star, ray_of, star_of, left_of, left_at, IsRay, BeginsAnywhere, IsNext, three_ways, count-some, SArc, arc_of, map-at, at-within, get-at, IsEarlierRay, LeavesAlong, IsTwin, AreApart, AreArcs, SameDirection-turned, dir-self, is-at_none, is-at_first}
 use Rattle.nef_smap.proofs.WellFormed.{left-at}
 use Rattle.nef_spair.proofs.Places.{at-before, at-last, at-more, all-at}
 
 -- ---- one arc
-pub as-many-sectors : (t : Star) → IsTurned t → (k : ℕ) (r : Ray) → At t.rays.items k r → length t.sectors.items ≡ length t.rays.items
+pub as-many-sectors : (t : Star) → BeginsAnywhere t → (k : ℕ) (r : Ray) → IsAt t.rays.items k r → length t.sectors.items ≡ length t.rays.items
 as-many-sectors t T k r h = T.sectors ∙ count-some t.rays.items (let w = at-within t.rays.items k r h in omega (arith, w))
 
-pub ray-leaves : (t : Star) → IsTurned t → (k : ℕ) (r : Ray) → At t.rays.items k r → IsRay (vector_of t.axis) r
+pub ray-leaves : (t : Star) → BeginsAnywhere t → (k : ℕ) (r : Ray) → IsAt t.rays.items k r → IsRay (vector_of t.axis) r
 ray-leaves t T k r h = all-at (IsRay (vector_of t.axis)) t.rays.items T.rays k r h
 
-module _ (kept : List Star) (a : PlainArc) (t : Star) (r : Ray) (number before : ℕ) (T : IsTurned t) (star : At kept a.source t) (ray : At t.rays.items number r) (ahead : r.ahead ≡ true)
+module _ (kept : List Star) (a : PlainArc) (t : Star) (r : Ray) (number before : ℕ) (T : BeginsAnywhere t) (star : IsAt kept a.source t) (ray : IsAt t.rays.items number r) (ahead : r.ahead ≡ true)
     (normal : a.normal ≡ vector_of r.normal) (mark : a.mark ≡ r.mark) (above : a.pos ≡ get_or t.sectors.items number Out) (below : a.neg ≡ get_or t.sectors.items before Out)
     (follows : IsNext (length t.sectors.items) before number) (target : IsFirstAfter (map star_of kept) a.normal (star_of t) a.target) where
   sectors : length t.sectors.items ≡ length t.rays.items
@@ -19,8 +19,8 @@ module _ (kept : List Star) (a : PlainArc) (t : Star) (r : Ray) (number before :
   within : number < length t.rays.items
   within = at-within t.rays.items number r ray
 
-  label : (k : ℕ) (l : Label) → k < length t.sectors.items → l ≡ get_or t.sectors.items k Out → At t.sectors.items k l
-  label k l h e = subst (At t.sectors.items k) (sym e) (get-at t.sectors.items k Out h)
+  label : (k : ℕ) (l : Label) → k < length t.sectors.items → l ≡ get_or t.sectors.items k Out → IsAt t.sectors.items k l
+  label k l h e = subst (IsAt t.sectors.items k) (sym e) (get-at t.sectors.items k Out h)
 
   before_within : before < length t.sectors.items
   before_within = elim follows [ inl e ↦ omega (arith, e.0, within, sectors) | inr e ↦ omega (arith, e.0) ]
@@ -49,7 +49,7 @@ module _ (kept : List Star) (a : PlainArc) (t : Star) (r : Ray) (number before :
   }
 
 -- ---- two rays of a star leave in different directions
-module _ (t : Star) (T : IsTurned t) where
+module _ (t : Star) (T : BeginsAnywhere t) where
   later-differs : (i k : ℕ) → i < k → k < length t.rays.items → SameDirection (left_at t.rays.items k) (left_at t.rays.items i) → ⊥
   later-differs zero k h l s = T.counterclockwise.apart k h l (SameDirection-turned (left_at t.rays.items k) (left_at t.rays.items 0) s)
   later-differs (suc i) k h l s = let p = T.counterclockwise.rising (suc i) k (omega arith) h l in p.not_target s
@@ -57,12 +57,12 @@ module _ (t : Star) (T : IsTurned t) where
   left-ahead : (r : Ray) → r.ahead ≡ true → left_of r ≡ vector_of r.normal
   left-ahead r e = ap (λ (b : Bool). cond b (vector_of r.normal) (opposite (vector_of r.normal))) e
 
-  same-left : (i k : ℕ) (q r : Ray) → At t.rays.items i q → At t.rays.items k r → q.ahead ≡ true → r.ahead ≡ true → q.normal ≡ r.normal → SameDirection (left_at t.rays.items k) (left_at t.rays.items i)
+  same-left : (i k : ℕ) (q r : Ray) → IsAt t.rays.items i q → IsAt t.rays.items k r → q.ahead ≡ true → r.ahead ≡ true → q.normal ≡ r.normal → SameDirection (left_at t.rays.items k) (left_at t.rays.items i)
   same-left i k q r a b qa ra e =
       let li = left-at t.rays.items i q a ∙ left-ahead q qa ∙ ap vector_of e in let lk = left-at t.rays.items k r b ∙ left-ahead r ra in
       rw (li, lk) (dir-self (vector_of r.normal) r.normal.some)
 
-  pub one-ray : (i k : ℕ) (q r : Ray) → At t.rays.items i q → At t.rays.items k r → q.ahead ≡ true → r.ahead ≡ true → q.normal ≡ r.normal → i ≡ k
+  pub one-ray : (i k : ℕ) (q r : Ray) → IsAt t.rays.items i q → IsAt t.rays.items k r → q.ahead ≡ true → r.ahead ≡ true → q.normal ≡ r.normal → i ≡ k
   one-ray i k q r a b qa ra e =
       elim (three_ways i k) [
         | inl l ↦ absurd (later-differs i k l (at-within t.rays.items k r b) (same-left i k q r a b qa ra e))
@@ -72,16 +72,16 @@ module _ (t : Star) (T : IsTurned t) where
 -- ---- arcs of more rays
 
 module _ (kept : List Star) (i n : ℕ) (arcs : List SArc) (w : AreArcs kept i n arcs) where
-  earlier : (j m : ℕ) → IsEarlier i n j m → IsEarlier i (n + 1) j m
+  earlier : (j m : ℕ) → IsEarlierRay i n j m → IsEarlierRay i (n + 1) j m
   earlier j m (inl h) = inl h
   earlier j m (inr (e, h)) = inr (e, omega (arith, h))
 
-  latest : (j m : ℕ) → IsEarlier i (n + 1) j m → IsEarlier i n j m ⊎ ((j ≡ i) × (m ≡ n))
+  latest : (j m : ℕ) → IsEarlierRay i (n + 1) j m → IsEarlierRay i n j m ⊎ ((j ≡ i) × (m ≡ n))
   latest j m (inl h) = inl (inl h)
   latest j m (inr (e, h)) = elim (eq-or-lt_of_le {n = m} {m = n} (omega (arith, h))) [ inl z ↦ inr (e, z) | inr l ↦ inl (inr (e, l)) ]
 
   -- ray n of star i doesn't go ahead
-  pub arcs-past : (t : Star) (r : Ray) → At kept i t → At t.rays.items n r → (r.ahead ≡ true → ⊥) → AreArcs kept i (n + 1) arcs
+  pub arcs-past : (t : Star) (r : Ray) → IsAt kept i t → IsAt t.rays.items n r → (r.ahead ≡ true → ⊥) → AreArcs kept i (n + 1) arcs
   arcs-past t r st ra back = record {
     from = w.from;
     small = w.small;
@@ -90,26 +90,26 @@ module _ (kept : List Star) (i n : ℕ) (arcs : List SArc) (w : AreArcs kept i n
     all = λ j m u q h b f e. elim (latest j m e) [ inl x ↦ w.all j m u q h b f x | inr x ↦ absurd (back (same j m u q h b f x.0 x.1)) ];
   }
     where
-      same : (j m : ℕ) (u : Star) (q : Ray) → At kept j u → At u.rays.items m q → q.ahead ≡ true → j ≡ i → m ≡ n → r.ahead ≡ true
+      same : (j m : ℕ) (u : Star) (q : Ray) → IsAt kept j u → IsAt u.rays.items m q → q.ahead ≡ true → j ≡ i → m ≡ n → r.ahead ≡ true
       same j m u q h b f e z =
-          let us : u ≡ t = at-one kept i u t (subst (λ (x : ℕ). At kept x u) e h) st in
-          let qs : q ≡ r = at-one t.rays.items n q r (subst (λ (x : Star). At x.rays.items n q) us (subst (λ (x : ℕ). At u.rays.items x q) z b)) ra in
+          let us : u ≡ t = at-one kept i u t (subst (λ (x : ℕ). IsAt kept x u) e h) st in
+          let qs : q ≡ r = at-one t.rays.items n q r (subst (λ (x : Star). IsAt x.rays.items n q) us (subst (λ (x : ℕ). IsAt u.rays.items x q) z b)) ra in
           subst (λ (x : Ray). x.ahead ≡ true) qs f
 
   -- the arc along ray n of star i
-  module _ (c : SArc) (from : IsArcFrom (map star_of kept) (arc_of c)) (source : c.source ≡ i) (along : IsAlong kept c n) (turned : IsTurned along.star) where
+  module _ (c : SArc) (from : IsArcFrom (map star_of kept) (arc_of c)) (source : c.source ≡ i) (along : LeavesAlong kept c n) (turned : BeginsAnywhere along.star) where
     small : IsAtMost normal_limit (vector_of c.normal)
     small = let l = ray-leaves along.star turned n along.ray along.has_ray in subst (λ (d : Dir). IsAtMost normal_limit (vector_of d)) (sym along.normal) l.small
 
     -- no earlier arc is its twin
-    twin : (k : ℕ) (a : SArc) → At arcs k a → IsTwin a c → ⊥
+    twin : (k : ℕ) (a : SArc) → IsAt arcs k a → IsTwin a c → ⊥
     twin k a h (e, s) =
         let p = w.along k a h in let u = p.1 in
-        let same : u.star ≡ along.star = at-one kept i u.star along.star (subst (λ (x : ℕ). At kept x u.star) (s ∙ source) u.has_star) (subst (λ (x : ℕ). At kept x along.star) source along.has_star) in
-        let one : p.0 ≡ n = one-ray along.star turned p.0 n u.ray along.ray (subst (λ (x : Star). At x.rays.items p.0 u.ray) same u.has_ray) along.has_ray u.ahead along.ahead (sym u.normal ∙ e ∙ along.normal) in
+        let same : u.star ≡ along.star = at-one kept i u.star along.star (subst (λ (x : ℕ). IsAt kept x u.star) (s ∙ source) u.has_star) (subst (λ (x : ℕ). IsAt kept x along.star) source along.has_star) in
+        let one : p.0 ≡ n = one-ray along.star turned p.0 n u.ray along.ray (subst (λ (x : Star). IsAt x.rays.items p.0 u.ray) same u.has_ray) along.has_ray u.ahead along.ahead (sym u.normal ∙ e ∙ along.normal) in
         elim p.2 [ inl l ↦ omega (arith, l, s, source) | inr l ↦ omega (arith, l.1, one) ]
 
-    old-or-new : (k : ℕ) (a : SArc) → At (arcs ++ c ∷ []) k a → At arcs k a ⊎ ((k ≡ length arcs) × (c ≡ a))
+    old-or-new : (k : ℕ) (a : SArc) → IsAt (arcs ++ c ∷ []) k a → IsAt arcs k a ⊎ ((k ≡ length arcs) × (c ≡ a))
     old-or-new k a h = at-more arcs c k a h
 
     twins : AreApart (arcs ++ c ∷ [])
@@ -130,7 +130,7 @@ module _ (kept : List Star) (i n : ℕ) (arcs : List SArc) (w : AreArcs kept i n
       along = λ k a h.
           elim (old-or-new k a h) [
             | inl x ↦ let s = w.along k a x in (s.0, s.1, earlier a.source s.0 s.2)
-            | inr x ↦ subst (λ (d : SArc). (m : ℕ) × IsAlong kept d m × IsEarlier i (n + 1) d.source m) x.1 (n, along, inr (source, omega arith))
+            | inr x ↦ subst (λ (d : SArc). (m : ℕ) × LeavesAlong kept d m × IsEarlierRay i (n + 1) d.source m) x.1 (n, along, inr (source, omega arith))
           ];
       all = λ j m u q h b f e.
           elim (latest j m e) [
@@ -139,13 +139,13 @@ module _ (kept : List Star) (i n : ℕ) (arcs : List SArc) (w : AreArcs kept i n
           ];
     }
       where
-        same : (j m : ℕ) (u : Star) (q : Ray) → At kept j u → At u.rays.items m q → j ≡ i → m ≡ n → along.ray.normal ≡ q.normal
+        same : (j m : ℕ) (u : Star) (q : Ray) → IsAt kept j u → IsAt u.rays.items m q → j ≡ i → m ≡ n → along.ray.normal ≡ q.normal
         same j m u q h b e z =
-            let us : u ≡ along.star = at-one kept i u along.star (subst (λ (x : ℕ). At kept x u) e h) (subst (λ (x : ℕ). At kept x along.star) source along.has_star) in
-            ap (λ (r : Ray). r.normal) (at-one along.star.rays.items n along.ray q along.has_ray (subst (λ (x : Star). At x.rays.items n q) us (subst (λ (x : ℕ). At u.rays.items x q) z b)))
+            let us : u ≡ along.star = at-one kept i u along.star (subst (λ (x : ℕ). IsAt kept x u) e h) (subst (λ (x : ℕ). IsAt kept x along.star) source along.has_star) in
+            ap (λ (r : Ray). r.normal) (at-one along.star.rays.items n along.ray q along.has_ray (subst (λ (x : Star). IsAt x.rays.items n q) us (subst (λ (x : ℕ). IsAt u.rays.items x q) z b)))
 
 -- all rays of star i are done
-pub arcs-next : (kept : List Star) (i n : ℕ) (arcs : List SArc) (t : Star) → At kept i t → length t.rays.items ≤ n → AreArcs kept i n arcs → AreArcs kept (i + 1) 0 arcs
+pub arcs-next : (kept : List Star) (i n : ℕ) (arcs : List SArc) (t : Star) → IsAt kept i t → length t.rays.items ≤ n → AreArcs kept i n arcs → AreArcs kept (i + 1) 0 arcs
 arcs-next kept i n arcs t st h w = record {
   from = w.from;
   small = w.small;
@@ -154,10 +154,10 @@ arcs-next kept i n arcs t st h w = record {
   all = λ j m u q x b f e. w.all j m u q x b f (before j m u q x b e);
 }
   where
-    before : (j m : ℕ) (u : Star) (q : Ray) → At kept j u → At u.rays.items m q → IsEarlier (i + 1) 0 j m → IsEarlier i n j m
+    before : (j m : ℕ) (u : Star) (q : Ray) → IsAt kept j u → IsAt u.rays.items m q → IsEarlierRay (i + 1) 0 j m → IsEarlierRay i n j m
     before j m u q x b (inl l) =
         elim (eq-or-lt_of_le {n = j} {m = i} (omega (arith, l))) [
-          | inl z ↦ inr (z, let us : u ≡ t = at-one kept i u t (subst (λ (y : ℕ). At kept y u) z x) st in omega (arith, h, at-within t.rays.items m q (subst (λ (y : Star). At y.rays.items m q) us b)))
+          | inl z ↦ inr (z, let us : u ≡ t = at-one kept i u t (subst (λ (y : ℕ). IsAt kept y u) z x) st in omega (arith, h, at-within t.rays.items m q (subst (λ (y : Star). IsAt y.rays.items m q) us b)))
           | inr y ↦ inl y
         ]
     before j m u q x b (inr l) = absurd (omega (arith, l.1))

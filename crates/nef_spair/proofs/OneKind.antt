@@ -1,5 +1,5 @@
 -- A map has one kind, and what its fields say of it.
-use Rattle.nef_spair.proofs.Prelude.{◌≡◌, ℤ, List, [], ◌∷◌, length, map, slice_get, Option, Some, None, option_map, arith, refl, sym, ap, subst, ◌∙◌, Place, Set, Vector, opposite, SameDirection, IsOpposite, vector_of, Dir, same_directions_equal, Map, MapVertex, MapSloop, Least, Cone, IsInVolume, IsInFacet, IsOnEdge, SLoop, SphereMap, svertex_of, sloop_of, map_of, dir-equal, Vertex, OnEdge, InFacet, InVolume, IsVertex, IsKind, KindFits}
+use Rattle.nef_spair.proofs.Prelude.{◌≡◌, ℤ, List, [], ◌∷◌, length, map, slice_get, Option, Some, None, option_map, arith, refl, sym, ap, subst, ◌∙◌, SpacePoint, Set, Vector, opposite, SameDirection, IsOpposite, vector_of, Dir, same_directions_equal, Map, MapVertex, MapSloop, Least, Cone, IsInVolume, IsInFacet, IsOnEdge, SLoop, SphereMap, svertex_of, sloop_of, map_of, dir-equal, Vertex, OnEdge, InFacet, InVolume, IsVertexMap, IsKind, KindFits}
 use Rattle.nef_space.proofs.Vectors.{opposite-itself, opposite-way}
 use Rattle.law_sphere.proofs.Kind.{flat-parallel}
 use Rattle.law_sphere.proofs.KindFlats.{facet-flat, facet-only}
@@ -51,12 +51,12 @@ module _ (M : Map) where
   exactly k h l = (one-kind k l h, λ e. subst (IsKind M) e h)
 
   -- ---- what each kind says of the flat directions
-  neither : IsVertex M → KindOf M → ⊥
+  neither : IsVertexMap M → KindOf M → ⊥
   neither v (of_volume h) = v.no_volume h
   neither v (of_facet n h) = v.no_facet n h
   neither v (of_edge d h) = v.no_edge d h
 
-  pub fits : (k : Kind) → IsKind M k → Least M → (s : Set) (p : Place) → Cone M s p → KindFits k s p
+  pub fits : (k : Kind) → IsKind M k → Least M → (s : Set) (p : SpacePoint) → Cone M s p → KindFits k s p
   fits Vertex h L s p C = vertex-dimension M s p C L (neither h)
   fits (OnEdge d) h L s p C = (
     edge-dimension M s p C L (vector_of d) h,

@@ -1,28 +1,28 @@
 -- Elements by their places in longer lists, and what is left of a list without some.
-use Rattle.nef_spair.proofs.Prelude.{◌≡◌, ℕ, zero, suc, ◌<◌, List, [], ◌∷◌, ◌++◌, length, get_or, slice_get, Some, arith, refl, sym, ap, subst, inl, inr, ◌⊎◌, All, At, at-within, at-get, get-at, AreOthers, is-at_none, is-at_first, is-at_left, is-at_last, is-at_more}
+use Rattle.nef_spair.proofs.Prelude.{◌≡◌, ℕ, zero, suc, ◌<◌, List, [], ◌∷◌, ◌++◌, length, get_or, slice_get, Some, arith, refl, sym, ap, subst, inl, inr, ◌⊎◌, All, IsAt, at-within, at-get, get-at, AreOthers, is-at_none, is-at_first, is-at_left, is-at_last, is-at_more}
 
 module _ {A : Type 0} where
-  pub at-before : (xs ys : List A) (k : ℕ) (x : A) → At xs k x → At (xs ++ ys) k x
+  pub at-before : (xs ys : List A) (k : ℕ) (x : A) → IsAt xs k x → IsAt (xs ++ ys) k x
   at-before xs ys k x h = is-at_left xs ys k x h
 
-  pub at-last : (xs : List A) (x : A) → At (xs ++ x ∷ []) (length xs) x
+  pub at-last : (xs : List A) (x : A) → IsAt (xs ++ x ∷ []) (length xs) x
   at-last xs x = is-at_last xs x
 
-  pub at-more : (xs : List A) (y : A) (k : ℕ) (x : A) → At (xs ++ y ∷ []) k x → At xs k x ⊎ ((k ≡ length xs) × (y ≡ x))
+  pub at-more : (xs : List A) (y : A) (k : ℕ) (x : A) → IsAt (xs ++ y ∷ []) k x → IsAt xs k x ⊎ ((k ≡ length xs) × (y ≡ x))
   at-more xs y k x h = is-at_more xs y k x h
 
-  pub all-at : (P : A → Type 0) (xs : List A) → All P xs → (k : ℕ) (x : A) → At xs k x → P x
+  pub all-at : (P : A → Type 0) (xs : List A) → All P xs → (k : ℕ) (x : A) → IsAt xs k x → P x
   all-at P xs a k x h = subst P (at-get xs k x x h) (a k x (at-within xs k x h))
 
-  pub at-all : (P : A → Type 0) (xs : List A) → ((k : ℕ) (x : A) → At xs k x → P x) → All P xs
+  pub at-all : (P : A → Type 0) (xs : List A) → ((k : ℕ) (x : A) → IsAt xs k x → P x) → All P xs
   at-all P xs a k d h = a k (get_or xs k d) (get-at xs k d h)
 
-  pub some-at : (xs : List A) (k : ℕ) (x : A) → slice_get xs k ≡ Some x → At xs k x
+  pub some-at : (xs : List A) (k : ℕ) (x : A) → slice_get xs k ≡ Some x → IsAt xs k x
   some-at xs k x e = e
 
   -- what indexing gives
-  pub index-at : (xs : List A) (k : ℕ) (x : A) → k < length xs → x ≡ get_or xs k x → At xs k x
-  index-at xs k x h e = subst (At xs k) (sym e) (get-at xs k x h)
+  pub index-at : (xs : List A) (k : ℕ) (x : A) → k < length xs → x ≡ get_or xs k x → IsAt xs k x
+  index-at xs k x h e = subst (IsAt xs k) (sym e) (get-at xs k x h)
 
   -- ---- those of a list that P doesn't hold of
   module _ (P : A → Type 0) where
@@ -36,32 +36,32 @@ module _ {A : Type 0} where
     others-leave (z ∷ xs) ys x (inl (m, zs, e, r)) p = inl (m, zs, e, others-leave xs zs x r p)
     others-leave (z ∷ xs) ys x (inr (q, r)) p = inr (q, others-leave xs ys x r p)
 
-    pub others-same : (xs : List A) → ((k : ℕ) (x : A) → At xs k x → P x → ⊥) → AreOthers P xs xs
+    pub others-same : (xs : List A) → ((k : ℕ) (x : A) → IsAt xs k x → P x → ⊥) → AreOthers P xs xs
     others-same [] n = refl
     others-same (z ∷ xs) n = inl (n 0 z refl, xs, refl, others-same xs (λ k x a. n (suc k) x a))
 
-    pub others-from : (xs ys : List A) → AreOthers P xs ys → (k : ℕ) (y : A) → At ys k y → (j : ℕ) × At xs j y × (P y → ⊥)
-    others-from [] ys e k y h = absurd (is-at_none (subst (λ (l : List A). At l k y) e h))
-    others-from (x ∷ xs) ys (inl (n, zs, e, r)) zero y h = let i = subst (λ (l : List A). At l 0 y) e h in (0, i, λ p. n (subst P (sym (is-at_first i)) p))
-    others-from (x ∷ xs) ys (inl (n, zs, e, r)) (suc k) y h = let f = others-from xs zs r k y (subst (λ (l : List A). At l (suc k) y) e h) in (suc f.0, f.1, f.2)
+    pub others-from : (xs ys : List A) → AreOthers P xs ys → (k : ℕ) (y : A) → IsAt ys k y → (j : ℕ) × IsAt xs j y × (P y → ⊥)
+    others-from [] ys e k y h = absurd (is-at_none (subst (λ (l : List A). IsAt l k y) e h))
+    others-from (x ∷ xs) ys (inl (n, zs, e, r)) zero y h = let i = subst (λ (l : List A). IsAt l 0 y) e h in (0, i, λ p. n (subst P (sym (is-at_first i)) p))
+    others-from (x ∷ xs) ys (inl (n, zs, e, r)) (suc k) y h = let f = others-from xs zs r k y (subst (λ (l : List A). IsAt l (suc k) y) e h) in (suc f.0, f.1, f.2)
     others-from (x ∷ xs) ys (inr (p, r)) k y h = let f = others-from xs ys r k y h in (suc f.0, f.1, f.2)
 
-    pub others-all : (xs ys : List A) → AreOthers P xs ys → (j : ℕ) (x : A) → At xs j x → P x ⊎ ((k : ℕ) × At ys k x)
+    pub others-all : (xs ys : List A) → AreOthers P xs ys → (j : ℕ) (x : A) → IsAt xs j x → P x ⊎ ((k : ℕ) × IsAt ys k x)
     others-all [] ys e j x h = absurd (is-at_none h)
-    others-all (z ∷ xs) ys (inl (n, zs, e, r)) zero x h = inr (0, subst (λ (l : List A). At l 0 x) (sym e) h)
+    others-all (z ∷ xs) ys (inl (n, zs, e, r)) zero x h = inr (0, subst (λ (l : List A). IsAt l 0 x) (sym e) h)
     others-all (z ∷ xs) ys (inl (n, zs, e, r)) (suc j) x h =
-        elim (others-all xs zs r j x h) [ inl p ↦ inl p | inr f ↦ inr (suc f.0, subst (λ (l : List A). At l (suc f.0) x) (sym e) f.1) ]
+        elim (others-all xs zs r j x h) [ inl p ↦ inl p | inr f ↦ inr (suc f.0, subst (λ (l : List A). IsAt l (suc f.0) x) (sym e) f.1) ]
     others-all (z ∷ xs) ys (inr (p, r)) zero x h = inl (subst P (is-at_first h) p)
     others-all (z ∷ xs) ys (inr (p, r)) (suc j) x h = others-all xs ys r j x h
 
     -- two of them stand in the same order in both lists
-    pub others-in_order : (xs ys : List A) → AreOthers P xs ys → (i k : ℕ) (x y : A) → i < k → At ys i x → At ys k y → (j : ℕ) × (l : ℕ) × (j < l) × At xs j x × At xs l y
-    others-in_order [] ys e i k x y h a b = absurd (is-at_none (subst (λ (l : List A). At l i x) e a))
+    pub others-in_order : (xs ys : List A) → AreOthers P xs ys → (i k : ℕ) (x y : A) → i < k → IsAt ys i x → IsAt ys k y → (j : ℕ) × (l : ℕ) × (j < l) × IsAt xs j x × IsAt xs l y
+    others-in_order [] ys e i k x y h a b = absurd (is-at_none (subst (λ (l : List A). IsAt l i x) e a))
     others-in_order (z ∷ xs) ys (inl (n, zs, e, r)) i zero x y h a b = absurd (omega arith)
     others-in_order (z ∷ xs) ys (inl (n, zs, e, r)) zero (suc k) x y h a b =
-        let f = others-from xs zs r k y (subst (λ (l : List A). At l (suc k) y) e b) in
-        let first = subst (λ (l : List A). At l 0 x) e a in (0, suc f.0, omega arith, first, f.1)
+        let f = others-from xs zs r k y (subst (λ (l : List A). IsAt l (suc k) y) e b) in
+        let first = subst (λ (l : List A). IsAt l 0 x) e a in (0, suc f.0, omega arith, first, f.1)
     others-in_order (z ∷ xs) ys (inl (n, zs, e, r)) (suc i) (suc k) x y h a b =
-        let f = others-in_order xs zs r i k x y (omega arith) (subst (λ (l : List A). At l (suc i) x) e a) (subst (λ (l : List A). At l (suc k) y) e b) in
+        let f = others-in_order xs zs r i k x y (omega arith) (subst (λ (l : List A). IsAt l (suc i) x) e a) (subst (λ (l : List A). IsAt l (suc k) y) e b) in
         let up : suc f.0 < suc f.1 = omega (arith, f.2) in (suc f.0, suc f.1, up, f.3, f.4)
     others-in_order (z ∷ xs) ys (inr (p, r)) i k x y h a b = let f = others-in_order xs ys r i k x y h a b in let up : suc f.0 < suc f.1 = omega (arith, f.2) in (suc f.0, suc f.1, up, f.3, f.4)

@@ -1,17 +1,17 @@
 -- Stars made simple one after another.
-use Rattle.nef_spair.proofs.Prelude.{◌≡◌, ℕ, zero, suc, ◌+◌, ◌<◌, ◌≤◌, List, [], ◌∷◌, length, get_or, slice_set, get_or-set_other, get_or-set_same, length-set, ◌≢◌, arith, sym, subst, ◌∙◌, inl, inr, ◌⊎◌, All, eq-or-lt_of_le, At, at-one, Star, IsStar, at-within, at-get, get-at, IsSimple, AreSimple, is-at_none}
+use Rattle.nef_spair.proofs.Prelude.{◌≡◌, ℕ, zero, suc, ◌+◌, ◌<◌, ◌≤◌, List, [], ◌∷◌, length, get_or, slice_set, get_or-set_other, get_or-set_same, length-set, ◌≢◌, arith, sym, subst, ◌∙◌, inl, inr, ◌⊎◌, All, eq-or-lt_of_le, IsAt, at-one, Star, IsStar, at-within, at-get, get-at, IsSimple, AreSimple, is-at_none}
 use Rattle.nef_spair.proofs.Places.{all-at}
 
 -- the first n are simple, and the others are as they were
 pub record IsSimpleUpTo (n : ℕ) (ts us : List Star) : Type 0 where
   pub as_many : length us ≡ length ts
-  pub done : (k : ℕ) (t s : Star) → k < n → At ts k t → At us k s → IsSimple t s
-  pub left : (k : ℕ) (s : Star) → n ≤ k → At us k s → At ts k s
+  pub done : (k : ℕ) (t s : Star) → k < n → IsAt ts k t → IsAt us k s → IsSimple t s
+  pub left : (k : ℕ) (s : Star) → n ≤ k → IsAt us k s → IsAt ts k s
 
 pub simple-all : (n : ℕ) (ts us : List Star) → length us ≤ n → IsSimpleUpTo n ts us → AreSimple ts us
 simple-all n ts us h w = record { as_many = w.as_many; each = λ k t s a b. w.done k t s (omega (arith, h, within us k s b)) a b }
   where
-    within : (us : List Star) (k : ℕ) (s : Star) → At us k s → k < length us
+    within : (us : List Star) (k : ℕ) (s : Star) → IsAt us k s → k < length us
     within [] k s a = absurd (is-at_none a)
     within (u ∷ us) zero s a = omega arith
     within (u ∷ us) (suc k) s a = omega (arith, within us k s a)
@@ -24,13 +24,13 @@ module _ (n : ℕ) (ts us : List Star) (w : IsSimpleUpTo n ts us) (h : n < lengt
     fits : length (slice_set us n s) ≡ length us
     fits = length-set us n s
 
-    other : (k : ℕ) (r : Star) → k ≢ n → At (slice_set us n s) k r → At us k r
+    other : (k : ℕ) (r : Star) → k ≢ n → IsAt (slice_set us n s) k r → IsAt us k r
     other k r e a =
         let within = at-within (slice_set us n s) k r a in
         let same : get_or us k r ≡ r = sym (get_or-set_other us n k s r e) ∙ at-get (slice_set us n s) k r r a in
-        subst (At us k) same (get-at us k r (omega (arith, within, fits)))
+        subst (IsAt us k) same (get-at us k r (omega (arith, within, fits)))
 
-    this : (r : Star) → At (slice_set us n s) n r → s ≡ r
+    this : (r : Star) → IsAt (slice_set us n s) n r → s ≡ r
     this r a = sym (get_or-set_same us n s r h) ∙ at-get (slice_set us n s) n r r a
 
     pub simple-more : IsSimpleUpTo (n + 1) ts (slice_set us n s)
@@ -40,9 +40,9 @@ module _ (n : ℕ) (ts us : List Star) (w : IsSimpleUpTo n ts us) (h : n < lengt
       left = λ k r l a. w.left k r (omega (arith, l)) (other k r (λ e. omega (arith, e, l)) a);
     }
       where
-        at : (k : ℕ) (t r : Star) → (k ≡ n) ⊎ (k < n) → At ts k t → At (slice_set us n s) k r → IsSimple t r
+        at : (k : ℕ) (t r : Star) → (k ≡ n) ⊎ (k < n) → IsAt ts k t → IsAt (slice_set us n s) k r → IsSimple t r
         at k t r (inl e) a b =
             let was = w.left n (get_or us n d) (omega arith) (get-at us n d h) in
-            let one : get_or us n d ≡ t = at-one ts n (get_or us n d) t was (subst (λ (i : ℕ). At ts i t) e a) in
-            subst (λ (x : Star). IsSimple x r) one (subst (IsSimple (get_or us n d)) (this r (subst (λ (i : ℕ). At (slice_set us n s) i r) e b)) simple)
+            let one : get_or us n d ≡ t = at-one ts n (get_or us n d) t was (subst (λ (i : ℕ). IsAt ts i t) e a) in
+            subst (λ (x : Star). IsSimple x r) one (subst (IsSimple (get_or us n d)) (this r (subst (λ (i : ℕ). IsAt (slice_set us n s) i r) e b)) simple)
         at k t r (inr l) a b = w.done k t r l a (other k r (λ e. omega (arith, e, l)) b)

@@ -1,13 +1,13 @@
 -- The stars that become svertices, the circles of straight stars, and all pieces of which a map is made.
 use Rattle.std.specs.Prelude.{◌≡◌, ◌∷◌, ◌⊎◌}
-use Rattle.nef_geo.specs.Prelude.{ℕ, List, [], map, length, Option, Some, None, MatchOption, All, normal_limit, IsAtMost, Label, vector_of}
-use Rattle.law_sphere.specs.Maps.{At, MapSloop}
+use Rattle.nef_geo.specs.Prelude.{ℕ, List, [], map, length, Option, Some, None, MatchOption, All, normal_limit, IsAtMost, Label, vector_of, IsAt}
+use Rattle.law_sphere.specs.Maps.{MapSloop}
 use Rattle.law_sphere.specs.Stars.{Star as PlainStar, IsPlain, IsStraight, IsSimplified}
 use Rattle.law_sphere.specs.Builds.{Proper}
 use Rattle.law_sphere.specs.Raw.{IsBare}
 use Rattle.law_build.specs.From.{sloop_at, IsRawLabel}
 use Rattle.nef_star.specs.declared.star.Star.{Star}
-use Rattle.nef_star.specs.Stars.{star_of, IsStar, IsKept}
+use Rattle.nef_star.specs.Stars.{star_of, IsStar, KeepsLabels}
 use Rattle.nef_smap.specs.declared.map.SLoop.{SLoop}
 use Rattle.nef_smap.specs.declared.map.RawStars.{RawStars}
 use Rattle.nef_smap.specs.Maps.{sloop_of, raw_of}
@@ -15,19 +15,19 @@ use Rattle.nef_smap.specs.Maps.{sloop_of, raw_of}
 -- s is t without needless rays
 pub record IsSimple (t s : Star) : Type 0 where
   pub star : IsStar s
-  pub kept : IsKept t s
+  pub kept : KeepsLabels t s
   pub simplified : IsSimplified (star_of s)
 
 pub record AreSimple (ts us : List Star) : Type 0 where
   pub as_many : length us ≡ length ts
-  pub each : (k : ℕ) (t s : Star) → At ts k t → At us k s → IsSimple t s
+  pub each : (k : ℕ) (t s : Star) → IsAt ts k t → IsAt us k s → IsSimple t s
 
 -- the star is plain or straight, so it becomes no svertex
 abbrev pub IsDropped : Star → Type 0
 IsDropped t = IsPlain (star_of t) ⊎ IsStraight (star_of t)
 
 abbrev pub AreAllKept : List Star → Type 0
-AreAllKept ts = (k : ℕ) (t : Star) → At ts k t → IsDropped t → ⊥
+AreAllKept ts = (k : ℕ) (t : Star) → IsAt ts k t → IsDropped t → ⊥
 
 -- ys has, in order, the elements of xs of which P doesn't hold
 abbrev pub AreOthers : {A : Type 0} → (A → Type 0) → List A → List A → Type 0
@@ -40,8 +40,8 @@ IsCircleOf t l = (s : IsStraight t) × (l ≡ sloop_at t s)
 
 -- cs has the circles of the straight stars
 pub record AreCircles (ts : List Star) (cs : List SLoop) : Type 0 where
-  pub from : (k : ℕ) (c : SLoop) → At cs k c → (j : ℕ) × (t : Star) × At ts j t × IsCircleOf (star_of t) (sloop_of c)
-  pub all : (j : ℕ) (t : Star) → At ts j t → IsStraight (star_of t) → (k : ℕ) × (c : SLoop) × At cs k c × IsCircleOf (star_of t) (sloop_of c)
+  pub from : (k : ℕ) (c : SLoop) → IsAt cs k c → (j : ℕ) × (t : Star) × IsAt ts j t × IsCircleOf (star_of t) (sloop_of c)
+  pub all : (j : ℕ) (t : Star) → IsAt ts j t → IsStraight (star_of t) → (k : ℕ) × (c : SLoop) × IsAt cs k c × IsCircleOf (star_of t) (sloop_of c)
   pub small : All (λ c. IsAtMost normal_limit (vector_of c.normal)) cs
 
 -- o is a label of the raw stars, or none where the raw stars have no labels
@@ -70,4 +70,4 @@ IsProperCircle c = Proper c.pos c.mark c.neg
 
 -- c is the given circle, which is proper, or one of the circles that are bare
 abbrev pub IsChosen : List Star → List SLoop → Option SLoop → SLoop → Type 0
-IsChosen kept cs given c = ((given ≡ Some c) × IsProperCircle c) ⊎ ((k : ℕ) × At cs k c × IsBareCircle kept c)
+IsChosen kept cs given c = ((given ≡ Some c) × IsProperCircle c) ⊎ ((k : ℕ) × IsAt cs k c × IsBareCircle kept c)

@@ -1,7 +1,7 @@
 -- The names that most clauses cite, passed on from one place. Declares nothing.
-pub use Rattle.nef_geo.specs.Prelude.{All, IfOk, IsAtMost, IsDirection, IsPermutation, IsTrue, List, MatchOption, MatchOrdering, OnOk, Place, Set, Vector, [], dot, length, map, normal_limit, pos, true, vector_of, ℕ}
+pub use Rattle.nef_geo.specs.Prelude.{All, IfOk, IsAtMost, IsDirection, IsPermutation, IsTrue, List, MatchOption, MatchOrdering, OnOk, Set, SpacePoint, Vector, [], dot, length, map, normal_limit, pos, true, vector_of, ℕ}
 pub use Rattle.nef_star.specs.Prelude.{IsStraight}
-pub use Rattle.nef_smap.specs.Prelude.{At, IsLeastMap, IsStar, MapLabel, arc_of, map_of, star_of}
+pub use Rattle.nef_smap.specs.Prelude.{IsAt, IsLeastMap, IsStar, MapLabel, arc_of, map_of, star_of}
 pub use Rattle.law_sphere.specs.Kinds.{IsInFacet, IsInVolume, IsOnEdge}
 pub use Rattle.law_sphere.specs.Labelling.{ByOp}
 pub use Rattle.law_sphere.specs.Least.{Cone, InOrder, Least, Ordered, SameLabels}
@@ -10,7 +10,7 @@ pub use Rattle.law_sphere.specs.Raw.{IsBare, IsLabelling, IsRawOf}
 pub use Rattle.law_build.specs.From.{IsArcFrom, IsFirstAfter, around_of, svertex_at}
 pub use Rattle.law_build.specs.Overlays.{Raw}
 pub use Rattle.nef_smap.specs.Maps.{IsRawStars, raw_of, sloop_of, svertex_of}
-pub use Rattle.nef_spair.specs.Arcs.{AreApart, AreArcs, AreTwoEnds, IsAlong, IsArcBelow, IsTwin}
+pub use Rattle.nef_spair.specs.Arcs.{AreApart, AreArcs, AreTwoEnds, IsArcBelow, IsTwin, LeavesAlong}
 pub use Rattle.nef_spair.specs.Kinds.{IsKind, KindFits}
 pub use Rattle.nef_spair.specs.Made.{IsMadeOfSimple}
 pub use Rattle.nef_spair.specs.Pieces.{AreAllKept, AreCircles, AreOthers, AreSimple, IsBareCircle, IsChosen, IsCircleOf, IsDropped, IsGroundOf, IsProperCircle}

@@ -1,7 +1,7 @@
 //! The arcs that leave stars, by their rays.
 
 ghost use Rattle.std.specs.Prelude.{◌≡◌, ◌<◌, ◌+◌};
-ghost use Rattle.nef_spair.specs.Prelude.{length, map, pos, true, IsTrue, IfOk, OnOk, All, dot, vector_of, At, IsFirstAfter, IsArcFrom, star_of, IsStar, arc_of, AreTwoEnds, IsAlong, AreArcs};
+ghost use Rattle.nef_spair.specs.Prelude.{length, map, pos, true, IsTrue, IfOk, OnOk, All, dot, vector_of, IsAt, IsFirstAfter, IsArcFrom, star_of, IsStar, arc_of, AreTwoEnds, LeavesAlong, AreArcs};
 
 use crate::OutOfMemory;
 use nef_arc::{Arc, strictly_on};
@@ -14,8 +14,8 @@ use std::alloc::Global;
 // axis of star `from` itself comes last.
 fn first_after(kept: &[Star], from: usize, normal: &Dir) -> usize
     requires within { from < length kept.now }
-    requires level { (t : Star) → At kept.now from t → dot (vector_of normal.now) (vector_of t.axis) ≡ pos 0 }
-    ensures first { (t : Star) → At kept.now from t → IsFirstAfter (map star_of kept.now) (vector_of normal.now) (star_of t) result }
+    requires level { (t : Star) → IsAt kept.now from t → dot (vector_of normal.now) (vector_of t.axis) ≡ pos 0 }
+    ensures first { (t : Star) → IsAt kept.now from t → IsFirstAfter (map star_of kept.now) (vector_of normal.now) (star_of t) result }
 {
     let source = kept[from].axis;
     let mut first = from;
@@ -38,8 +38,8 @@ fn are_two_ends(kept: &[Star]) -> bool
 // The number of the star to which an arc with this normal leads from star `from`.
 fn target_of(kept: &[Star], from: usize, normal: &Dir) -> usize
     requires within { from < length kept.now }
-    requires level { (t : Star) → At kept.now from t → dot (vector_of normal.now) (vector_of t.axis) ≡ pos 0 }
-    ensures first { (t : Star) → At kept.now from t → IsFirstAfter (map star_of kept.now) (vector_of normal.now) (star_of t) result }
+    requires level { (t : Star) → IsAt kept.now from t → dot (vector_of normal.now) (vector_of t.axis) ≡ pos 0 }
+    ensures first { (t : Star) → IsAt kept.now from t → IsFirstAfter (map star_of kept.now) (vector_of normal.now) (star_of t) result }
 {
     // each half circle from one of two ends leads to the other
     if are_two_ends(kept) {
@@ -52,11 +52,11 @@ fn target_of(kept: &[Star], from: usize, normal: &Dir) -> usize
 fn arc_along(kept: &[Star], from: usize, number: usize, ray: &Ray) -> SArc
     requires stars { All IsStar kept.now }
     requires within { from < length kept.now }
-    requires ray { (t : Star) → At kept.now from t → At t.rays.items number ray.now }
+    requires ray { (t : Star) → IsAt kept.now from t → IsAt t.rays.items number ray.now }
     requires ahead { ray.now.ahead ≡ true }
     ensures arc { IsArcFrom (map star_of kept.now) (arc_of result) }
     ensures source { result.source ≡ from }
-    ensures along { IsAlong kept.now result number }
+    ensures along { LeavesAlong kept.now result number }
 {
     let sectors = kept[from].sectors.as_slice();
     let before = before_of(sectors.len(), number);

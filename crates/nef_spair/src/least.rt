@@ -1,7 +1,7 @@
 //! The least map that stars make, and the kind of a least map.
 
 ghost use Rattle.std.specs.Prelude.{◌≡◌, ◌↔◌};
-ghost use Rattle.nef_spair.specs.Prelude.{MatchOption, IsTrue, List, IfOk, Place, Set, Vector, IsDirection, vector_of, Cone, Least, SameLabels, Ordered, IsInVolume, IsInFacet, IsOnEdge, map_of, IsLeastMap, raw_of, IsRawStars, IsKind, KindFits, Map, MapLabel, Valid, ByOp, IsLabelling, IsRawOf, Raw};
+ghost use Rattle.nef_spair.specs.Prelude.{MatchOption, IsTrue, List, IfOk, SpacePoint, Set, Vector, IsDirection, vector_of, Cone, Least, SameLabels, Ordered, IsInVolume, IsInFacet, IsOnEdge, map_of, IsLeastMap, raw_of, IsRawStars, IsKind, KindFits, Map, MapLabel, Valid, ByOp, IsLabelling, IsRawOf, Raw};
 
 use crate::OutOfMemory;
 use crate::answer::Kind;
@@ -70,7 +70,7 @@ fn edge_direction(map: &SphereMap) -> Option<Dir>
 pub fn kind(map: &SphereMap) -> Kind
     requires least { IsLeastMap map.now }
     ensures exactly { (k : Kind) → IsKind (map_of map.now) k ↔ (result ≡ k) }
-    ensures dimension { (s : Set) (p : Place) → Cone (map_of map.now) s p → KindFits result s p }
+    ensures dimension { (s : Set) (p : SpacePoint) → Cone (map_of map.now) s p → KindFits result s p }
 {
     if is_in_volume(map) {
         return Kind::InVolume;

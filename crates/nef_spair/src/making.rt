@@ -1,7 +1,7 @@
 //! A map made of simplified stars: some stars are kept as svertices, and the straight stars give circles.
 
 ghost use Rattle.std.specs.Prelude.{◌≡◌, ◌↔◌};
-ghost use Rattle.nef_spair.specs.Prelude.{ℕ, [], map, IsTrue, IfOk, MatchOption, All, IsPermutation, MatchOrdering, vector_of, normal_limit, IsAtMost, InOrder, At, IsBare, around_of, svertex_at, star_of, IsStar, svertex_of, sloop_of, IsArcBelow, IsTwin, AreApart, IsMadeOfSimple, IsBareCircle, IsProperCircle, IsChosen, IsDropped, AreAllKept, AreOthers, IsCircleOf, AreCircles, AreSimple, IsGroundOf, IsStraight};
+ghost use Rattle.nef_spair.specs.Prelude.{ℕ, [], map, IsTrue, IfOk, MatchOption, All, IsPermutation, MatchOrdering, vector_of, normal_limit, IsAtMost, InOrder, IsAt, IsBare, around_of, svertex_at, star_of, IsStar, svertex_of, sloop_of, IsArcBelow, IsTwin, AreApart, IsMadeOfSimple, IsBareCircle, IsProperCircle, IsChosen, IsDropped, AreAllKept, AreOthers, IsCircleOf, AreCircles, AreSimple, IsGroundOf, IsStraight};
 
 use crate::OutOfMemory;
 use crate::along::arcs_of;
@@ -155,7 +155,7 @@ fn is_bare(kept: &[Star], normal: &Dir) -> bool
 
 // The first of the circles on which no star has its axis.
 fn bare_circle(circles: &[SLoop], kept: &[Star]) -> Option<SLoop>
-    ensures circle { MatchOption result ((k : ℕ) (c : SLoop) → At circles.now k c → IsBareCircle kept.now c → ⊥) (λ c. (k : ℕ) × At circles.now k c × IsBareCircle kept.now c) }
+    ensures circle { MatchOption result ((k : ℕ) (c : SLoop) → IsAt circles.now k c → IsBareCircle kept.now c → ⊥) (λ c. (k : ℕ) × IsAt circles.now k c × IsBareCircle kept.now c) }
 {
     for circle in circles {
         if is_bare(kept, &circle.normal) {

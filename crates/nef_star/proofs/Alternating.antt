@@ -1,5 +1,5 @@
 -- Two stars of two rays each that alternate, and the star of all four rays.
-use Rattle.nef_star.proofs.Prelude.{◌≡◌, ℕ, zero, suc, ◌-◌, ◌<◌, List, [], ◌∷◌, ◌++◌, length, get_or, set, arith, refl, sym, ap, subst, ◌∙◌, inl, inr, ◌⊎◌, All, All-cons, All-nil, Vector, zero_vector, IsDirection, SameDirection, Label, Out, vector_of, Dir, IsOnCircle, Passes, one_is_first, order_is_transitive, order_is_cyclic, seen_from_later, Op, Ray, Star, op_label, IsTurning, IsNext, Gives, on_ray, in_sector, in_only_sector, IsAfter, left_of, left_at, mark_of, mark_at, sector_at, sector_count, IsRay, IsTurned, LeftGives, AreAlternate, IsCombined, SameDirection-turned}
+use Rattle.nef_star.proofs.Prelude.{◌≡◌, ℕ, zero, suc, ◌-◌, ◌<◌, List, [], ◌∷◌, ◌++◌, length, get_or, set, arith, refl, sym, ap, subst, ◌∙◌, inl, inr, ◌⊎◌, All, All-cons, All-nil, Vector, zero_vector, IsDirection, SameDirection, Label, Out, vector_of, Dir, IsOnCircle, Passes, one_is_first, order_is_transitive, order_is_cyclic, seen_from_later, Op, Ray, Star, op_label, IsTurning, IsNext, Gives, on_ray, in_sector, in_only_sector, IsLabelAfter, left_of, left_at, mark_of, mark_at, sector_at, sector_count, IsRay, BeginsAnywhere, LeftGives, AreAlternate, IsCombined, SameDirection-turned}
 use Rattle.nef_star.proofs.Turns.{same-self, three, four}
 use Rattle.nef_star.proofs.RayOrder.{one-value}
 use Rattle.nef_star.proofs.Counted.{count-some, turned-by, renamed}
@@ -157,11 +157,11 @@ module _ (a : Vector) (axis : IsDirection a) (f : ℕ → Vector) (t : IsTurning
       on (suc (suc (suc zero))) l = (N j, subst (λ (v : Vector). Gives a 2 h N R v (N j)) (sym g3) (on_ray j (below-two j i (flipped i j o)) (same-self a (h j) on_back) refl), p3)
       on (suc (suc (suc (suc k)))) l = absurd (omega (arith, l))
 
-      after : (k : ℕ) → k < 4 → (l : Label) × IsAfter a 2 h R (g k) l × (Q k ≡ op_label op (sectors k) l)
-      after zero l = (R j, subst (λ (v : Vector). IsAfter a 2 h R v (R j)) (sym g0) (inl (j, below-two j i (flipped i j o), inr (i, after-other j i (flipped i j o), first_between), refl)), q0)
-      after (suc zero) l = (R i, subst (λ (v : Vector). IsAfter a 2 h R v (R i)) (sym g1) (inl (i, below-two i j o, inl (same-self a (h i) on_past), refl)), q1)
-      after (suc (suc zero)) l = (R i, subst (λ (v : Vector). IsAfter a 2 h R v (R i)) (sym g2) (inl (i, below-two i j o, inr (j, after-other i j o, second_between), refl)), q2)
-      after (suc (suc (suc zero))) l = (R j, subst (λ (v : Vector). IsAfter a 2 h R v (R j)) (sym g3) (inl (j, below-two j i (flipped i j o), inl (same-self a (h j) on_back), refl)), q3)
+      after : (k : ℕ) → k < 4 → (l : Label) × IsLabelAfter a 2 h R (g k) l × (Q k ≡ op_label op (sectors k) l)
+      after zero l = (R j, subst (λ (v : Vector). IsLabelAfter a 2 h R v (R j)) (sym g0) (inl (j, below-two j i (flipped i j o), inr (i, after-other j i (flipped i j o), first_between), refl)), q0)
+      after (suc zero) l = (R i, subst (λ (v : Vector). IsLabelAfter a 2 h R v (R i)) (sym g1) (inl (i, below-two i j o, inl (same-self a (h i) on_past), refl)), q1)
+      after (suc (suc zero)) l = (R i, subst (λ (v : Vector). IsLabelAfter a 2 h R v (R i)) (sym g2) (inl (i, below-two i j o, inr (j, after-other i j o, second_between), refl)), q2)
+      after (suc (suc (suc zero))) l = (R j, subst (λ (v : Vector). IsLabelAfter a 2 h R v (R j)) (sym g3) (inl (j, below-two j i (flipped i j o), inl (same-self a (h j) on_back), refl)), q3)
       after (suc (suc (suc (suc k)))) l = absurd (omega (arith, l))
 
       has : (p : ℕ) → p < 2 → (x : ℕ) × (x < 4) × (g x ≡ h p)
@@ -181,7 +181,7 @@ some-other (suc (suc i)) h = absurd (omega (arith, h))
 four_items : {X : Type 0} (xs ys : List X) (q r a b c d : X) → length xs ≡ 2 → q ≡ get_or xs 0 q → r ≡ get_or xs 1 r → ys ≡ (set (set xs 0 a) 1 b ++ c ∷ []) ++ d ∷ [] → ys ≡ a ∷ b ∷ c ∷ d ∷ []
 four_items xs ys q r a b c d n e f g = g ∙ ap (λ l. (set (set l 0 a) 1 b ++ c ∷ []) ++ d ∷ []) (two_items xs q r n e f)
 
-two-sectors : (t : Star) → IsTurned t → length t.rays.items ≡ 2 → length t.sectors.items ≡ 2
+two-sectors : (t : Star) → BeginsAnywhere t → length t.rays.items ≡ 2 → length t.sectors.items ≡ 2
 two-sectors t T n = T.sectors ∙ count-some t.rays.items (omega (arith, n)) ∙ n
 
 ray-left : (rays : List Ray) (k : ℕ) (q r : Ray) → k < length rays → q ≡ get_or rays k q → r.normal ≡ q.normal → r.ahead ≡ q.ahead → left_of r ≡ left_at rays k
@@ -194,7 +194,7 @@ sector-label : (ls : List Label) (k : ℕ) (l : Label) → k < length ls → l �
 sector-label ls k l h e = e ∙ one-value ls k l Out h
 
 -- the star s has the rays q and r of t and the rays x and y of b, with the labels of both combined
-module _ (op : Op) (t b s : Star) (T : IsTurned t) (B : IsTurned b) (e : b.axis ≡ t.axis) (i : ℕ) (below : i < 2) (A : AreAlternate t b i) (f : s.axis ≡ t.axis) (m : s.mark ≡ op_label op t.mark b.mark)
+module _ (op : Op) (t b s : Star) (T : BeginsAnywhere t) (B : BeginsAnywhere b) (e : b.axis ≡ t.axis) (i : ℕ) (below : i < 2) (A : AreAlternate t b i) (f : s.axis ≡ t.axis) (m : s.mark ≡ op_label op t.mark b.mark)
     (q r x y r0 r1 r2 r3 : Ray) (at_q : q ≡ get_or t.rays.items 0 q) (at_r : r ≡ get_or t.rays.items 1 r) (at_x : x ≡ get_or b.rays.items i x) (at_y : y ≡ get_or b.rays.items (1 - i) y)
     (k l past before l0 l1 l2 l3 : Label) (at_k : k ≡ get_or t.sectors.items 0 k) (at_l : l ≡ get_or t.sectors.items 1 l) (at_past : past ≡ get_or b.sectors.items i past) (at_before : before ≡ get_or b.sectors.items (1 - i) before)
     (n0 : r0.normal ≡ q.normal) (a0 : r0.ahead ≡ q.ahead) (m0 : r0.mark ≡ op_label op q.mark before)
@@ -271,10 +271,10 @@ module _ (op : Op) (t b s : Star) (T : IsTurned t) (B : IsTurned b) (e : b.axis 
   abbrev marked : Star
   marked = record { axis = t.axis; rays = t.rays; sectors = t.sectors; mark = s.mark }
 
-  marked_turned : IsTurned marked
+  marked_turned : BeginsAnywhere marked
   marked_turned = record { axis_small = T.axis_small; rays = T.rays; counterclockwise = T.counterclockwise; sectors = T.sectors }
 
-  crossed-turned : IsTurned s
+  crossed-turned : BeginsAnywhere s
   crossed-turned = turned-by marked s marked_turned f refl
       (subst (All (IsRay a)) (sym four_rays)
       (All-cons (IsRay a) r0 (r1 ∷ r2 ∷ r3 ∷ []) (ray_of_first 0 q r0 first_in at_q n0)
@@ -320,5 +320,5 @@ module _ (op : Op) (t b s : Star) (T : IsTurned t) (B : IsTurned b) (e : b.axis 
   crossed-combined : IsCombined op t b s
   crossed-combined = left-to_star op b t marked s B T e refl (λ d v c. c) m (record { turned = crossed-turned; axis = f; mark = refl; gives = gives })
 
-  pub crossed : IsTurned s × IsCombined op t b s
+  pub crossed : BeginsAnywhere s × IsCombined op t b s
   crossed = (crossed-turned, crossed-combined)

@@ -1,5 +1,5 @@
 -- What directions that turn give where others that turn, and have all of them, lie.
-use Rattle.nef_star.proofs.Prelude.{◌≡◌, ℕ, ◌<◌, arith, sym, ap, subst, ◌∙◌, inl, inr, ◌⊎◌, Vector, IsDirection, SameDirection, Label, IsOnCircle, Passes, one_is_first, order_is_transitive, order_is_cyclic, same_in_place, IsTurning, IsNext, Gives, on_ray, in_sector, in_only_sector, IsUnder, IsAfter, SameDirection-trans, SameDirection-turned}
+use Rattle.nef_star.proofs.Prelude.{◌≡◌, ℕ, ◌<◌, arith, sym, ap, subst, ◌∙◌, inl, inr, ◌⊎◌, Vector, IsDirection, SameDirection, Label, IsOnCircle, Passes, one_is_first, order_is_transitive, order_is_cyclic, same_in_place, IsTurning, IsNext, Gives, on_ray, in_sector, in_only_sector, IsUnder, IsLabelAfter, SameDirection-trans, SameDirection-turned}
 use Rattle.nef_star.proofs.Turns.{three, four, same_or, next_in, none_between, not_both, one_place}
 
 -- what is given is a matter of the direction
@@ -41,7 +41,7 @@ module _ (a : Vector) (axis : IsDirection a) (n : ℕ) (f : ℕ → Vector) (t :
       by (inr apart) = inr (q, y, first apart (one_is_first a (g p) (f i) d (three a (g p) (f i) d axis (on_g p k) (on_f i h) o) apart s.not_source))
 
   -- the label just past f i is that at d
-  pub after-label : (M S : ℕ → Label) (k l : Label) → IsAfter a m g S (f i) k → Gives a m g M S d l → k ≡ l
+  pub after-label : (M S : ℕ → Label) (k l : Label) → IsLabelAfter a m g S (f i) k → Gives a m g M S d l → k ≡ l
   after-label M S k l (inl (q, c, w, e)) (on_ray p b s z) = let y = all p b in absurd (not_both a axis n f t d y.0 i j y.1 h o (subst (λ (v : Vector). SameDirection v d) (sym y.2) s) x r)
   after-label M S k l (inl (q, c, w, e)) (in_sector p p' b y s z) = sym e ∙ ap S (one_place a axis m g u (f i) q p c b (on_f i h) w (under_there p p' b y s)) ∙ z
   after-label M S k l (inl (q, c, w, e)) (in_only_sector y z) = absurd (omega (arith, c, y))

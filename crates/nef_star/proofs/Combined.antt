@@ -1,5 +1,5 @@
 -- Two stars combined ray by ray.
-use Rattle.nef_star.proofs.Prelude.{◌≡◌, ℕ, ◌+◌, ◌<◌, ◌≤◌, length, arith, refl, sym, ap, subst, ◌∙◌, inl, inr, eq-or-lt_of_le, Vector, IsDirection, Label, vector_of, Dir, IsOnCircle, Op, Star, op_label, IsTurning, Gives, on_ray, in_sector, in_only_sector, IsAfter, left_at, mark_at, sector_at, IsTurned, HasLeft, LeftGives, LeftAfter, IsLeftCombined, IsCombinedAt}
+use Rattle.nef_star.proofs.Prelude.{◌≡◌, ℕ, ◌+◌, ◌<◌, ◌≤◌, length, arith, refl, sym, ap, subst, ◌∙◌, inl, inr, eq-or-lt_of_le, Vector, IsDirection, Label, vector_of, Dir, IsOnCircle, Op, Star, op_label, IsTurning, Gives, on_ray, in_sector, in_only_sector, IsLabelAfter, left_at, mark_at, sector_at, BeginsAnywhere, HasLeft, LeftGives, LeftAfter, IsLeftCombined, IsCombinedAt}
 use Rattle.nef_star.proofs.Turns.{one_label}
 use Rattle.nef_star.proofs.Rotated.{rotated-gives}
 use Rattle.nef_star.proofs.Counted.{agreeing}
@@ -9,7 +9,7 @@ use Rattle.nef_star.proofs.Both.{gives-same, after-label}
 -- M' and S' are M and S combined with what g gives at each f i and after it
 module _ (op : Op) (a : Vector) (axis : IsDirection a) (n : ℕ) (some : 0 < n) (f : ℕ → Vector) (t : IsTurning a n f) (m : ℕ) (g : ℕ → Vector) (u : IsTurning a m g) (all : (p : ℕ) → p < m → (x : ℕ) × (x < n) × (f x ≡ g p))
     (M S N R M' S' : ℕ → Label)
-    (on : (i : ℕ) → i < n → (l : Label) × Gives a m g N R (f i) l × (M' i ≡ op_label op (M i) l)) (after : (i : ℕ) → i < n → (l : Label) × IsAfter a m g R (f i) l × (S' i ≡ op_label op (S i) l))
+    (on : (i : ℕ) → i < n → (l : Label) × Gives a m g N R (f i) l × (M' i ≡ op_label op (M i) l)) (after : (i : ℕ) → i < n → (l : Label) × IsLabelAfter a m g R (f i) l × (S' i ≡ op_label op (S i) l))
     (d : Vector) (o : IsOnCircle a d) (k l : Label) where
   joined : (x y x' y' z : Label) → z ≡ op_label op x y → x ≡ x' → y ≡ y' → z ≡ op_label op x' y'
   joined x y x' y' z e p q = e ∙ ap (λ (v : Label). op_label op v y) p ∙ ap (op_label op x') q
@@ -28,7 +28,7 @@ module _ (op : Op) (a : Vector) (axis : IsDirection a) (n : ℕ) (some : 0 < n) 
 -- ---- stars
 -- the rays of s up to number k have the labels of t and b combined, and the others those of t
 pub record IsCombinedTo (op : Op) (b : Star) (k : ℕ) (t s : Star) : Type 0 where
-  pub turned : IsTurned s
+  pub turned : BeginsAnywhere s
   pub axis : s.axis ≡ t.axis
   pub mark : s.mark ≡ t.mark
   pub count : length s.rays.items ≡ length t.rays.items
@@ -73,7 +73,7 @@ combined-more op b k t s u h new = record {
     ]
 
 -- s is t with the labels on and after each ray combined with those that b gives there
-module _ (op : Op) (b t s : Star) (B : IsTurned b) (T : IsTurned t) (e : b.axis ≡ t.axis) (some : 0 < length t.rays.items) (all : (p : ℕ) → p < length b.rays.items → HasLeft t (left_at b.rays.items p)) (h : IsCombinedTo op b (length t.rays.items) t s) where
+module _ (op : Op) (b t s : Star) (B : BeginsAnywhere b) (T : BeginsAnywhere t) (e : b.axis ≡ t.axis) (some : 0 < length t.rays.items) (all : (p : ℕ) → p < length b.rays.items → HasLeft t (left_at b.rays.items p)) (h : IsCombinedTo op b (length t.rays.items) t s) where
   other-turning : IsTurning (vector_of t.axis) (length b.rays.items) (left_at b.rays.items)
   other-turning = subst (λ (x : Dir). IsTurning (vector_of x) (length b.rays.items) (left_at b.rays.items)) e B.counterclockwise
 
@@ -83,13 +83,13 @@ module _ (op : Op) (b t s : Star) (B : IsTurned b) (T : IsTurned t) (e : b.axis 
   about : (d : Vector) (l : Label) → LeftGives b d l → Gives (vector_of t.axis) (length b.rays.items) (left_at b.rays.items) (mark_at b.rays.items) (sector_at b.sectors.items) d l
   about d l = subst (λ (x : Dir). Gives (vector_of x) (length b.rays.items) (left_at b.rays.items) (mark_at b.rays.items) (sector_at b.sectors.items) d l) e
 
-  about-after : (d : Vector) (l : Label) → LeftAfter b d l → IsAfter (vector_of t.axis) (length b.rays.items) (left_at b.rays.items) (sector_at b.sectors.items) d l
-  about-after d l = subst (λ (x : Dir). IsAfter (vector_of x) (length b.rays.items) (left_at b.rays.items) (sector_at b.sectors.items) d l) e
+  about-after : (d : Vector) (l : Label) → LeftAfter b d l → IsLabelAfter (vector_of t.axis) (length b.rays.items) (left_at b.rays.items) (sector_at b.sectors.items) d l
+  about-after d l = subst (λ (x : Dir). IsLabelAfter (vector_of x) (length b.rays.items) (left_at b.rays.items) (sector_at b.sectors.items) d l) e
 
   on : (i : ℕ) → i < length t.rays.items → (l : Label) × Gives (vector_of t.axis) (length b.rays.items) (left_at b.rays.items) (mark_at b.rays.items) (sector_at b.sectors.items) (left_at s.rays.items i) l × (mark_at s.rays.items i ≡ op_label op (mark_at t.rays.items i) l)
   on i p = let w = h.on i p in (w.0, about (left_at s.rays.items i) w.0 (subst (λ (v : Vector). LeftGives b v w.0) (sym (h.lefts i)) w.1), w.2)
 
-  after : (i : ℕ) → i < length t.rays.items → (l : Label) × IsAfter (vector_of t.axis) (length b.rays.items) (left_at b.rays.items) (sector_at b.sectors.items) (left_at s.rays.items i) l × (sector_at s.sectors.items i ≡ op_label op (sector_at t.sectors.items i) l)
+  after : (i : ℕ) → i < length t.rays.items → (l : Label) × IsLabelAfter (vector_of t.axis) (length b.rays.items) (left_at b.rays.items) (sector_at b.sectors.items) (left_at s.rays.items i) l × (sector_at s.sectors.items i ≡ op_label op (sector_at t.sectors.items i) l)
   after i p = let w = h.after i p in (w.0, about-after (left_at s.rays.items i) w.0 (subst (λ (v : Vector). LeftAfter b v w.0) (sym (h.lefts i)) w.1), w.2)
 
   has : (p : ℕ) → p < length b.rays.items → (x : ℕ) × (x < length t.rays.items) × (left_at s.rays.items x ≡ left_at b.rays.items p)

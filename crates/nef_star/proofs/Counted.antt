@@ -1,5 +1,5 @@
 -- Stars whose rays are counted from another one on, and stars without their last ray.
-use Rattle.nef_star.proofs.Prelude.{◌≡◌, ℕ, suc, ◌+◌, ◌-◌, ◌<◌, ◌≤◌, List, [], ◌∷◌, ◌++◌, length, map, take, drop, get_or, arith, refl, sym, ap, subst, ◌∙◌, inl, inr, length-append, All, drop-map, take-map, map-append, get_or-drop, get_or-take, get_or_append_left, get_or-append_right, length-drop, length-take-le, length-map, All-append, All-take, All-drop, svertex_limit, Vector, cross, zero_vector, IsDirection, IsAtMost, Label, Out, vector_of, Dir, IsOnCircle, Ray, Star, IsTurning, IsNext, Gives, in_only_sector, left_of, left_at, mark_of, mark_at, sector_at, sector_count, IsRay, IsTurned, IsKept, IsCountedFrom, IsNeedless, AreNeeded, LeftGives}
+use Rattle.nef_star.proofs.Prelude.{◌≡◌, ℕ, suc, ◌+◌, ◌-◌, ◌<◌, ◌≤◌, List, [], ◌∷◌, ◌++◌, length, map, take, drop, get_or, arith, refl, sym, ap, subst, ◌∙◌, inl, inr, length-append, All, drop-map, take-map, map-append, get_or-drop, get_or-take, get_or_append_left, get_or-append_right, length-drop, length-take-le, length-map, All-append, All-take, All-drop, svertex_limit, Vector, cross, zero_vector, IsDirection, IsAtMost, Label, Out, vector_of, Dir, IsOnCircle, Ray, Star, IsTurning, IsNext, Gives, in_only_sector, left_of, left_at, mark_of, mark_at, sector_at, sector_count, IsRay, BeginsAnywhere, KeepsLabels, IsCountedFrom, IsNeedless, NoneNeedless, LeftGives}
 use Rattle.nef_star.proofs.Labelled.{left-on, to-left, to-star}
 use Rattle.nef_star.proofs.Rotated.{IsRotated, rotated-gives, rotated-turning}
 use Rattle.nef_star.proofs.Dropped.{fewer-turning, dropped-gives, only-gives, only-label}
@@ -49,8 +49,8 @@ refilled n ws ys e = ap (λ i. take i (ws ++ ys)) e ∙ front ws ys
     front (w ∷ ws) ys = ap (λ l. w ∷ l) (front ws ys)
 
 -- ---- stars that give the same labels
-pub kept-by : (t s : Star) → IsTurned t → IsTurned s → s.axis ≡ t.axis → s.mark ≡ t.mark
-    → ((d : Vector) → IsOnCircle (vector_of t.axis) d → (l : Label) → LeftGives t d l → LeftGives s d l) → IsKept t s
+pub kept-by : (t s : Star) → BeginsAnywhere t → BeginsAnywhere s → s.axis ≡ t.axis → s.mark ≡ t.mark
+    → ((d : Vector) → IsOnCircle (vector_of t.axis) d → (l : Label) → LeftGives t d l → LeftGives s d l) → KeepsLabels t s
 kept-by t s T S e f h = record {
   axis = e;
   mark = f;
@@ -66,8 +66,8 @@ renamed s a n d l e f h =
     subst (λ (x : Dir). Gives (vector_of x) (length s.rays.items) (left_at s.rays.items) (mark_at s.rays.items) (sector_at s.sectors.items) d l) (sym e)
     (subst (λ (k : ℕ). Gives (vector_of a) k (left_at s.rays.items) (mark_at s.rays.items) (sector_at s.sectors.items) d l) (sym f) h)
 
-module _ (t s : Star) (T : IsTurned t) (e : s.axis ≡ t.axis) (f : s.mark ≡ t.mark) where
-  pub turned-by : All (IsRay (vector_of t.axis)) s.rays.items → (n : ℕ) → length s.rays.items ≡ n → IsTurning (vector_of t.axis) n (left_at s.rays.items) → length s.sectors.items ≡ sector_count s.rays.items → IsTurned s
+module _ (t s : Star) (T : BeginsAnywhere t) (e : s.axis ≡ t.axis) (f : s.mark ≡ t.mark) where
+  pub turned-by : All (IsRay (vector_of t.axis)) s.rays.items → (n : ℕ) → length s.rays.items ≡ n → IsTurning (vector_of t.axis) n (left_at s.rays.items) → length s.sectors.items ≡ sector_count s.rays.items → BeginsAnywhere s
   turned-by rays n k turning sectors = record {
     axis_small = subst (λ (x : Dir). IsAtMost svertex_limit (vector_of x)) (sym e) T.axis_small;
     rays = subst (λ (x : Dir). All (IsRay (vector_of x)) s.rays.items) (sym e) rays;
@@ -98,14 +98,14 @@ module _ (t s : Star) (T : IsTurned t) (e : s.axis ≡ t.axis) (f : s.mark ≡ t
         let b : 0 < length s.rays.items = omega (arith, counted-length) in
         a ∙ sectors_too ∙ sym counted-length ∙ sym (count-some s.rays.items b)
 
-    pub counted-turned : IsTurned s
+    pub counted-turned : BeginsAnywhere s
     counted-turned = turned-by
         (subst (All (IsRay (vector_of t.axis))) (sym c.rays) (All-append (IsRay (vector_of t.axis)) (drop m t.rays.items) (take m t.rays.items) (All-drop (IsRay (vector_of t.axis)) m t.rays.items T.rays) (All-take (IsRay (vector_of t.axis)) m t.rays.items T.rays)))
         (length t.rays.items) counted-length
         (rotated-turning (vector_of t.axis) (length t.rays.items) m (left_at t.rays.items) (left_at s.rays.items) h lefts t.axis.some T.counterclockwise)
         counted_sectors
 
-    pub counted-kept : IsKept t s
+    pub counted-kept : KeepsLabels t s
     counted-kept = kept-by t s T counted-turned e f (λ d o l g. renamed s t.axis (length t.rays.items) d l e counted-length
         (rotated-gives (vector_of t.axis) (length t.rays.items) m (left_at t.rays.items) (left_at s.rays.items) h lefts (mark_at t.rays.items) (mark_at s.rays.items) (sector_at t.sectors.items) (sector_at s.sectors.items) marks sectors d l g))
 
@@ -134,7 +134,7 @@ module _ (t s : Star) (T : IsTurned t) (e : s.axis ≡ t.axis) (f : s.mark ≡ t
     all_turning : IsTurning (vector_of t.axis) (suc (suc k)) (left_at t.rays.items)
     all_turning = subst (λ (m : ℕ). IsTurning (vector_of t.axis) m (left_at t.rays.items)) n T.counterclockwise
 
-    pub fewer-turned : IsTurned s
+    pub fewer-turned : BeginsAnywhere s
     fewer-turned = turned-by
         (subst (All (IsRay (vector_of t.axis))) (sym rays) (All-take (IsRay (vector_of t.axis)) (suc k) t.rays.items T.rays))
         (suc k) fewer-length
@@ -142,7 +142,7 @@ module _ (t s : Star) (T : IsTurned t) (e : s.axis ≡ t.axis) (f : s.mark ≡ t
         (fewer-turning (vector_of t.axis) (suc k) (left_at t.rays.items) all_turning))
         fewer_sectors
 
-    pub fewer-kept : IsKept t s
+    pub fewer-kept : KeepsLabels t s
     fewer-kept = kept-by t s T fewer-turned e f (λ d o l g. renamed s t.axis (suc k) d l e fewer-length
         (rotated-gives (vector_of t.axis) (suc k) 0 (left_at t.rays.items) (left_at s.rays.items) (omega arith) (agreeing (suc k) (left_at t.rays.items) (left_at s.rays.items) same-left)
         (mark_at t.rays.items) (mark_at s.rays.items) (sector_at t.sectors.items) (sector_at s.sectors.items)
@@ -151,7 +151,7 @@ module _ (t s : Star) (T : IsTurned t) (e : s.axis ≡ t.axis) (f : s.mark ≡ t
         (subst (λ (m : ℕ). Gives (vector_of t.axis) m (left_at t.rays.items) (mark_at t.rays.items) (sector_at t.sectors.items) d l) n g))))
 
     -- a ray that is needless without the last was needless with it
-    pub fewer-needed : (c : ℕ) → AreNeeded c t → AreNeeded c s
+    pub fewer-needed : (c : ℕ) → NoneNeedless c t → NoneNeedless c s
     fewer-needed c h i j p q x z = by (subst (λ (m : ℕ). IsNext m i j) fewer-length x)
       where
         here : j < suc k
@@ -172,12 +172,12 @@ module _ (t s : Star) (T : IsTurned t) (e : s.axis ≡ t.axis) (f : s.mark ≡ t
     no_length : length s.rays.items ≡ 0
     no_length = ap length rays
 
-    pub none-turned : IsTurned s
+    pub none-turned : BeginsAnywhere s
     none-turned = turned-by (λ k d h. absurd (omega (arith, h, no_length))) 0 no_length
         (record { circle = λ k h. absurd (omega (arith, h)); apart = λ k h i. absurd (omega (arith, i)); rising = λ i k p q h. absurd (omega (arith, h)) })
         (let b : 0 < length t.rays.items = omega (arith, n) in ap length ends ∙ T.sectors ∙ count-some t.rays.items b ∙ n ∙ sym (ap sector_count rays))
 
-    pub none-kept : IsKept t s
+    pub none-kept : KeepsLabels t s
     none-kept = kept-by t s T none-turned e f (λ d o l g.
         in_only_sector no_length (ap (λ (x : List Label). sector_at x 0) ends ∙ only-label (vector_of t.axis) (left_at t.rays.items) (mark_at t.rays.items) (sector_at t.sectors.items) d l
         (only-gives (vector_of t.axis) (left_at t.rays.items) (mark_at t.rays.items) (sector_at t.sectors.items) needless.0 d l

@@ -1,8 +1,8 @@
 -- The star of a direction in which two lines cross.
-use Rattle.nef_star.proofs.Prelude.{◌≡◌, ℕ, ℤ, pos, neg_ℤ, ◌<ℤ◌, ◌*ℤ◌, List, [], ◌∷◌, length, Bool, true, false, not, IsTrue, ◌↔◌, arith, refl, sym, ap, subst, ◌∙◌, inl, inr, ◌⊎◌, All, ints, All-cons, All-nil, by_order, mul_pos, plus-is, minus-is, nought-is, ring, at, num, neg, ◌⊕◌, ◌⊖◌, ◌⊗◌, normal_limit, svertex_limit, Vector, dot, cross, triple, opposite, IsDirection, IsParallel, IsAtMost, IsNormal, SameDirection, Label, vector_of, Dir, IsOnCircle, Passes, turn_from_parallel, parallel_from_turn, by_side, StarLabel, Op, Ray, Star, op_label, IsTurning, Gives, on_ray, in_sector, star_of, left_at, mark_at, sector_at, sector_count, IsRay, IsTurned, IsKept, LeftGives, dot-comm, triple-back, cross-turned, self-pos, triple_poly, numbers, same_or_opposite, square-cross, dir-self}
+use Rattle.nef_star.proofs.Prelude.{◌≡◌, ℕ, ℤ, pos, neg_ℤ, ◌<ℤ◌, ◌*ℤ◌, List, [], ◌∷◌, length, Bool, true, false, not, IsTrue, ◌↔◌, arith, refl, sym, ap, subst, ◌∙◌, inl, inr, ◌⊎◌, All, ints, All-cons, All-nil, by_order, mul_pos, plus-is, minus-is, nought-is, ring, at, num, neg, ◌⊕◌, ◌⊖◌, ◌⊗◌, normal_limit, svertex_limit, Vector, dot, cross, triple, opposite, IsDirection, IsParallel, IsAtMost, IsNormal, SameDirection, Label, vector_of, Dir, IsOnCircle, Passes, turn_from_parallel, parallel_from_turn, by_side, StarLabel, Op, Ray, Star, op_label, IsTurning, Gives, on_ray, in_sector, star_of, left_at, mark_at, sector_at, sector_count, IsRay, BeginsAnywhere, KeepsLabels, LeftGives, dot-comm, triple-back, cross-turned, self-pos, triple_poly, numbers, same_or_opposite, square-cross, dir-self}
 use Rattle.nef_space.specs.Signs.{Sign, minus, nought, plus, sign}
-use Rattle.nef_star.specs.declared.rounds.Line.{Line}
-use Rattle.nef_star.specs.Lines.{IsLine, side_of, past_of, before_of, IsCrossed, IsFourRays}
+use Rattle.nef_star.specs.declared.rounds.CircleLabels.{CircleLabels}
+use Rattle.nef_star.specs.Lines.{IsOnAxis, circle_label, past_of, before_of, IsCrossed, IsFourRays}
 use Rattle.nef_star.proofs.Labelled.{to-star, each_has_one_label}
 use Rattle.nef_star.proofs.Counted.{renamed}
 use Rattle.nef_star.proofs.Needed.{true_or_false}
@@ -34,33 +34,33 @@ half a u v w o p z q = record {
 }
 
 -- ---- a line
-abbrev ahead_ray : Line → Ray
+abbrev ahead_ray : CircleLabels → Ray
 ahead_ray x = record { normal = x.normal; ahead = true; mark = x.mark }
 
-abbrev back_ray : Line → Ray
+abbrev back_ray : CircleLabels → Ray
 back_ray x = record { normal = x.normal; ahead = false; mark = x.mark }
 
-abbrev lefts : Line → ℕ → Vector
+abbrev lefts : CircleLabels → ℕ → Vector
 lefts x = left_at (ahead_ray x ∷ back_ray x ∷ [])
 
-abbrev marks : Line → ℕ → Label
+abbrev marks : CircleLabels → ℕ → Label
 marks x = mark_at (ahead_ray x ∷ back_ray x ∷ [])
 
-abbrev sectors : Line → ℕ → Label
+abbrev sectors : CircleLabels → ℕ → Label
 sectors x = sector_at (x.pos ∷ x.neg ∷ [])
 
-line-ray : (a : Vector) (x : Line) → IsLine a x → (r : Ray) → r.normal ≡ x.normal → IsRay a r
+line-ray : (a : Vector) (x : CircleLabels) → IsOnAxis a x → (r : Ray) → r.normal ≡ x.normal → IsRay a r
 line-ray a x X r e = record {
   level = subst (λ (d : Dir). dot (vector_of d) a ≡ pos 0) (sym e) X.level;
   small = subst (λ (d : Dir). IsAtMost normal_limit (vector_of d)) (sym e) X.small;
   normal = subst (λ (d : Dir). IsNormal (vector_of d)) (sym e) X.normal;
 }
 
-line-turning : (a : Vector) → IsDirection a → (x : Line) → IsLine a x → IsTurning a 2 (lefts x)
+line-turning : (a : Vector) → IsDirection a → (x : CircleLabels) → IsOnAxis a x → IsTurning a 2 (lefts x)
 line-turning a axis x X = plane-turning a axis (ahead_ray x) (back_ray x) (line-ray a x X (ahead_ray x) refl) (line-ray a x X (back_ray x) refl) refl refl refl
 
 -- a line gives each direction its label on it or on one of its sides
-module _ (a : Vector) (axis : IsDirection a) (x : Line) (X : IsLine a x) (e : Vector) (off : IsDirection (cross a e)) where
+module _ (a : Vector) (axis : IsDirection a) (x : CircleLabels) (X : IsOnAxis a x) (e : Vector) (off : IsDirection (cross a e)) where
   abbrev n : Vector
   n = vector_of x.normal
 
@@ -76,14 +76,14 @@ module _ (a : Vector) (axis : IsDirection a) (x : Line) (X : IsLine a x) (e : Ve
   self : triple a n n ≡ pos 0
   self = turn-self a n x.normal.some
 
-  label : (s : Sign) → sign (dot n e) ≡ s → by_side x.pos x.mark x.neg s ≡ side_of x e
+  label : (s : Sign) → sign (dot n e) ≡ s → by_side x.pos x.mark x.neg s ≡ circle_label x e
   label s h = ap (by_side x.pos x.mark x.neg) (sym h)
 
-  on_line : IsParallel n d → sign (dot n e) ≡ nought → SameDirection n d ⊎ SameDirection (opposite n) d → Gives a 2 (lefts x) (marks x) (sectors x) d (side_of x e)
+  on_line : IsParallel n d → sign (dot n e) ≡ nought → SameDirection n d ⊎ SameDirection (opposite n) d → Gives a 2 (lefts x) (marks x) (sectors x) d (circle_label x e)
   on_line p h (inl s) = on_ray 0 (omega arith) s (label nought h)
   on_line p h (inr s) = on_ray 1 (omega arith) s (label nought h)
 
-  by : (s : Sign) → sign (dot n e) ≡ s → Gives a 2 (lefts x) (marks x) (sectors x) d (side_of x e)
+  by : (s : Sign) → sign (dot n e) ≡ s → Gives a 2 (lefts x) (marks x) (sectors x) d (circle_label x e)
   by plus h =
       let p = mul_pos (dot a a) (dot n e) square (plus-is (dot n e) h) in let t = turn-to a n e X.level in
       let z = neg-second a n n in let q = neg-second a d n in let r = triple-back a n d in
@@ -100,11 +100,11 @@ module _ (a : Vector) (axis : IsDirection a) (x : Line) (X : IsLine a x) (e : Ve
       let z = neg-first a n n in let q = neg-first a n d in let r = triple-back a n d in
       in_sector 1 0 (omega arith) (inr (refl, refl)) (half a (opposite n) d n on (omega (arith, ints, p, t, f, q)) (omega (arith, ints, z, self)) (omega (arith, ints, p, t, f, r))) (label minus h)
 
-  line-gives : Gives a 2 (lefts x) (marks x) (sectors x) d (side_of x e)
+  line-gives : Gives a 2 (lefts x) (marks x) (sectors x) d (circle_label x e)
   line-gives = by (sign (dot n e)) refl
 
 -- ---- two lines
-module _ (op : Op) (axis : Dir) (small : IsAtMost svertex_limit (vector_of axis)) (x y : Line) (X : IsLine (vector_of axis) x) (Y : IsLine (vector_of axis) y) (s : Star) where
+module _ (op : Op) (axis : Dir) (small : IsAtMost svertex_limit (vector_of axis)) (x y : CircleLabels) (X : IsOnAxis (vector_of axis) x) (Y : IsOnAxis (vector_of axis) y) (s : Star) where
   abbrev a : Vector
   a = vector_of axis
 
@@ -186,7 +186,7 @@ module _ (op : Op) (axis : Dir) (small : IsAtMost svertex_limit (vector_of axis)
     abbrev r3 : Ray
     r3 = record { normal = y.normal; ahead = not b; mark = op_label op x.neg y.mark }
 
-    pub four-turned : IsTurned s
+    pub four-turned : BeginsAnywhere s
     four-turned = record {
       axis_small = subst (λ (d : Dir). IsAtMost svertex_limit (vector_of d)) (sym F.axis) small;
       rays = subst (λ (d : Dir). All (IsRay (vector_of d)) s.rays.items) (sym F.axis) (subst (All (IsRay a)) (sym F.rays)
@@ -195,18 +195,18 @@ module _ (op : Op) (axis : Dir) (small : IsAtMost svertex_limit (vector_of axis)
       sectors = ap length F.sectors ∙ sym (ap sector_count F.rays);
     }
 
-    four-label : (e : Vector) → IsDirection (cross a e) → StarLabel (star_of s) e (op_label op (side_of x e) (side_of y e))
+    four-label : (e : Vector) → IsDirection (cross a e) → StarLabel (star_of s) e (op_label op (circle_label x e) (circle_label y e))
     four-label e off =
         let o : IsOnCircle a (cross a e) = record { direction = off; level = square-cross a e } in
-        let g = renamed s axis 4 (cross a e) (op_label op (side_of x e) (side_of y e)) F.axis (ap length F.rays)
-        (gives b p F (cross a e) (side_of x e) (side_of y e) o (line-gives a axis.some x X e off) (line-gives a axis.some y Y e off)) in
-        to-star s four-turned e (subst (λ (d : Dir). IsDirection (cross (vector_of d) e)) (sym F.axis) off) (op_label op (side_of x e) (side_of y e))
-        (subst (λ (d : Dir). LeftGives s (cross (vector_of d) e) (op_label op (side_of x e) (side_of y e))) (sym F.axis) g)
+        let g = renamed s axis 4 (cross a e) (op_label op (circle_label x e) (circle_label y e)) F.axis (ap length F.rays)
+        (gives b p F (cross a e) (circle_label x e) (circle_label y e) o (line-gives a axis.some x X e off) (line-gives a axis.some y Y e off)) in
+        to-star s four-turned e (subst (λ (d : Dir). IsDirection (cross (vector_of d) e)) (sym F.axis) off) (op_label op (circle_label x e) (circle_label y e))
+        (subst (λ (d : Dir). LeftGives s (cross (vector_of d) e) (op_label op (circle_label x e) (circle_label y e))) (sym F.axis) g)
 
     -- counted from another ray on
-    pub four-crossed : (u : Star) → IsTurned u → IsKept s u → IsCrossed op axis x y u
+    pub four-crossed : (u : Star) → BeginsAnywhere u → KeepsLabels s u → IsCrossed op axis x y u
     four-crossed u U K e l off q =
         let to_s = subst (λ (d : Dir). IsDirection (cross (vector_of d) e)) (sym F.axis) off in
         let to_u = subst (λ (d : Dir). IsDirection (cross (vector_of d) e)) (sym K.axis) to_s in
         let one = each_has_one_label u U e to_u in
-        one.2 l q ∙ sym (one.2 (op_label op (side_of x e) (side_of y e)) (K.labels e (op_label op (side_of x e) (side_of y e)) to_s (four-label e off)))
+        one.2 l q ∙ sym (one.2 (op_label op (circle_label x e) (circle_label y e)) (K.labels e (op_label op (circle_label x e) (circle_label y e)) to_s (four-label e off)))

@@ -1,5 +1,5 @@
 -- A star with one more ray, from one whose rays are counted on.
-use Rattle.nef_star.proofs.Prelude.{◌≡◌, ℕ, suc, ◌+◌, ◌-◌, ◌<◌, List, [], ◌∷◌, ◌++◌, length, get_or, arith, refl, sym, ap, subst, ◌∙◌, inl, inr, ⊎_elim, eq-or-lt_of_le, Vector, zero_vector, SameDirection, Label, Out, vector_of, Dir, Passes, Ray, Star, IsNext, left_of, left_at, IsRay, IsTurned, IsKept, IsCountedFrom, HasLeft, LeftPast, LeftUnder, IsCut}
+use Rattle.nef_star.proofs.Prelude.{◌≡◌, ℕ, suc, ◌+◌, ◌-◌, ◌<◌, List, [], ◌∷◌, ◌++◌, length, get_or, arith, refl, sym, ap, subst, ◌∙◌, inl, inr, ⊎_elim, eq-or-lt_of_le, Vector, zero_vector, SameDirection, Label, Out, vector_of, Dir, Passes, Ray, Star, IsNext, left_of, left_at, IsRay, BeginsAnywhere, KeepsLabels, IsCountedFrom, HasLeft, LeftPast, LeftUnder, IsWithRay}
 use Rattle.nef_star.proofs.Labelled.{sectors-none}
 use Rattle.nef_star.proofs.Rotated.{Moved, moved, moved-from, moved-value}
 use Rattle.nef_star.proofs.RayOrder.{one-value}
@@ -8,20 +8,20 @@ use Rattle.nef_star.proofs.Needed.{kept-self, kept-trans}
 use Rattle.nef_star.proofs.Pushed.{at-item, marked-ray, marked-left, first-cut, last-cut}
 
 -- r is q with the mark l
-module _ (t s : Star) (T : IsTurned t) (q r : Ray) (Q : IsRay (vector_of t.axis) q) (normal : r.normal ≡ q.normal) (ahead : r.ahead ≡ q.ahead) (l : Label) (mark : r.mark ≡ l)
+module _ (t s : Star) (T : BeginsAnywhere t) (q r : Ray) (Q : IsRay (vector_of t.axis) q) (normal : r.normal ≡ q.normal) (ahead : r.ahead ≡ q.ahead) (l : Label) (mark : r.mark ≡ l)
     (e : s.axis ≡ t.axis) (f : s.mark ≡ t.mark) (rays : s.rays.items ≡ t.rays.items ++ r ∷ []) where
   new_ray : IsRay (vector_of t.axis) r
   new_ray = marked-ray (vector_of t.axis) q r normal Q
 
-  as_wanted : IsCut (left_of r) t s → IsCut (left_of q) t s
-  as_wanted = subst (λ (v : Vector). IsCut v t s) (marked-left q r normal ahead)
+  as_wanted : IsWithRay (left_of r) t s → IsWithRay (left_of q) t s
+  as_wanted = subst (λ (v : Vector). IsWithRay v t s) (marked-left q r normal ahead)
 
-  pub cut-first : length t.rays.items ≡ 0 → s.sectors.items ≡ t.sectors.items → l ≡ get_or t.sectors.items 0 l → IsCut (left_of q) t s
+  pub cut-first : length t.rays.items ≡ 0 → s.sectors.items ≡ t.sectors.items → l ≡ get_or t.sectors.items 0 l → IsWithRay (left_of q) t s
   cut-first none sectors label =
       let some = sectors-none t.rays.items (length t.sectors.items) T.sectors none in
       as_wanted (first-cut t s T r new_ray e f rays none sectors (mark ∙ label ∙ one-value t.sectors.items 0 l Out some))
 
-  pub cut-last : (k : ℕ) → length t.rays.items ≡ suc k → LeftPast t (left_of q) k → s.sectors.items ≡ t.sectors.items ++ l ∷ [] → l ≡ get_or t.sectors.items k l → IsCut (left_of q) t s
+  pub cut-last : (k : ℕ) → length t.rays.items ≡ suc k → LeftPast t (left_of q) k → s.sectors.items ≡ t.sectors.items ++ l ∷ [] → l ≡ get_or t.sectors.items k l → IsWithRay (left_of q) t s
   cut-last k n past sectors label =
       let m = T.sectors ∙ count-some t.rays.items (omega (arith, n)) in
       as_wanted (last-cut t s T r new_ray e f rays k n (subst (λ (v : Vector). LeftPast t v k) (sym (marked-left q r normal ahead)) past)
@@ -34,7 +34,7 @@ one_next n k i j (inr (x, y)) (inl (z, w)) = absurd (omega (arith, x, z, w))
 one_next n k i j (inr (x, y)) (inr (z, w)) = omega (arith, y, w)
 
 -- s is t counted from number m on
-module _ (t s : Star) (T : IsTurned t) (k : IsKept t s) (m : ℕ) (h : m < length t.rays.items) (c : IsCountedFrom m t s) where
+module _ (t s : Star) (T : BeginsAnywhere t) (k : KeepsLabels t s) (m : ℕ) (h : m < length t.rays.items) (c : IsCountedFrom m t s) where
   there : (i j : ℕ) → i < length t.rays.items → j < length t.rays.items → Moved (length t.rays.items) m i j → left_at s.rays.items j ≡ left_at t.rays.items i
   there i j p q x = moved-value (length t.rays.items) m (left_at t.rays.items) (left_at s.rays.items) (lefts t s T k.axis k.mark m h c) h i j p q x
 
@@ -47,7 +47,7 @@ module _ (t s : Star) (T : IsTurned t) (k : IsKept t s) (m : ℕ) (h : m < lengt
   pub counted-only : (v : Vector) → HasLeft s v → HasLeft t v
   counted-only v (j, q, e) = let i = moved-from (length t.rays.items) m j h (omega (arith, as_many, q)) in (i.0, i.1, sym (there i.0 j i.1 (omega (arith, as_many, q)) i.2) ∙ e)
 
-  pub counted-cut : (d : Vector) (r : Star) → IsCut d s r → IsCut d t r
+  pub counted-cut : (d : Vector) (r : Star) → IsWithRay d s r → IsWithRay d t r
   counted-cut d r C = record { turned = C.turned; kept = kept-trans t s r k C.kept; has = C.has; still = λ v x. C.still v (counted-has v x); only = λ v x. ⊎_elim (λ y. inl (counted-only v y)) (λ y. inr y) (C.only v x) }
 
   -- what is after ray i, before ray m, is now after the last
@@ -74,19 +74,19 @@ pub only-past : (t : Star) (d : Vector) (k : ℕ) → (SameDirection (left_at t.
 only-past t d k n (inl s) = absurd (n s)
 only-past t d k n (inr p) = p
 
-pub uncut : (t : Star) → IsTurned t → (d : Vector) → HasLeft t d → IsCut d t t
+pub uncut : (t : Star) → BeginsAnywhere t → (d : Vector) → HasLeft t d → IsWithRay d t t
 uncut t T d h = record { turned = T; kept = kept-self t; has = h; still = λ v x. x; only = λ v x. inl x }
 
 -- the rays are cut in up to number k
 pub record IsCutTo (rays : List Ray) (k : ℕ) (t s : Star) : Type 0 where
-  pub turned : IsTurned s
-  pub kept : IsKept t s
+  pub turned : BeginsAnywhere s
+  pub kept : KeepsLabels t s
   pub all : (i : ℕ) → i < k → HasLeft s (left_at rays i)
 
-pub cut-none : (rays : List Ray) (t : Star) → IsTurned t → IsCutTo rays 0 t t
+pub cut-none : (rays : List Ray) (t : Star) → BeginsAnywhere t → IsCutTo rays 0 t t
 cut-none rays t T = record { turned = T; kept = kept-self t; all = λ i h. absurd (omega (arith, h)) }
 
-pub cut-more : (rays : List Ray) (k : ℕ) (t s u : Star) (r : Ray) → k < length rays → r ≡ get_or rays k r → IsCutTo rays k t s → IsCut (left_of r) s u → IsCutTo rays (k + 1) t u
+pub cut-more : (rays : List Ray) (k : ℕ) (t s u : Star) (r : Ray) → k < length rays → r ≡ get_or rays k r → IsCutTo rays k t s → IsWithRay (left_of r) s u → IsCutTo rays (k + 1) t u
 cut-more rays k t s u r h e old new = record { turned = new.turned; kept = kept-trans t s u old.kept new.kept; all = all }
   where
     all : (i : ℕ) → i < k + 1 → HasLeft u (left_at rays i)

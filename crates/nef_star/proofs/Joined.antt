@@ -1,5 +1,5 @@
 -- What a star gives at one of its rays, one ray's labels changed, and two stars combined.
-use Rattle.nef_star.proofs.Prelude.{◌≡◌, ℕ, zero, suc, ◌<◌, List, length, map, get_or, set, arith, refl, sym, ap, subst, ◌∙◌, inl, inr, ◌⊎◌, length-set, All, map-set, get_or-set_same, get_or-set_other, length-map, All-set, Vector, zero_vector, cross, IsDirection, SameDirection, Label, Out, vector_of, Dir, IsOnCircle, StarLabel, Op, Ray, Star, op_label, IsTurning, Gives, on_ray, in_sector, in_only_sector, star_of, left_of, left_at, mark_of, mark_at, sector_at, sector_count, IsRay, IsTurned, IsKept, HasLeft, LeftGives, LeftAfter, LeftPast, IsCombined, IsLeftCombined, IsCombinedAt}
+use Rattle.nef_star.proofs.Prelude.{◌≡◌, ℕ, zero, suc, ◌<◌, List, length, map, get_or, set, arith, refl, sym, ap, subst, ◌∙◌, inl, inr, ◌⊎◌, length-set, All, map-set, get_or-set_same, get_or-set_other, length-map, All-set, Vector, zero_vector, cross, IsDirection, SameDirection, Label, Out, vector_of, Dir, IsOnCircle, StarLabel, Op, Ray, Star, op_label, IsTurning, Gives, on_ray, in_sector, in_only_sector, star_of, left_of, left_at, mark_of, mark_at, sector_at, sector_count, IsRay, BeginsAnywhere, KeepsLabels, HasLeft, LeftGives, LeftAfter, LeftPast, IsCombined, IsLeftCombined, IsCombinedAt}
 use Rattle.nef_star.proofs.Turns.{first_or_later}
 use Rattle.nef_star.proofs.Labelled.{left-on, to-left, to-star, sectors-fill, sectors-none}
 use Rattle.nef_star.proofs.RayOrder.{one-value}
@@ -12,10 +12,10 @@ use Rattle.nef_star.proofs.Pushed.{at-item, left-on_circle, marked-ray, marked-l
 pub gives-mark : (t : Star) (d : Vector) (k : ℕ) (r : Ray) → k < length t.rays.items → r ≡ get_or t.rays.items k r → SameDirection (left_at t.rays.items k) d → LeftGives t d r.mark
 gives-mark t d k r h e s = on_ray k h s (at-item mark_of Out t.rays.items k r h ∙ ap mark_of (sym e))
 
-pub item-sector : (t : Star) → IsTurned t → (k : ℕ) (l : Label) → k < length t.rays.items → l ≡ get_or t.sectors.items k l → sector_at t.sectors.items k ≡ l
+pub item-sector : (t : Star) → BeginsAnywhere t → (k : ℕ) (l : Label) → k < length t.rays.items → l ≡ get_or t.sectors.items k l → sector_at t.sectors.items k ≡ l
 item-sector t T k l h e = one-value t.sectors.items k Out l (sectors-fill t.rays.items (length t.sectors.items) k T.sectors h) ∙ sym e
 
-pub gives-sector : (t : Star) → IsTurned t → (d : Vector) (k : ℕ) (l : Label) → k < length t.rays.items → l ≡ get_or t.sectors.items k l → LeftPast t d k → LeftGives t d l
+pub gives-sector : (t : Star) → BeginsAnywhere t → (d : Vector) (k : ℕ) (l : Label) → k < length t.rays.items → l ≡ get_or t.sectors.items k l → LeftPast t d k → LeftGives t d l
 gives-sector t T d k l h e (j, x, p) = in_sector k j h x p (item-sector t T k l h e)
 
 pub item-on : (a : Vector) (rays : List Ray) → All (IsRay a) rays → (k : ℕ) (r : Ray) → k < length rays → r ≡ get_or rays k r → IsOnCircle a (left_of r)
@@ -35,7 +35,7 @@ nat-is (suc i) zero = inr (λ e. omega (arith, e))
 nat-is (suc i) (suc k) = elim (nat-is i k) [ inl e ↦ inl (ap suc e) | inr n ↦ inr (λ e. let f : i ≡ k = omega (arith, e) in n f) ]
 
 -- ray k of t is q, and that of s is r
-module _ (op : Op) (b t s : Star) (T : IsTurned t) (k : ℕ) (q r : Ray) (h : k < length t.rays.items) (at_k : q ≡ get_or t.rays.items k q) (normal : r.normal ≡ q.normal) (ahead : r.ahead ≡ q.ahead)
+module _ (op : Op) (b t s : Star) (T : BeginsAnywhere t) (k : ℕ) (q r : Ray) (h : k < length t.rays.items) (at_k : q ≡ get_or t.rays.items k q) (normal : r.normal ≡ q.normal) (ahead : r.ahead ≡ q.ahead)
     (e : s.axis ≡ t.axis) (f : s.mark ≡ t.mark) (p l : Label) (rays : s.rays.items ≡ set t.rays.items k r) (sectors : s.sectors.items ≡ set t.sectors.items k p) where
   pub changed-count : length s.rays.items ≡ length t.rays.items
   changed-count = ap length rays ∙ length-set t.rays.items k r
@@ -53,7 +53,7 @@ module _ (op : Op) (b t s : Star) (T : IsTurned t) (k : ℕ) (q r : Ray) (h : k 
       by (inl z) = subst (λ (j : ℕ). left_at (set t.rays.items k r) j ≡ left_at t.rays.items j) (sym z) (set-here left_of zero_vector t.rays.items k r h ∙ marked-left q r normal ahead ∙ sym old-left)
       by (inr n) = set-other left_of zero_vector t.rays.items k r i n
 
-  pub changed-turned : IsTurned s
+  pub changed-turned : BeginsAnywhere s
   changed-turned =
       let m = ap length sectors ∙ length-set t.sectors.items k p in let some : 0 < length s.rays.items = omega (arith, changed-count, h) in
       turned-by t s T e f
@@ -86,7 +86,7 @@ module _ (op : Op) (b t s : Star) (T : IsTurned t) (k : ℕ) (q r : Ray) (h : k 
 
 -- ---- stars combined
 -- t' is t with its mark combined
-pub left-to_star : (op : Op) (b t t' s : Star) → IsTurned b → IsTurned t → b.axis ≡ t.axis → t'.axis ≡ t.axis → ((d : Vector) (k : Label) → LeftGives t d k → LeftGives t' d k) → t'.mark ≡ op_label op t.mark b.mark → IsLeftCombined op b t' s → IsCombined op t b s
+pub left-to_star : (op : Op) (b t t' s : Star) → BeginsAnywhere b → BeginsAnywhere t → b.axis ≡ t.axis → t'.axis ≡ t.axis → ((d : Vector) (k : Label) → LeftGives t d k → LeftGives t' d k) → t'.mark ≡ op_label op t.mark b.mark → IsLeftCombined op b t' s → IsCombined op t b s
 left-to_star op b t t' s B T e e' same m h = record { axis = h.axis ∙ e'; mark = h.mark ∙ m; labels = labels }
   where
     labels : (v : Vector) (k l : Label) → IsDirection (cross (vector_of t.axis) v) → StarLabel (star_of t) v k → StarLabel (star_of b) v l → StarLabel (star_of s) v (op_label op k l)
@@ -98,7 +98,7 @@ left-to_star op b t t' s B T e e' same m h = record { axis = h.axis ∙ e'; mark
         let axis : s.axis ≡ t.axis = h.axis ∙ e' in
         to-star s h.turned v (subst (λ (n : Dir). IsDirection (cross (vector_of n) v)) (sym axis) off) (op_label op k l) (subst (λ (n : Dir). LeftGives s (cross (vector_of n) v) (op_label op k l)) (sym axis) z)
 
-pub combined-kept : (op : Op) (a b c s t : Star) → IsKept a c → IsCombined op c b s → IsKept s t → IsCombined op a b t
+pub combined-kept : (op : Op) (a b c s t : Star) → KeepsLabels a c → IsCombined op c b s → KeepsLabels s t → IsCombined op a b t
 combined-kept op a b c s t h k m = record {
   axis = m.axis ∙ k.axis ∙ h.axis;
   mark = m.mark ∙ k.mark ∙ ap (λ (l : Label). op_label op l b.mark) h.mark;
@@ -112,15 +112,15 @@ pub none-too : (t b : Star) → ((k : ℕ) → k < length b.rays.items → HasLe
 none-too t b all none = elim (first_or_later (length b.rays.items)) [ inl e ↦ e | inr h ↦ let w = all 0 h in let x = w.1 in absurd (omega (arith, x, none)) ]
 
 -- stars without rays
-module _ (op : Op) (b t s : Star) (B : IsTurned b) (T : IsTurned t) (none : length t.rays.items ≡ 0) (none' : length b.rays.items ≡ 0) (e : s.axis ≡ t.axis) (f : s.mark ≡ t.mark) (rays : s.rays.items ≡ t.rays.items)
+module _ (op : Op) (b t s : Star) (B : BeginsAnywhere b) (T : BeginsAnywhere t) (none : length t.rays.items ≡ 0) (none' : length b.rays.items ≡ 0) (e : s.axis ≡ t.axis) (f : s.mark ≡ t.mark) (rays : s.rays.items ≡ t.rays.items)
     (x y z : Label) (at_t : x ≡ get_or t.sectors.items 0 x) (at_b : y ≡ get_or b.sectors.items 0 y) (combined : z ≡ op_label op x y) (sectors : s.sectors.items ≡ set t.sectors.items 0 z) where
-  only-of : (r : Star) → IsTurned r → length r.rays.items ≡ 0 → (d : Vector) (k l : Label) → k ≡ get_or r.sectors.items 0 k → LeftGives r d l → k ≡ l
+  only-of : (r : Star) → BeginsAnywhere r → length r.rays.items ≡ 0 → (d : Vector) (k l : Label) → k ≡ get_or r.sectors.items 0 k → LeftGives r d l → k ≡ l
   only-of r R n d k l h g =
       let some = sectors-none r.rays.items (length r.sectors.items) R.sectors n in
       h ∙ one-value r.sectors.items 0 k Out some
       ∙ only-label (vector_of r.axis) (left_at r.rays.items) (mark_at r.rays.items) (sector_at r.sectors.items) d l (subst (λ (m : ℕ). Gives (vector_of r.axis) m (left_at r.rays.items) (mark_at r.rays.items) (sector_at r.sectors.items) d l) n g)
 
-  pub only-turned : IsTurned s
+  pub only-turned : BeginsAnywhere s
   only-turned = turned-by t s T e f (subst (All (IsRay (vector_of t.axis))) (sym rays) T.rays) (length t.rays.items) (ap length rays)
       (subst (λ (l : List Ray). IsTurning (vector_of t.axis) (length t.rays.items) (left_at l)) (sym rays) T.counterclockwise)
       (ap length sectors ∙ length-set t.sectors.items 0 z ∙ T.sectors ∙ ap sector_count (sym rays))

@@ -1,5 +1,5 @@
 -- What a star gives a direction e is what its left directions give axis x e.
-use Rattle.nef_star.proofs.Prelude.{◌≡◌, ℕ, zero, suc, ◌<◌, neg_ℤ, ◌*ℤ◌, ◌-ℤ◌, List, [], ◌∷◌, length, map, true, false, cond, arith, refl, sym, ap, subst, ◌∙◌, inl, inr, length-map, ring, at, neg, ◌⊖◌, ◌⊗◌, Vector, cross, opposite, IsDirection, ℤ, Bool, Label, vector_of, IsOnCircle, IsStrictlyOn, Passes, At, ray_dir, NextRay, StarLabel, Ray, Star, IsNext, on_ray as at_ray, in_sector as of_sector, in_only_sector as of_only_sector, ray_of, star_of, left_of, left_at, mark_of, mark_at, sector_at, sector_count, IsTurned, LeftGives, vector-same, square-cross, is-at_none, is-at_first}
+use Rattle.nef_star.proofs.Prelude.{◌≡◌, ℕ, zero, suc, ◌<◌, neg_ℤ, ◌*ℤ◌, ◌-ℤ◌, List, [], ◌∷◌, length, map, true, false, cond, arith, refl, sym, ap, subst, ◌∙◌, inl, inr, length-map, ring, at, neg, ◌⊖◌, ◌⊗◌, Vector, cross, opposite, IsDirection, ℤ, Bool, Label, vector_of, IsOnCircle, IsStrictlyOn, Passes, IsAt, ray_dir, NextRay, StarLabel, Ray, Star, IsNext, on_ray as at_ray, in_sector as of_sector, in_only_sector as of_only_sector, ray_of, star_of, left_of, left_at, mark_of, mark_at, sector_at, sector_count, BeginsAnywhere, LeftGives, vector-same, square-cross, is-at_none, is-at_first}
 use Rattle.law_sphere.specs.Stars.{Ray as PlainRay, on_ray, in_sector, in_only_sector}
 use Rattle.nef_star.specs.Laws.{EachHasOneLabel}
 use Rattle.nef_star.proofs.Turns.{next_in, some_label, one_label}
@@ -12,22 +12,22 @@ pub record IsRayAt (rays : List Ray) (k : ℕ) (p : PlainRay) : Type 0 where
   pub left : left_of ray ≡ left_at rays k
   pub mark : mark_of ray ≡ mark_at rays k
 
-pub ray-at : (rays : List Ray) (k : ℕ) → k < length rays → (p : PlainRay) × At (map ray_of rays) k p × IsRayAt rays k p
+pub ray-at : (rays : List Ray) (k : ℕ) → k < length rays → (p : PlainRay) × IsAt (map ray_of rays) k p × IsRayAt rays k p
 ray-at [] k h = absurd (omega arith)
 ray-at (r ∷ rs) zero h = (ray_of r, refl, record { ray = r; is = refl; left = refl; mark = refl })
 ray-at (r ∷ rs) (suc k) h = let q = ray-at rs k (omega arith) in (q.0, q.1, record { ray = q.2.ray; is = q.2.is; left = q.2.left; mark = q.2.mark })
 
-pub at-ray : (rays : List Ray) (k : ℕ) (p : PlainRay) → At (map ray_of rays) k p → (k < length rays) × IsRayAt rays k p
+pub at-ray : (rays : List Ray) (k : ℕ) (p : PlainRay) → IsAt (map ray_of rays) k p → (k < length rays) × IsRayAt rays k p
 at-ray [] k p h = absurd (is-at_none h)
 at-ray (r ∷ rs) zero p h = (omega arith, record { ray = r; is = is-at_first h; left = refl; mark = refl })
 at-ray (r ∷ rs) (suc k) p h = let q = at-ray rs k p h in (omega (arith, q.0), record { ray = q.1.ray; is = q.1.is; left = q.1.left; mark = q.1.mark })
 
-pub sector-at : (ls : List Label) (k : ℕ) → k < length ls → At ls k (sector_at ls k)
+pub sector-at : (ls : List Label) (k : ℕ) → k < length ls → IsAt ls k (sector_at ls k)
 sector-at [] k h = absurd (omega arith)
 sector-at (l ∷ ls) zero h = refl
 sector-at (l ∷ ls) (suc k) h = sector-at ls k (omega arith)
 
-pub at-sector : (ls : List Label) (k : ℕ) (l : Label) → At ls k l → sector_at ls k ≡ l
+pub at-sector : (ls : List Label) (k : ℕ) (l : Label) → IsAt ls k l → sector_at ls k ≡ l
 at-sector [] k l h = absurd (is-at_none h)
 at-sector (m ∷ ls) zero l h = is-at_first h
 at-sector (m ∷ ls) (suc k) l h = at-sector ls k l h
@@ -87,7 +87,7 @@ passes n s t d h = record {
 }
 
 -- ---- labels
-module _ (t : Star) (T : IsTurned t) (e : Vector) (off : IsDirection (cross (vector_of t.axis) e)) where
+module _ (t : Star) (T : BeginsAnywhere t) (e : Vector) (off : IsDirection (cross (vector_of t.axis) e)) where
   axis : IsDirection (vector_of t.axis)
   axis = t.axis.some
 
@@ -104,7 +104,7 @@ module _ (t : Star) (T : IsTurned t) (e : Vector) (off : IsDirection (cross (vec
   length-rays = length-map t.rays.items ray_of
 
   from-sector : (k j : ℕ) (q r : PlainRay) (l : Label) → k < length t.rays.items → IsRayAt t.rays.items k q → IsNext (length t.rays.items) k j → j < length t.rays.items → IsRayAt t.rays.items j r
-      → IsStrictlyOn (vector_of t.axis) (ray_dir (star_of t) q) (ray_dir (star_of t) r) (way (vector_of t.axis) (cross (vector_of t.axis) e)) → At t.sectors.items k l → LeftGives t (cross (vector_of t.axis) e) l
+      → IsStrictlyOn (vector_of t.axis) (ray_dir (star_of t) q) (ray_dir (star_of t) r) (way (vector_of t.axis) (cross (vector_of t.axis) e)) → IsAt t.sectors.items k l → LeftGives t (cross (vector_of t.axis) e) l
   from-sector k j q r l h qk x i rj p s =
       of_sector k j h x
       (passes-way (vector_of t.axis) axis _ _ _ (on-left k h) left-on (on-left j i) (rw (← at-way k q qk, ← at-way j r rj) (passes _ _ _ _ p)))
@@ -122,12 +122,12 @@ module _ (t : Star) (T : IsTurned t) (e : Vector) (off : IsDirection (cross (vec
       from-sector k 0 q r l u.0 u.1 (inr (last ∙ length-rays, refl)) v.0 v.1 p s
   to-left l (in_only_sector none s) = of_only_sector (rays-none t.rays.items none) (at-sector t.sectors.items 0 l s)
 
-  next-ray : (k j : ℕ) (r : PlainRay) → IsNext (length t.rays.items) k j → At (map ray_of t.rays.items) j r → NextRay (map ray_of t.rays.items) k r
-  next-ray k j r (inl (x, i)) here = inl (subst (λ (m : ℕ). At (map ray_of t.rays.items) m r) (sym x) here)
-  next-ray k j r (inr (x, z)) here = inr (x ∙ sym length-rays, subst (λ (m : ℕ). At (map ray_of t.rays.items) m r) z here)
+  next-ray : (k j : ℕ) (r : PlainRay) → IsNext (length t.rays.items) k j → IsAt (map ray_of t.rays.items) j r → NextRay (map ray_of t.rays.items) k r
+  next-ray k j r (inl (x, i)) here = inl (subst (λ (m : ℕ). IsAt (map ray_of t.rays.items) m r) (sym x) here)
+  next-ray k j r (inr (x, z)) here = inr (x ∙ sym length-rays, subst (λ (m : ℕ). IsAt (map ray_of t.rays.items) m r) z here)
 
-  label-at : (k : ℕ) (l : Label) → k < length t.sectors.items → sector_at t.sectors.items k ≡ l → At t.sectors.items k l
-  label-at k l h s = subst (At t.sectors.items k) s (sector-at t.sectors.items k h)
+  label-at : (k : ℕ) (l : Label) → k < length t.sectors.items → sector_at t.sectors.items k ≡ l → IsAt t.sectors.items k l
+  label-at k l h s = subst (IsAt t.sectors.items k) s (sector-at t.sectors.items k h)
 
   pub to-star : (l : Label) → LeftGives t (cross (vector_of t.axis) e) l → StarLabel (star_of t) e l
   to-star l (at_ray k h o m) =

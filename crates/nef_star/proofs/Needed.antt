@@ -1,6 +1,6 @@
 -- Rays that aren't needless stay so when the rays are counted from another one on.
 use lib.Dec.{T}
-use Rattle.nef_star.proofs.Prelude.{◌≡◌, ℕ, ◌+◌, ◌-◌, ◌<◌, ◌≤◌, length, get_or, true, false, arith, refl, sym, ap, subst, ◌∙◌, inl, inr, ◌⊎◌, ◌↔◌, cross, IsDirection, vector_of, Dir, IsSimplified, Follows, Ray, Star, IsNext, ray_of, star_of, mark_at, sector_at, IsRayBelow, IsTurned, IsKept, IsCountedFrom, IsNeedless, AreNeeded, IsPassed, length-map}
+use Rattle.nef_star.proofs.Prelude.{◌≡◌, ℕ, ◌+◌, ◌-◌, ◌<◌, ◌≤◌, length, get_or, true, false, arith, refl, sym, ap, subst, ◌∙◌, inl, inr, ◌⊎◌, ◌↔◌, cross, IsDirection, vector_of, Dir, IsSimplified, Follows, Ray, Star, IsNext, ray_of, star_of, mark_at, sector_at, IsRayBelow, BeginsAnywhere, KeepsLabels, IsCountedFrom, IsNeedless, NoneNeedless, IsRayTried, length-map}
 use Rattle.law_sphere.specs.Stars.{Ray as PlainRay}
 use Rattle.nef_star.proofs.Labelled.{at-ray, at-sector}
 use Rattle.nef_star.proofs.Rotated.{Moved, moved-value, lt-or-le, moved-from as unmoved}
@@ -29,7 +29,7 @@ pub record WasNeedless (t : Star) (m k : ℕ) : Type 0 where
   pub moved : Moved (length t.rays.items) m number k
   pub needless : IsNeedless t before number
 
-module _ (t s : Star) (T : IsTurned t) (e : s.axis ≡ t.axis) (f : s.mark ≡ t.mark) (m : ℕ) (h : m < length t.rays.items) (c : IsCountedFrom m t s) where
+module _ (t s : Star) (T : BeginsAnywhere t) (e : s.axis ≡ t.axis) (f : s.mark ≡ t.mark) (m : ℕ) (h : m < length t.rays.items) (c : IsCountedFrom m t s) where
   pub needless-back : (j k : ℕ) → k < length t.rays.items → IsNext (length t.rays.items) j k → IsNeedless s j k → WasNeedless t m k
   needless-back j k l x z =
       let n = length t.rays.items in
@@ -47,7 +47,7 @@ module _ (t s : Star) (T : IsTurned t) (e : s.axis ≡ t.axis) (f : s.mark ≡ t
         needless = (sym mark ∙ z.0 ∙ at_before, sym mark ∙ z.1 ∙ at_after);
       }
 
-  pub counted-needed : AreNeeded (length t.rays.items) t → AreNeeded (length s.rays.items) s
+  pub counted-needed : NoneNeedless (length t.rays.items) t → NoneNeedless (length s.rays.items) s
   counted-needed a j k l l' x z =
       let n = counted-length t s T e f m h c in
       let w = needless-back j k (omega (arith, l, n)) (subst (λ (i : ℕ). IsNext i j k) n x) z in
@@ -75,8 +75,8 @@ last-needless t j k some e x =
     )
 
 -- the last ray passed
-pub passed-needed : (t s : Star) → IsTurned t → s.axis ≡ t.axis → s.mark ≡ t.mark → 0 < length t.rays.items → IsCountedFrom (length t.rays.items - 1) t s
-    → (IsNeedless t (length t.rays.items - 2) (length t.rays.items - 1) → ⊥) → (c : ℕ) → AreNeeded c t → IsPassed c t s
+pub passed-needed : (t s : Star) → BeginsAnywhere t → s.axis ≡ t.axis → s.mark ≡ t.mark → 0 < length t.rays.items → IsCountedFrom (length t.rays.items - 1) t s
+    → (IsNeedless t (length t.rays.items - 2) (length t.rays.items - 1) → ⊥) → (c : ℕ) → NoneNeedless c t → IsRayTried c t s
 passed-needed t s T e f some count last c a = inr (n, needed)
   where
     h : length t.rays.items - 1 < length t.rays.items
@@ -97,30 +97,30 @@ passed-needed t s T e f some count last c a = inr (n, needed)
     by k l w (inl x) = at_last w.before w.number w.within (let p = w.within in omega (arith, x, p)) w.next w.needless
     by k l w (inr x) = a w.before w.number (omega (arith, x, l, some)) w.within w.next w.needless
 
-    needed : AreNeeded (c + 1) s
+    needed : NoneNeedless (c + 1) s
     needed j k l l' x z =
         let w = needless-back t s T e f (length t.rays.items - 1) h count j k (omega (arith, l', n)) (subst (λ (i : ℕ). IsNext i j k) n x) z in
         by k l w w.moved
 
 pub record IsSeen (unseen : ℕ) (t : Star) : Type 0 where
   pub within : unseen ≤ length t.rays.items
-  pub needed : AreNeeded (length t.rays.items - unseen) t
+  pub needed : NoneNeedless (length t.rays.items - unseen) t
 
-pub seen-more : (t s : Star) (i j : ℕ) → j + 1 ≡ i → IsSeen i t → IsPassed (length t.rays.items - i) t s → IsSeen j s
-seen-more t s i j e v (inl (n, a)) = let w = v.within in let c : length t.rays.items - i ≡ length s.rays.items - j = omega (arith, n, e) in record { within = omega (arith, n, e, w); needed = subst (λ (k : ℕ). AreNeeded k s) c a }
-seen-more t s i j e v (inr (n, a)) = let w = v.within in let c : length t.rays.items - i + 1 ≡ length s.rays.items - j = omega (arith, n, e, w) in record { within = omega (arith, n, e, w); needed = subst (λ (k : ℕ). AreNeeded k s) c a }
+pub seen-more : (t s : Star) (i j : ℕ) → j + 1 ≡ i → IsSeen i t → IsRayTried (length t.rays.items - i) t s → IsSeen j s
+seen-more t s i j e v (inl (n, a)) = let w = v.within in let c : length t.rays.items - i ≡ length s.rays.items - j = omega (arith, n, e) in record { within = omega (arith, n, e, w); needed = subst (λ (k : ℕ). NoneNeedless k s) c a }
+seen-more t s i j e v (inr (n, a)) = let w = v.within in let c : length t.rays.items - i + 1 ≡ length s.rays.items - j = omega (arith, n, e, w) in record { within = omega (arith, n, e, w); needed = subst (λ (k : ℕ). NoneNeedless k s) c a }
 
-pub kept-trans : (t s r : Star) → IsKept t s → IsKept s r → IsKept t r
+pub kept-trans : (t s r : Star) → KeepsLabels t s → KeepsLabels s r → KeepsLabels t r
 kept-trans t s r h k = record {
   axis = k.axis ∙ h.axis;
   mark = k.mark ∙ h.mark;
   labels = λ e l off q. k.labels e l (subst (λ (x : Dir). IsDirection (cross (vector_of x) e)) (sym h.axis) off) (h.labels e l off q);
 }
 
-pub kept-self : (t : Star) → IsKept t t
+pub kept-self : (t : Star) → KeepsLabels t t
 kept-self t = record { axis = refl; mark = refl; labels = λ e l off q. q }
 
-pub simplified : (t : Star) → AreNeeded (length t.rays.items) t → IsSimplified (star_of t)
+pub simplified : (t : Star) → NoneNeedless (length t.rays.items) t → IsSimplified (star_of t)
 simplified t a j k q r l m qj rk follows lj mk el em =
     let v = at-ray t.rays.items k r rk in
     let mark = sym v.1.mark ∙ ap (λ (p : PlainRay). p.mark) v.1.is in
@@ -136,11 +136,11 @@ true_or_false e = subst T e tt
 pub seen-first : (t : Star) (n : ℕ) → n ≡ length t.rays.items → IsSeen n t
 seen-first t n e = record { within = omega (arith, e); needed = λ j k h. absurd (omega (arith, e, h)) }
 
-pub seen-all : (t : Star) (n : ℕ) → n ≡ 0 → IsSeen n t → AreNeeded (length t.rays.items) t
-seen-all t n e v = let c : length t.rays.items - n ≡ length t.rays.items = omega (arith, e) in subst (λ (k : ℕ). AreNeeded k t) c v.needed
+pub seen-all : (t : Star) (n : ℕ) → n ≡ 0 → IsSeen n t → NoneNeedless (length t.rays.items) t
+seen-all t n e v = let c : length t.rays.items - n ≡ length t.rays.items = omega (arith, e) in subst (λ (k : ℕ). NoneNeedless k t) c v.needed
 
-pub still-needed : (t s : Star) → IsTurned t → IsKept t s → (s ≡ t) ⊎ ((m : ℕ) × (m < length t.rays.items) × IsCountedFrom m t s) → AreNeeded (length t.rays.items) t → AreNeeded (length s.rays.items) s
-still-needed t s T k (inl e) a = subst (λ (r : Star). AreNeeded (length r.rays.items) r) (sym e) a
+pub still-needed : (t s : Star) → BeginsAnywhere t → KeepsLabels t s → (s ≡ t) ⊎ ((m : ℕ) × (m < length t.rays.items) × IsCountedFrom m t s) → NoneNeedless (length t.rays.items) t → NoneNeedless (length s.rays.items) s
+still-needed t s T k (inl e) a = subst (λ (r : Star). NoneNeedless (length r.rays.items) r) (sym e) a
 still-needed t s T k (inr (m, h, c)) a = counted-needed t s T k.axis k.mark m h c a
 
 -- ---- a star none of whose rays is needless
@@ -150,7 +150,7 @@ next-one n i j k (inl (x, h)) (inr (y, g)) l = absurd (omega (arith, x, g))
 next-one n i j k (inr (x, h)) (inl (y, g)) l = absurd (omega (arith, y, h))
 next-one n i j k (inr (x, h)) (inr (y, g)) l = omega (arith, x, y)
 
-pub needed-more : (t : Star) (c : ℕ) → AreNeeded c t → (i : ℕ) → IsNext (length t.rays.items) i c → (IsNeedless t i c → ⊥) → AreNeeded (c + 1) t
+pub needed-more : (t : Star) (c : ℕ) → NoneNeedless c t → (i : ℕ) → IsNext (length t.rays.items) i c → (IsNeedless t i c → ⊥) → NoneNeedless (c + 1) t
 needed-more t c a i x last j k l h y z = by (lt-or-le k c)
   where
     by : (k < c) ⊎ (c ≤ k) → ⊥

@@ -1,5 +1,5 @@
 -- Stars with one more ray, which has the label of the sector that it cuts.
-use Rattle.nef_star.proofs.Prelude.{◌≡◌, ℕ, zero, suc, ◌<◌, pos, List, [], ◌∷◌, ◌++◌, length, map, get_or, Bool, true, false, cond, arith, refl, sym, ap, subst, ◌∙◌, inl, inr, ◌⊎◌, length-append, eq-or-lt_of_le, All, All-push, normal_limit, Vector, dot, zero_vector, opposite, IsAtMost, IsNormal, Out, vector_of, Dir, IsOnCircle, Passes, Ray, Star, IsTurning, IsNext, Gives, left_of, left_at, mark_of, mark_at, sector_at, sector_count, IsRay, IsTurned, HasLeft, LeftPast, IsCut, dot-comm, direction-opposite, level-of_opposite}
+use Rattle.nef_star.proofs.Prelude.{◌≡◌, ℕ, zero, suc, ◌<◌, pos, List, [], ◌∷◌, ◌++◌, length, map, get_or, Bool, true, false, cond, arith, refl, sym, ap, subst, ◌∙◌, inl, inr, ◌⊎◌, length-append, eq-or-lt_of_le, All, All-push, normal_limit, Vector, dot, zero_vector, opposite, IsAtMost, IsNormal, Out, vector_of, Dir, IsOnCircle, Passes, Ray, Star, IsTurning, IsNext, Gives, left_of, left_at, mark_of, mark_at, sector_at, sector_count, IsRay, BeginsAnywhere, HasLeft, LeftPast, IsWithRay, dot-comm, direction-opposite, level-of_opposite}
 use Rattle.nef_star.proofs.Rotated.{rotated-gives}
 use Rattle.nef_star.proofs.Added.{turning-same, added-turning, added-gives, first-gives}
 use Rattle.nef_star.proofs.Counted.{agreeing, count-some, kept-by, renamed, turned-by}
@@ -53,7 +53,7 @@ pub marked-left : (q r : Ray) → r.normal ≡ q.normal → r.ahead ≡ q.ahead 
 marked-left q r e f = ap (λ (d : Dir). cond r.ahead (vector_of d) (opposite (vector_of d))) e ∙ ap (λ (b : Bool). cond b (vector_of q.normal) (opposite (vector_of q.normal))) f
 
 -- ---- stars
-module _ (t s : Star) (T : IsTurned t) (r : Ray) (R : IsRay (vector_of t.axis) r) (e : s.axis ≡ t.axis) (f : s.mark ≡ t.mark) (rays : s.rays.items ≡ t.rays.items ++ r ∷ []) where
+module _ (t s : Star) (T : BeginsAnywhere t) (r : Ray) (R : IsRay (vector_of t.axis) r) (e : s.axis ≡ t.axis) (f : s.mark ≡ t.mark) (rays : s.rays.items ≡ t.rays.items ++ r ∷ []) where
   same-left : (k : ℕ) → k < length t.rays.items → left_at s.rays.items k ≡ left_at t.rays.items k
   same-left k h = ap (λ (l : List Ray). left_at l k) rays ∙ pushed-map left_of zero_vector t.rays.items r k h
 
@@ -90,7 +90,7 @@ module _ (t s : Star) (T : IsTurned t) (r : Ray) (R : IsRay (vector_of t.axis) r
   old-turning : IsTurning (vector_of t.axis) (length t.rays.items) (left_at s.rays.items)
   old-turning = turning-same (vector_of t.axis) (length t.rays.items) (left_at t.rays.items) (left_at s.rays.items) same-left T.counterclockwise
 
-  new-turned : ((k : ℕ) → suc k ≡ length t.rays.items → Passes (vector_of t.axis) (left_at s.rays.items k) (left_at s.rays.items (length t.rays.items)) (left_at s.rays.items 0)) → length s.sectors.items ≡ suc (length t.rays.items) → IsTurned s
+  new-turned : ((k : ℕ) → suc k ≡ length t.rays.items → Passes (vector_of t.axis) (left_at s.rays.items k) (left_at s.rays.items (length t.rays.items)) (left_at s.rays.items 0)) → length s.sectors.items ≡ suc (length t.rays.items) → BeginsAnywhere s
   new-turned between m =
       let b : 0 < length s.rays.items = omega (arith, longer) in
       turned-by t s T e f all-rays (suc (length t.rays.items)) longer
@@ -103,7 +103,7 @@ module _ (t s : Star) (T : IsTurned t) (r : Ray) (R : IsRay (vector_of t.axis) r
     one_sector [] n z h = z
     one_sector (q ∷ qs) n z h = absurd (omega (arith, h))
 
-    first-turned : IsTurned s
+    first-turned : BeginsAnywhere s
     first-turned =
         let m = one_sector t.rays.items (length t.sectors.items) T.sectors none in let m' = ap length sectors in
         new-turned (λ k z. absurd (omega (arith, z, none))) (omega (arith, m, m', none))
@@ -111,7 +111,7 @@ module _ (t s : Star) (T : IsTurned t) (r : Ray) (R : IsRay (vector_of t.axis) r
     at-none : (P : ℕ → Type 0) → P (length t.rays.items) → P 0
     at-none P = subst P none
 
-    pub first-cut : IsCut (left_of r) t s
+    pub first-cut : IsWithRay (left_of r) t s
     first-cut = record {
       turned = first-turned;
       has = has;
@@ -147,14 +147,14 @@ module _ (t s : Star) (T : IsTurned t) (r : Ray) (R : IsRay (vector_of t.axis) r
         rw (same-left k (omega (arith, n)), at-last (λ (m : ℕ). left_at s.rays.items m ≡ left_of r) new-left, same-left 0 (omega (arith, n)))
         (subst (λ (j : ℕ). Passes (vector_of t.axis) (left_at t.rays.items k) (left_of r) (left_at t.rays.items j)) (to_first past.0 past.1) past.2)
 
-    last-turned : IsTurned s
+    last-turned : BeginsAnywhere s
     last-turned =
         let m = pushed-length t.sectors.items s.sectors.items r.mark sectors in
         new-turned
         (λ i z. let w : i ≡ k = omega (arith, z, n) in rw (w, n) before_first)
         (omega (arith, m, as-many, n))
 
-    pub last-cut : IsCut (left_of r) t s
+    pub last-cut : IsWithRay (left_of r) t s
     last-cut = record {
       turned = last-turned;
       has = has;

@@ -1,5 +1,5 @@
 -- Stars put together from their rays: the ways that are cut in, the marks that they get, and the rays with the sectors after them.
-use Rattle.nef_star.proofs.Prelude.{◌≡◌, ℕ, zero, suc, ◌+◌, ◌<◌, ◌≤◌, List, [], ◌∷◌, length, get_or, set, slice_get, Some, Bool, true, false, cond, ℤ, pos, neg_ℤ, arith, refl, sym, ap, subst, ◌∙◌, inl, inr, ⊎_elim, ◌⊎◌, eq-or-lt_of_le, slice_get_within, slice_get-get_or, ints, get_or-set_same, get_or-set_other, IsAt, Vector, opposite, zero_vector, IsNormal, SameDirection, Label, Out, vector_of, Dir, Or, Ray, Star, End, AreApart, IsRound, IsEndAt, HasWays, IsEnded, left_of, left_at, mark_of, mark_at, sector_at, IsRay, IsTurned, IsKept, IsCut, IsCountedFrom, HasLeft, vector-same, dir-self}
+use Rattle.nef_star.proofs.Prelude.{◌≡◌, ℕ, zero, suc, ◌+◌, ◌<◌, ◌≤◌, List, [], ◌∷◌, length, get_or, set, slice_get, Some, Bool, true, false, cond, ℤ, pos, neg_ℤ, arith, refl, sym, ap, subst, ◌∙◌, inl, inr, ⊎_elim, ◌⊎◌, eq-or-lt_of_le, slice_get_within, slice_get-get_or, ints, get_or-set_same, get_or-set_other, IsAt, Vector, opposite, zero_vector, IsNormal, SameDirection, Label, Out, vector_of, Dir, Or, Ray, Star, ArcEnd, EndsAreApart, IsRound, IsEndAt, HasWays, IsEnded, left_of, left_at, mark_of, mark_at, sector_at, IsRay, BeginsAnywhere, KeepsLabels, IsWithRay, IsCountedFrom, HasLeft, vector-same, dir-self}
 use Rattle.nef_star.proofs.Rotated.{moved-from, moved-value, moved}
 use Rattle.nef_star.proofs.LastAt.{as-same}
 use Rattle.nef_star.proofs.Counted.{lefts, marks, sectors, counted-length, count-some}
@@ -9,14 +9,14 @@ use Rattle.nef_star.proofs.Pushed.{at-item}
 
 -- ---- the ways
 -- the star goes just the ways of the first k ends
-pub record CutTo (ends : List End) (k : ℕ) (t s : Star) : Type 0 where
-  pub turned : IsTurned s
+pub record CutTo (ends : List ArcEnd) (k : ℕ) (t s : Star) : Type 0 where
+  pub turned : BeginsAnywhere s
   pub axis : s.axis ≡ t.axis
   pub mark : s.mark ≡ t.mark
-  pub all : (i : ℕ) (e : End) → i < k → IsAt ends i e → HasLeft s (left_of e.0)
-  pub only : (v : Vector) → HasLeft s v → (i : ℕ) × (e : End) × (i < k) × IsAt ends i e × (left_of e.0 ≡ v)
+  pub all : (i : ℕ) (e : ArcEnd) → i < k → IsAt ends i e → HasLeft s (left_of e.0)
+  pub only : (v : Vector) → HasLeft s v → (i : ℕ) × (e : ArcEnd) × (i < k) × IsAt ends i e × (left_of e.0 ≡ v)
 
-pub cut-start : (ends : List End) (t : Star) → IsTurned t → length t.rays.items ≡ 0 → CutTo ends 0 t t
+pub cut-start : (ends : List ArcEnd) (t : Star) → BeginsAnywhere t → length t.rays.items ≡ 0 → CutTo ends 0 t t
 cut-start ends t T none = record {
   turned = T;
   axis = refl;
@@ -25,7 +25,7 @@ cut-start ends t T none = record {
   only = λ v h. absurd (let l = h.1 in omega (arith, l, none));
 }
 
-pub cut-next : (ends : List End) (k : ℕ) (t s u : Star) (e : End) → IsAt ends k e → CutTo ends k t s → IsCut (left_of e.0) s u → CutTo ends (k + 1) t u
+pub cut-next : (ends : List ArcEnd) (k : ℕ) (t s u : Star) (e : ArcEnd) → IsAt ends k e → CutTo ends k t s → IsWithRay (left_of e.0) s u → CutTo ends (k + 1) t u
 cut-next ends k t s u e a old new = record {
   turned = new.turned;
   axis = new.kept.axis ∙ old.axis;
@@ -37,13 +37,13 @@ cut-next ends k t s u e a old new = record {
       (new.only v h);
 }
   where
-    all : (i : ℕ) (f : End) → i < k + 1 → IsAt ends i f → HasLeft u (left_of f.0)
+    all : (i : ℕ) (f : ArcEnd) → i < k + 1 → IsAt ends i f → HasLeft u (left_of f.0)
     all i f l b = elim (eq-or-lt_of_le {n = i} {m = k} (omega (arith, l))) [
-      | inl z ↦ (let same : Some e ≡ Some f = sym a ∙ ap (slice_get ends) (sym z) ∙ b in (let g : e ≡ f = cc in subst (λ (x : End). HasLeft u (left_of x.0)) g new.has))
+      | inl z ↦ (let same : Some e ≡ Some f = sym a ∙ ap (slice_get ends) (sym z) ∙ b in (let g : e ≡ f = cc in subst (λ (x : ArcEnd). HasLeft u (left_of x.0)) g new.has))
       | inr p ↦ new.still (left_of f.0) (old.all i f p b)
     ]
 
-pub cut-all : (ends : List End) (k : ℕ) (t s : Star) → length ends ≤ k → CutTo ends k t s → HasWays ends (length ends) s
+pub cut-all : (ends : List ArcEnd) (k : ℕ) (t s : Star) → length ends ≤ k → CutTo ends k t s → HasWays ends (length ends) s
 cut-all ends k t s h c = record {
   turned = c.turned;
   all = λ i e l a. c.all i e (omega (arith, h, l)) a;
@@ -51,14 +51,14 @@ cut-all ends k t s h c = record {
 }
 
 -- ---- the marks
-pub ended-start : (ends : List End) (t : Star) → IsTurned t → IsEnded ends 0 t t
+pub ended-start : (ends : List ArcEnd) (t : Star) → BeginsAnywhere t → IsEnded ends 0 t t
 ended-start ends t T = record { turned = T; axis = refl; mark = refl; count = refl; lefts = λ i. refl; ends_at = λ k h. absurd (omega (arith, h)) }
 
 -- ray k of s is q, and that of u is r
-module _ (ends : List End) (k : ℕ) (t s u : Star) (old : IsEnded ends k t s) (h : k < length s.rays.items) (q r : Ray) (at_k : q ≡ get_or s.rays.items k q) (normal : r.normal ≡ q.normal) (ahead : r.ahead ≡ q.ahead)
-    (e : u.axis ≡ s.axis) (f : u.mark ≡ s.mark) (i : ℕ) (end : End) (listed : IsAt ends i end) (left : left_of end.0 ≡ left_of q) (mark : r.mark ≡ end.0.mark)
+module _ (ends : List ArcEnd) (k : ℕ) (t s u : Star) (old : IsEnded ends k t s) (h : k < length s.rays.items) (q r : Ray) (at_k : q ≡ get_or s.rays.items k q) (normal : r.normal ≡ q.normal) (ahead : r.ahead ≡ q.ahead)
+    (e : u.axis ≡ s.axis) (f : u.mark ≡ s.mark) (i : ℕ) (end : ArcEnd) (listed : IsAt ends i end) (left : left_of end.0 ≡ left_of q) (mark : r.mark ≡ end.0.mark)
     (rays : u.rays.items ≡ set s.rays.items k r) (ends_too : u.sectors.items ≡ set s.sectors.items k end.1) where
-  abbrev T : IsTurned s
+  abbrev T : BeginsAnywhere s
   T = old.turned
 
   lefts_same : (j : ℕ) → left_at u.rays.items j ≡ left_at s.rays.items j
@@ -101,12 +101,12 @@ module _ (ends : List End) (k : ℕ) (t s u : Star) (old : IsEnded ends k t s) (
       le-ne j k l n = elim (eq-or-lt_of_le {n = j} {m = k} l) [ inl e ↦ absurd (n e) | inr p ↦ p ]
 
 -- the way of ray k is that of an end
-pub way-of_end : (ends : List End) (k : ℕ) (t s : Star) → HasWays ends (length ends) t → IsEnded ends k t s → (q : Ray) → k < length s.rays.items → q ≡ get_or s.rays.items k q → (v : Vector) → v ≡ left_of q
-    → (i : ℕ) × (e : End) × IsAt ends i e × (left_of e.0 ≡ v)
+pub way-of_end : (ends : List ArcEnd) (k : ℕ) (t s : Star) → HasWays ends (length ends) t → IsEnded ends k t s → (q : Ray) → k < length s.rays.items → q ≡ get_or s.rays.items k q → (v : Vector) → v ≡ left_of q
+    → (i : ℕ) × (e : ArcEnd) × IsAt ends i e × (left_of e.0 ≡ v)
 way-of_end ends k t s W E q h a v z = W.only v (k, omega (arith, h, E.count), sym (E.lefts k) ∙ at-item left_of zero_vector s.rays.items k q h ∙ ap left_of (sym a) ∙ sym z)
 
 -- ---- counted on
-module _ (ends : List End) (t s : Star) (T : IsTurned t) (e : s.axis ≡ t.axis) (f : s.mark ≡ t.mark) (m : ℕ) (h : m < length t.rays.items) (c : IsCountedFrom m t s) where
+module _ (ends : List ArcEnd) (t s : Star) (T : BeginsAnywhere t) (e : s.axis ≡ t.axis) (f : s.mark ≡ t.mark) (m : ℕ) (h : m < length t.rays.items) (c : IsCountedFrom m t s) where
   pub counted-end : ((k : ℕ) → k < length t.rays.items → IsEndAt ends t k) → (j : ℕ) → j < length s.rays.items → IsEndAt ends s j
   counted-end all j l =
       let n = length t.rays.items in
@@ -180,8 +180,8 @@ get-there (x ∷ xs) zero h = (x, refl)
 get-there (x ∷ xs) (suc k) h = get-there xs k (omega (arith, h))
 
 -- the rays and sectors of a star all of whose rays are ends
-module _ (ends : List End) (t : Star) (T : IsTurned t) (some : 0 < length t.rays.items) (rays : (k : ℕ) (e : End) → IsAt ends k e → IsRay (vector_of t.axis) e.0)
-    (all : (k : ℕ) → k < length t.rays.items → IsEndAt ends t k) (apart : AreApart ends) (has : (i : ℕ) (e : End) → IsAt ends i e → HasLeft t (left_of e.0)) where
+module _ (ends : List ArcEnd) (t : Star) (T : BeginsAnywhere t) (some : 0 < length t.rays.items) (rays : (k : ℕ) (e : ArcEnd) → IsAt ends k e → IsRay (vector_of t.axis) e.0)
+    (all : (k : ℕ) → k < length t.rays.items → IsEndAt ends t k) (apart : EndsAreApart ends) (has : (i : ℕ) (e : ArcEnd) → IsAt ends i e → HasLeft t (left_of e.0)) where
   -- ray k with the sector after it
   at_end : (k : ℕ) (r : Ray) (l : Label) → IsAt t.rays.items k r → IsAt t.sectors.items k l → (x : IsEndAt ends t k) → (r ≡ x.end.0) × (l ≡ x.end.1)
   at_end k r l a b x =
@@ -203,9 +203,9 @@ module _ (ends : List End) (t : Star) (T : IsTurned t) (some : 0 < length t.rays
       each k r l a b =
           let x = all k (slice_get_within t.rays.items k r a) in
           let p = at_end k r l a b x in
-          (x.number, subst (λ (e : End). IsAt ends x.number e) (pair x.end r l p.0 p.1) x.listed)
+          (x.number, subst (λ (e : ArcEnd). IsAt ends x.number e) (pair x.end r l p.0 p.1) x.listed)
         where
-          pair : (e : End) (r : Ray) (l : Label) → r ≡ e.0 → l ≡ e.1 → e ≡ (r, l)
+          pair : (e : ArcEnd) (r : Ray) (l : Label) → r ≡ e.0 → l ≡ e.1 → e ≡ (r, l)
           pair e r l p q = rw (p, q) refl
 
       every : (i : ℕ) (r : Ray) (l : Label) → IsAt ends i (r, l) → (k : ℕ) × IsAt t.rays.items k r × IsAt t.sectors.items k l
@@ -216,35 +216,35 @@ module _ (ends : List End) (t : Star) (T : IsTurned t) (some : 0 < length t.rays
           let x = all w.0 w.1 in
           let p = at_end w.0 q.0 m.0 q.1 m.1 x in
           let same : x.end ≡ (r, l) = apart x.number i x.end (r, l) x.listed a (sym x.left ∙ w.2) in
-          (w.0, subst (IsAt t.rays.items w.0) (p.0 ∙ ap (λ (e : End). e.0) same) q.1, subst (IsAt t.sectors.items w.0) (p.1 ∙ ap (λ (e : End). e.1) same) m.1)
+          (w.0, subst (IsAt t.rays.items w.0) (p.0 ∙ ap (λ (e : ArcEnd). e.0) same) q.1, subst (IsAt t.sectors.items w.0) (p.1 ∙ ap (λ (e : ArcEnd). e.1) same) m.1)
 
 -- ---- searching the end of a way
-abbrev pub NoneBefore : List End → ℕ → Vector → Type 0
-NoneBefore ends k v = (i : ℕ) (e : End) → 0 < i → i < k → IsAt ends i e → left_of e.0 ≡ v → ⊥
+abbrev pub NoneBefore : List ArcEnd → ℕ → Vector → Type 0
+NoneBefore ends k v = (i : ℕ) (e : ArcEnd) → 0 < i → i < k → IsAt ends i e → left_of e.0 ≡ v → ⊥
 
-pub none-next : (ends : List End) (k : ℕ) (v : Vector) (e : End) → IsAt ends k e → (left_of e.0 ≡ v → ⊥) → NoneBefore ends k v → NoneBefore ends (k + 1) v
+pub none-next : (ends : List ArcEnd) (k : ℕ) (v : Vector) (e : ArcEnd) → IsAt ends k e → (left_of e.0 ≡ v → ⊥) → NoneBefore ends k v → NoneBefore ends (k + 1) v
 none-next ends k v e a n none i f s h b z = elim (eq-or-lt_of_le {n = i} {m = k} (omega (arith, h))) [
-  | inl q ↦ (let same : Some e ≡ Some f = sym a ∙ ap (slice_get ends) (sym q) ∙ b in (let g : e ≡ f = cc in n (ap (λ (x : End). left_of x.0) g ∙ z)))
+  | inl q ↦ (let same : Some e ≡ Some f = sym a ∙ ap (slice_get ends) (sym q) ∙ b in (let g : e ≡ f = cc in n (ap (λ (x : ArcEnd). left_of x.0) g ∙ z)))
   | inr p ↦ none i f s p b z
 ]
 
 -- where none of the later ones goes it, the first does
-pub first-goes : (ends : List End) (k : ℕ) (v : Vector) (x : End) → length ends ≤ k → NoneBefore ends k v → IsAt ends 0 x → (i : ℕ) × (e : End) × IsAt ends i e × (left_of e.0 ≡ v) → left_of x.0 ≡ v
+pub first-goes : (ends : List ArcEnd) (k : ℕ) (v : Vector) (x : ArcEnd) → length ends ≤ k → NoneBefore ends k v → IsAt ends 0 x → (i : ℕ) × (e : ArcEnd) × IsAt ends i e × (left_of e.0 ≡ v) → left_of x.0 ≡ v
 first-goes ends k v x h none b (i, e, a, z) = first i a
   where
     first : (i : ℕ) → IsAt ends i e → left_of x.0 ≡ v
-    first zero a = let same : Some x ≡ Some e = sym b ∙ a in (let g : x ≡ e = cc in ap (λ (y : End). left_of y.0) g ∙ z)
+    first zero a = let same : Some x ≡ Some e = sym b ∙ a in (let g : x ≡ e = cc in ap (λ (y : ArcEnd). left_of y.0) g ∙ z)
     first (suc i) a = absurd (none (suc i) e (omega arith) (let l = slice_get_within ends (suc i) e a in omega (arith, h, l)) a z)
 
 -- ---- all together
-pub finished : (ends : List End) (t s u : Star) → HasWays ends (length ends) t → IsEnded ends (length t.rays.items) t s → IsTurned u → IsKept s u
-    → (u ≡ s) ⊎ ((m : ℕ) × (m < length s.rays.items) × IsCountedFrom m s u) → 0 < length ends → ((k : ℕ) (e : End) → IsAt ends k e → IsRay (vector_of t.axis) e.0) → AreApart ends → IsRound ends u
+pub finished : (ends : List ArcEnd) (t s u : Star) → HasWays ends (length ends) t → IsEnded ends (length t.rays.items) t s → BeginsAnywhere u → KeepsLabels s u
+    → (u ≡ s) ⊎ ((m : ℕ) × (m < length s.rays.items) × IsCountedFrom m s u) → 0 < length ends → ((k : ℕ) (e : ArcEnd) → IsAt ends k e → IsRay (vector_of t.axis) e.0) → EndsAreApart ends → IsRound ends u
 finished ends t s u W E U K c some rays apart = is-round ends u U count rays_u all apart (λ i e a. has i e a c)
   where
     axis : u.axis ≡ t.axis
     axis = K.axis ∙ E.axis
 
-    rays_u : (k : ℕ) (e : End) → IsAt ends k e → IsRay (vector_of u.axis) e.0
+    rays_u : (k : ℕ) (e : ArcEnd) → IsAt ends k e → IsRay (vector_of u.axis) e.0
     rays_u k e a = subst (λ (d : Dir). IsRay (vector_of d) e.0) (sym axis) (rays k e a)
 
     ended : (k : ℕ) → k < length s.rays.items → IsEndAt ends s k
@@ -257,7 +257,7 @@ finished ends t s u W E U K c some rays apart = is-round ends u U count rays_u a
         by (inl e) = subst (λ (x : Star). IsEndAt ends x k) (sym e) (ended k (subst (λ (x : Star). k < length x.rays.items) e h))
         by (inr (m, l, x)) = counted-end ends s u E.turned K.axis K.mark m l x ended k h
 
-    has : (i : ℕ) (e : End) → IsAt ends i e → (u ≡ s) ⊎ ((m : ℕ) × (m < length s.rays.items) × IsCountedFrom m s u) → HasLeft u (left_of e.0)
+    has : (i : ℕ) (e : ArcEnd) → IsAt ends i e → (u ≡ s) ⊎ ((m : ℕ) × (m < length s.rays.items) × IsCountedFrom m s u) → HasLeft u (left_of e.0)
     has i e a x =
         let h = W.all i e (slice_get_within ends i e a) a in
         let g : HasLeft s (left_of e.0) = (h.0, (let l = h.1 in omega (arith, l, E.count)), E.lefts h.0 ∙ h.2) in

@@ -1,5 +1,5 @@
 -- Stars of two opposite rays.
-use Rattle.nef_star.proofs.Prelude.{◌≡◌, ℕ, zero, suc, ◌<◌, pos, List, [], ◌∷◌, length, map, Bool, true, false, cond, arith, refl, sym, ap, subst, ◌∙◌, inl, inr, get_or, All, length-map, All-cons, All-nil, ints, normal_limit, svertex_limit, IsBelow, Vector, dot, opposite, triple_of, IsDirection, IsAtMost, IsNormal, SameDirection, vector_of, Dir, IsOnCircle, IsStraight, Ray, Star, ray_of, star_of, left_of, left_at, sector_count, IsRayBelow, AreStraight, IsRay, IsStar, IsTurning, dot-comm, self-pos, opposite-dot, dir-self}
+use Rattle.nef_star.proofs.Prelude.{◌≡◌, ℕ, zero, suc, ◌<◌, pos, List, [], ◌∷◌, length, map, Bool, true, false, cond, arith, refl, sym, ap, subst, ◌∙◌, inl, inr, get_or, All, length-map, All-cons, All-nil, ints, normal_limit, svertex_limit, IsBelow, Vector, dot, opposite, direction_numbers, IsDirection, IsAtMost, IsNormal, SameDirection, vector_of, Dir, IsOnCircle, IsStraight, Ray, Star, ray_of, star_of, left_of, left_at, sector_count, IsRayBelow, AreStraight, IsRay, IsStar, IsTurning, dot-comm, self-pos, opposite-dot, dir-self}
 use Rattle.law_sphere.specs.Stars.{Ray as PlainRay}
 use Rattle.nef_star.proofs.RayOrder.{ray-below-self, true_not_false}
 use Rattle.nef_star.proofs.Pushed.{left-on_circle}
@@ -105,7 +105,7 @@ module _ (a : Vector) (axis : IsDirection a) (q r : Ray) (Q : IsRay a q) (R : Is
   none_below (suc zero) x y h e f b = not-below (subst (λ (z : Ray). IsRayBelow z q) (sym f) (subst (IsRayBelow y) (sym e) b))
     where
       not-below : IsRayBelow r q → ⊥
-      not-below (inl z) = ray-below-self q (inl (subst (λ (n : Dir). IsBelow (triple_of (vector_of n)) (triple_of (vector_of q.normal))) (sym one) z))
+      not-below (inl z) = ray-below-self q (inl (subst (λ (n : Dir). IsBelow (direction_numbers (vector_of n)) (direction_numbers (vector_of q.normal))) (sym one) z))
       not-below (inr (z, w, v)) = true_not_false r.ahead w behind
   none_below (suc (suc k)) x y h e f b = absurd (omega (arith, h))
 

@@ -111,14 +111,14 @@ module _ (a : Vector) (axis : IsDirection a) (n : ℕ) (f : ℕ → Vector) (t :
       place (inr q) (inr (inr w)) (inr (e, m)) = absurd (omega arith)
 
   -- ---- each direction is on one of them, or between one and the next
-  abbrev pub Lies : Vector → ℕ → Type 0
-  Lies d k = IsUnder a n f d k
+  abbrev pub LiesFrom : Vector → ℕ → Type 0
+  LiesFrom d k = IsUnder a n f d k
 
   -- all those from k on come after d, seen from the first
   abbrev pub Later : Vector → ℕ → Type 0
   Later d k = (i : ℕ) → k ≤ i → i < n → Passes a (f 0) d (f i)
 
-  lies_at : (d : Vector) (k : ℕ) → k < n → IsOnCircle a d → SameDirection (f 0) (f k) ⊎ Passes a (f 0) (f k) d → (SameDirection (f 0) d → ⊥) → Later d (suc k) → Lies d k
+  lies_at : (d : Vector) (k : ℕ) → k < n → IsOnCircle a d → SameDirection (f 0) (f k) ⊎ Passes a (f 0) (f k) d → (SameDirection (f 0) d → ⊥) → Later d (suc k) → LiesFrom d k
   lies_at d k h o p u l = inr (from (has_next n k h))
     where
       between : (j : ℕ) → j < n → SameDirection (f 0) (f k) ⊎ (Passes a (f 0) (f k) (f j) × Passes a (f 0) (f k) d) → Passes a (f 0) d (f j) → Passes a (f k) d (f j)
@@ -139,22 +139,22 @@ module _ (a : Vector) (axis : IsDirection a) (n : ℕ) (f : ℕ → Vector) (t :
       from (j, inl (e, i)) = (j, inl (e, i), up j i e p)
       from (j, inr (e, i)) = (j, inr (e, i), subst (λ (m : ℕ). Passes a (f k) d (f m)) (sym i) (round p))
 
-  find : (d : Vector) (k : ℕ) → k < n → IsOnCircle a d → (SameDirection (f 0) d → ⊥) → Later d (suc k) → (i : ℕ) × (i < n) × Lies d i
+  find : (d : Vector) (k : ℕ) → k < n → IsOnCircle a d → (SameDirection (f 0) d → ⊥) → Later d (suc k) → (i : ℕ) × (i < n) × LiesFrom d i
   find d zero h o u l = (0, h, lies_at d 0 h o (inl (same-self a (f 0) (on 0 h))) u l)
   find d (suc k) h o u l = by (λ p. find d k (omega arith) o u (more p)) (one_is_first a (f 0) (f (suc k)) d (three a (f 0) (f (suc k)) d axis (on 0 (omega arith)) (on (suc k) h) o) (t.apart (suc k) (omega arith) h) u)
     where
       more : Passes a (f 0) d (f (suc k)) → Later d (suc k)
       more p i m q = elim (eq-or-lt_of_le {n = suc k} {m = i} m) [ inl e ↦ subst (λ (m : ℕ). Passes a (f 0) d (f m)) e p | inr r ↦ l i (omega arith) q ]
 
-      by : (Passes a (f 0) d (f (suc k)) → (i : ℕ) × (i < n) × Lies d i) → SameDirection (f (suc k)) d ⊎ Passes a (f 0) (f (suc k)) d ⊎ Passes a (f 0) d (f (suc k)) → (i : ℕ) × (i < n) × Lies d i
+      by : (Passes a (f 0) d (f (suc k)) → (i : ℕ) × (i < n) × LiesFrom d i) → SameDirection (f (suc k)) d ⊎ Passes a (f 0) (f (suc k)) d ⊎ Passes a (f 0) d (f (suc k)) → (i : ℕ) × (i < n) × LiesFrom d i
       by g (inl s) = (suc k, h, inl s)
       by g (inr (inl p)) = (suc k, h, lies_at d (suc k) h o (inr p) u l)
       by g (inr (inr p)) = g p
 
-  pub some_place : (d : Vector) → 0 < n → IsOnCircle a d → (k : ℕ) × (k < n) × Lies d k
+  pub some_place : (d : Vector) → 0 < n → IsOnCircle a d → (k : ℕ) × (k < n) × LiesFrom d k
   some_place d h o = by (same_or (f 0) d)
     where
-      by : SameDirection (f 0) d ⊎ (SameDirection (f 0) d → ⊥) → (k : ℕ) × (k < n) × Lies d k
+      by : SameDirection (f 0) d ⊎ (SameDirection (f 0) d → ⊥) → (k : ℕ) × (k < n) × LiesFrom d k
       by (inl s) = (0, h, inl s)
       by (inr u) = find d (n - 1) (omega arith) o u (λ i p q. absurd (omega arith))
 
@@ -172,7 +172,7 @@ module _ (a : Vector) (axis : IsDirection a) (n : ℕ) (f : ℕ → Vector) (t :
       (order_is_cyclic a (f k') d (f k) (three a (f k') d (f k) axis (on k' h') o (on k h)) u' back)
       (order_is_cyclic a (f k) d (f k') (three a (f k) d (f k') axis (on k h) o (on k' h')) u there)
 
-  pub one_place : (d : Vector) (k i : ℕ) → k < n → i < n → IsOnCircle a d → Lies d k → Lies d i → k ≡ i
+  pub one_place : (d : Vector) (k i : ℕ) → k < n → i < n → IsOnCircle a d → LiesFrom d k → LiesFrom d i → k ≡ i
   one_place d k i h l o (inl s) (inl s') = distinct k i h l (SameDirection-trans (f k) d (f i) s (SameDirection-turned (f i) d s'))
   one_place d k i h l o (inl s) (inr (j, x, p)) = absurd (not_both d k i j h l o s x p)
   one_place d k i h l o (inr (j, x, p)) (inl s) = absurd (not_both d i k j l h o s x p)
@@ -185,7 +185,7 @@ module _ (a : Vector) (axis : IsDirection a) (n : ℕ) (f : ℕ → Vector) (t :
 
   -- ---- what they give
   module _ (marks sectors : ℕ → Label) where
-    given : (d : Vector) (k : ℕ) → k < n → Lies d k → (l : Label) × Gives a n f marks sectors d l
+    given : (d : Vector) (k : ℕ) → k < n → LiesFrom d k → (l : Label) × Gives a n f marks sectors d l
     given d k h (inl s) = (marks k, on_ray k h s refl)
     given d k h (inr (j, x, p)) = (sectors k, of_sector k j h x p refl)
 

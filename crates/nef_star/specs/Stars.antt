@@ -1,7 +1,7 @@
 -- The program's stars as stars of any size, and what holds of each.
 use Rattle.std.specs.Prelude.{◌≡◌, ◌+◌, ◌-◌, ◌<◌, ◌∷◌, ◌++◌, ◌⊎◌, ℕ, pos, List, [], length, map, take, drop, slice_index_or, true, false, cond}
 use Rattle.nef_geo.specs.Prelude.{All, normal_limit, svertex_limit, IsBelow, Label, vector_of}
-use Rattle.nef_space.specs.Vectors.{Vector, zero_vector, opposite, dot, cross, triple_of, IsDirection, IsAtMost, IsNormal}
+use Rattle.nef_space.specs.Vectors.{Vector, zero_vector, opposite, dot, cross, direction_numbers, IsDirection, IsAtMost, IsNormal}
 use Rattle.nef_space.specs.declared.label.Label.TheVariants.{Out}
 use Rattle.law_cyclic.specs.Arcs.{IsOnCircle}
 use Rattle.law_sphere.specs.Stars.{Ray as PlainRay, Star as PlainStar, StarLabel}
@@ -9,7 +9,7 @@ use Rattle.nef_star.specs.declared.star.Ray.{Ray}
 use Rattle.nef_star.specs.declared.star.Star.{Star}
 use Rattle.nef_star.specs.declared.star.Op.{Op}
 use Rattle.nef_star.specs.Ops.{op_label}
-use Rattle.nef_star.specs.Turning.{IsTurning, IsNext, Gives, IsPast, IsUnder, IsAfter}
+use Rattle.nef_star.specs.Turning.{IsTurning, IsNext, Gives, IsPastDirection, IsUnder, IsLabelAfter}
 
 abbrev pub ray_of : Ray → PlainRay
 ray_of r = record { normal = vector_of r.normal; ahead = r.ahead; mark = r.mark }
@@ -41,7 +41,7 @@ pub record IsRay (axis : Vector) (r : Ray) : Type 0 where
 
 -- the order of rays by their normals, with a ray that goes ahead before its opposite
 abbrev pub IsRayBelow : Ray → Ray → Type 0
-IsRayBelow q r = IsBelow (triple_of (vector_of q.normal)) (triple_of (vector_of r.normal)) ⊎ ((q.normal ≡ r.normal) × (q.ahead ≡ true) × (r.ahead ≡ false))
+IsRayBelow q r = IsBelow (direction_numbers (vector_of q.normal)) (direction_numbers (vector_of r.normal)) ⊎ ((q.normal ≡ r.normal) × (q.ahead ≡ true) × (r.ahead ≡ false))
 
 -- the number of sectors of a star with these rays: the number of rays, or one where there is no ray
 abbrev pub sector_count : List Ray → ℕ
@@ -49,7 +49,7 @@ sector_count [] = 1
 sector_count (r ∷ rs) = length (r ∷ rs)
 
 -- what holds of a star whose list of rays begins with any ray
-pub record IsTurned (t : Star) : Type 0 where
+pub record BeginsAnywhere (t : Star) : Type 0 where
   pub axis_small : IsAtMost svertex_limit (vector_of t.axis)
   pub rays : All (IsRay (vector_of t.axis)) t.rays.items
   pub counterclockwise : IsTurning (vector_of t.axis) (length t.rays.items) (left_at t.rays.items)
@@ -57,7 +57,7 @@ pub record IsTurned (t : Star) : Type 0 where
 
 -- what holds of a star whose first ray is the least
 pub record IsStar (t : Star) : Type 0 where
-  pub turned : IsTurned t
+  pub turned : BeginsAnywhere t
   pub least_first : (k : ℕ) (q r : Ray) → k < length t.rays.items → slice_index_or t.rays.items 0 q ≡ q → slice_index_or t.rays.items k r ≡ r → IsRayBelow r q → ⊥
 
 -- two rays have one normal, and both have the mark l
@@ -71,11 +71,11 @@ LeftGives t d l = Gives (vector_of t.axis) (length t.rays.items) (left_at t.rays
 
 -- the label just after this ray is l
 abbrev pub LeftAfter : Star → Vector → Label → Type 0
-LeftAfter t d l = IsAfter (vector_of t.axis) (length t.rays.items) (left_at t.rays.items) (sector_at t.sectors.items) d l
+LeftAfter t d l = IsLabelAfter (vector_of t.axis) (length t.rays.items) (left_at t.rays.items) (sector_at t.sectors.items) d l
 
 -- this ray lies after ray k and before the next ray
 abbrev pub LeftPast : Star → Vector → ℕ → Type 0
-LeftPast t d k = IsPast (vector_of t.axis) (length t.rays.items) (left_at t.rays.items) d k
+LeftPast t d k = IsPastDirection (vector_of t.axis) (length t.rays.items) (left_at t.rays.items) d k
 
 -- ray k is the last ray at or before this ray
 abbrev pub LeftUnder : Star → Vector → ℕ → Type 0
@@ -87,15 +87,15 @@ HasLeft t d = (k : ℕ) × (k < length t.rays.items) × (left_at t.rays.items k 
 
 -- ---- one star and another
 -- s has the axis and the mark of t, and gives each direction the label that t gives
-pub record IsKept (t s : Star) : Type 0 where
+pub record KeepsLabels (t s : Star) : Type 0 where
   pub axis : s.axis ≡ t.axis
   pub mark : s.mark ≡ t.mark
   pub labels : (e : Vector) (l : Label) → IsDirection (cross (vector_of t.axis) e) → StarLabel (star_of t) e l → StarLabel (star_of s) e l
 
 -- s is t with one more ray, which has d to its left
-pub record IsCut (d : Vector) (t s : Star) : Type 0 where
-  pub turned : IsTurned s
-  pub kept : IsKept t s
+pub record IsWithRay (d : Vector) (t s : Star) : Type 0 where
+  pub turned : BeginsAnywhere s
+  pub kept : KeepsLabels t s
   pub has : HasLeft s d
   pub still : (v : Vector) → HasLeft t v → HasLeft s v
   pub only : (v : Vector) → HasLeft s v → HasLeft t v ⊎ (v ≡ d)
@@ -117,12 +117,12 @@ abbrev pub IsNeedless : Star → ℕ → ℕ → Type 0
 IsNeedless t j k = (mark_at t.rays.items k ≡ sector_at t.sectors.items j) × (mark_at t.rays.items k ≡ sector_at t.sectors.items k)
 
 -- none of the first c rays is needless
-abbrev pub AreNeeded : ℕ → Star → Type 0
-AreNeeded c t = (j k : ℕ) → k < c → k < length t.rays.items → IsNext (length t.rays.items) j k → IsNeedless t j k → ⊥
+abbrev pub NoneNeedless : ℕ → Star → Type 0
+NoneNeedless c t = (j k : ℕ) → k < c → k < length t.rays.items → IsNext (length t.rays.items) j k → IsNeedless t j k → ⊥
 
 -- s is t without its last ray, or with that ray first, where one more of the first rays is then known to be needed
-abbrev pub IsPassed : ℕ → Star → Star → Type 0
-IsPassed c t s = ((length s.rays.items + 1 ≡ length t.rays.items) × AreNeeded c s) ⊎ ((length s.rays.items ≡ length t.rays.items) × AreNeeded (c + 1) s)
+abbrev pub IsRayTried : ℕ → Star → Star → Type 0
+IsRayTried c t s = ((length s.rays.items + 1 ≡ length t.rays.items) × NoneNeedless c s) ⊎ ((length s.rays.items ≡ length t.rays.items) × NoneNeedless (c + 1) s)
 
 -- ---- a star of two stars
 -- t has the axis of a and b, and gives the axis and each direction the operation's label of a's and b's labels
@@ -134,14 +134,14 @@ pub record IsCombined (op : Op) (a b t : Star) : Type 0 where
 
 -- s gives the direction to the left of each ray the operation's label of t's and b's labels, and has the mark of t
 pub record IsLeftCombined (op : Op) (b t s : Star) : Type 0 where
-  pub turned : IsTurned s
+  pub turned : BeginsAnywhere s
   pub axis : s.axis ≡ t.axis
   pub mark : s.mark ≡ t.mark
   pub gives : (d : Vector) (k l : Label) → IsOnCircle (vector_of t.axis) d → LeftGives t d k → LeftGives b d l → LeftGives s d (op_label op k l)
 
 -- s is t with the labels on ray k and just past ray k combined with the labels that b gives there
 pub record IsCombinedAt (op : Op) (b : Star) (k : ℕ) (t s : Star) : Type 0 where
-  pub turned : IsTurned s
+  pub turned : BeginsAnywhere s
   pub axis : s.axis ≡ t.axis
   pub mark : s.mark ≡ t.mark
   pub count : length s.rays.items ≡ length t.rays.items

@@ -20,13 +20,13 @@ pub data Gives (axis : Vector) (n : ℕ) (f : ℕ → Vector) (marks sectors : �
   in_only_sector : n ≡ 0 → sectors 0 ≡ l → Gives axis n f marks sectors d l
 
 -- d lies past f k and before the next direction
-abbrev pub IsPast : Vector → ℕ → (ℕ → Vector) → Vector → ℕ → Type 0
-IsPast axis n f d k = (j : ℕ) × IsNext n k j × Passes axis (f k) d (f j)
+abbrev pub IsPastDirection : Vector → ℕ → (ℕ → Vector) → Vector → ℕ → Type 0
+IsPastDirection axis n f d k = (j : ℕ) × IsNext n k j × Passes axis (f k) d (f j)
 
 -- d is the direction f k, or lies past f k and before the next direction
 abbrev pub IsUnder : Vector → ℕ → (ℕ → Vector) → Vector → ℕ → Type 0
-IsUnder axis n f d k = SameDirection (f k) d ⊎ IsPast axis n f d k
+IsUnder axis n f d k = SameDirection (f k) d ⊎ IsPastDirection axis n f d k
 
 -- just past d the label is l: the label of sectors k, where d is under f k, or of sectors 0 alone
-abbrev pub IsAfter : Vector → ℕ → (ℕ → Vector) → (ℕ → Label) → Vector → Label → Type 0
-IsAfter axis n f sectors d l = ((k : ℕ) × (k < n) × IsUnder axis n f d k × (sectors k ≡ l)) ⊎ ((n ≡ 0) × (sectors 0 ≡ l))
+abbrev pub IsLabelAfter : Vector → ℕ → (ℕ → Vector) → (ℕ → Label) → Vector → Label → Type 0
+IsLabelAfter axis n f sectors d l = ((k : ℕ) × (k < n) × IsUnder axis n f d k × (sectors k ≡ l)) ⊎ ((n ≡ 0) × (sectors 0 ≡ l))

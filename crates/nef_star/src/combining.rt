@@ -1,7 +1,7 @@
 //! Two stars combined. Where the rays of two stars alternate, their order is known.
 
 ghost use Rattle.std.specs.Prelude.{◌≡◌, ◌<◌, ◌-◌};
-ghost use Rattle.nef_star.specs.Prelude.{ℕ, length, IfOk, OnOk, IsTrue, vector_of, IsOnCircle, left_at, IsTurned, IsStar, LeftGives, LeftAfter, HasLeft, IsCombined, IsLeftCombined, IsCombinedAt, AreAlternate};
+ghost use Rattle.nef_star.specs.Prelude.{ℕ, length, IfOk, OnOk, IsTrue, vector_of, IsOnCircle, left_at, BeginsAnywhere, IsStar, LeftGives, LeftAfter, HasLeft, IsCombined, IsLeftCombined, IsCombinedAt, AreAlternate};
 
 use crate::OutOfMemory;
 use crate::rays::{begin_with_least, cut_by, is_past, left_of_ray, place_of, with_mark};
@@ -11,7 +11,7 @@ use nef_geo::{Dir, Label};
 // Whether both stars have two rays, and ray `first` of `other` comes between ray 0 and ray 1 of `star`, and the other
 // ray of `other` between ray 1 and ray 0.
 fn alternate(star: &Star, other: &Star, first: usize) -> bool
-    requires turned { IsTurned star.now }
+    requires turned { BeginsAnywhere star.now }
     requires within { first < 2 }
     ensures alternate { IsTrue result → AreAlternate star.now other.now first }
 {
@@ -23,12 +23,12 @@ fn alternate(star: &Star, other: &Star, first: usize) -> bool
 
 // Combines the star with another star, where two rays of each alternate, so that no ray is searched.
 fn cross(star: &mut Star, other: &Star, first: usize, op: Op) -> Result<(), OutOfMemory>
-    requires turned { IsTurned star.old }
-    requires other { IsTurned other.now }
+    requires turned { BeginsAnywhere star.old }
+    requires other { BeginsAnywhere other.now }
     requires one_axis { other.now.axis ≡ star.old.axis }
     requires within { first < 2 }
     requires alternate { AreAlternate star.old other.now first }
-    ensures turned { OnOk result (IsTurned star.new) }
+    ensures turned { OnOk result (BeginsAnywhere star.new) }
     ensures combined { OnOk result (IsCombined op star.old other.now star.new) }
 {
     let (ray, back) = (star.rays[0], star.rays[1]);
@@ -49,7 +49,7 @@ fn cross(star: &mut Star, other: &Star, first: usize, op: Op) -> Result<(), OutO
 
 // The labels of the star on a ray with this direction to its left, and just after this ray.
 fn labels_at(star: &Star, left: &Dir) -> (Label, Label)
-    requires turned { IsTurned star.now }
+    requires turned { BeginsAnywhere star.now }
     requires circle { IsOnCircle (vector_of star.now.axis) (vector_of left.now) }
     ensures on { LeftGives star.now (vector_of left.now) result.0 }
     ensures after { LeftAfter star.now (vector_of left.now) result.1 }
@@ -67,8 +67,8 @@ fn labels_at(star: &Star, left: &Dir) -> (Label, Label)
 
 // Combines the labels on ray `k` and just after it with the other star's labels there.
 fn combine_at(star: &mut Star, k: usize, other: &Star, op: Op)
-    requires turned { IsTurned star.old }
-    requires other { IsTurned other.now }
+    requires turned { BeginsAnywhere star.old }
+    requires other { BeginsAnywhere other.now }
     requires one_axis { other.now.axis ≡ star.old.axis }
     requires within { k < length star.old.rays.items }
     ensures combined { IsCombinedAt op other.now k star.old star.new }
@@ -81,8 +81,8 @@ fn combine_at(star: &mut Star, k: usize, other: &Star, op: Op)
 
 // Combines the labels on each ray and just after it with the other star's there. The star has all rays of the other.
 fn combine_rays(star: &mut Star, other: &Star, op: Op)
-    requires turned { IsTurned star.old }
-    requires other { IsTurned other.now }
+    requires turned { BeginsAnywhere star.old }
+    requires other { BeginsAnywhere other.now }
     requires one_axis { other.now.axis ≡ star.old.axis }
     requires some { 0 < length star.old.rays.items }
     requires all { (k : ℕ) → k < length other.now.rays.items → HasLeft star.old (left_at other.now.rays.items k) }
@@ -95,11 +95,11 @@ fn combine_rays(star: &mut Star, other: &Star, op: Op)
 
 // Combines the star with another star all of whose rays the star has.
 fn combine(star: &mut Star, other: &Star, op: Op)
-    requires turned { IsTurned star.old }
-    requires other { IsTurned other.now }
+    requires turned { BeginsAnywhere star.old }
+    requires other { BeginsAnywhere other.now }
     requires one_axis { other.now.axis ≡ star.old.axis }
     requires all { (k : ℕ) → k < length other.now.rays.items → HasLeft star.old (left_at other.now.rays.items k) }
-    ensures turned { IsTurned star.new }
+    ensures turned { BeginsAnywhere star.new }
     ensures combined { IsCombined op star.old other.now star.new }
 {
     star.mark = op.label(star.mark, other.mark);
@@ -112,10 +112,10 @@ fn combine(star: &mut Star, other: &Star, op: Op)
 
 // Combines the star with any other star of the same axis.
 fn mix(star: &mut Star, other: &Star, op: Op) -> Result<(), OutOfMemory>
-    requires turned { IsTurned star.old }
-    requires other { IsTurned other.now }
+    requires turned { BeginsAnywhere star.old }
+    requires other { BeginsAnywhere other.now }
     requires one_axis { other.now.axis ≡ star.old.axis }
-    ensures turned { OnOk result (IsTurned star.new) }
+    ensures turned { OnOk result (BeginsAnywhere star.new) }
     ensures combined { OnOk result (IsCombined op star.old other.now star.new) }
 {
     if alternate(star, other, 0) {

@@ -8,6 +8,6 @@ mod star;
 
 pub use combining::merge;
 pub use rays::{before_of, simplify};
-pub use rounds::{Line, bare, crossed, round};
+pub use rounds::{CircleLabels, bare, crossed, round};
 pub use star::{Op, Ray, Star, is_plain, is_straight, star_laws};
 pub use std::alloc::AllocError as OutOfMemory;

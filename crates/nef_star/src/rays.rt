@@ -1,7 +1,7 @@
 //! The rays of a star: added, counted from another ray on, and removed where they are needless.
 
 ghost use Rattle.std.specs.Prelude.{◌≡◌, ◌<◌, ◌↔◌, ◌-◌, ◌≤◌, ◌+◌, ◌⊎◌, ◌++◌};
-ghost use Rattle.nef_star.specs.Prelude.{ℕ, length, IsTrue, OnOk, slice_index_or, take, drop, All, vector_of, IsOnCircle, IsNext, left_of, left_at, IsRay, IsTurned, LeftPast, LeftUnder, HasLeft, IsKept, IsCut, star_of, IsRayBelow, IsStar, IsCountedFrom, IsNeedless, AreNeeded, IsPassed, IsSimplified};
+ghost use Rattle.nef_star.specs.Prelude.{ℕ, length, IsTrue, OnOk, slice_index_or, take, drop, All, vector_of, IsOnCircle, IsNext, left_of, left_at, IsRay, BeginsAnywhere, LeftPast, LeftUnder, HasLeft, KeepsLabels, IsWithRay, star_of, IsRayBelow, IsStar, IsCountedFrom, IsNeedless, NoneNeedless, IsRayTried, IsSimplified};
 
 use crate::OutOfMemory;
 use crate::star::{Ray, Star};
@@ -52,10 +52,10 @@ fn turn<T>(xs: &mut [T], first: usize)
 
 // Rotates the rays and sectors so that number `first` comes first.
 fn count_from(star: &mut Star, first: usize)
-    requires turned { IsTurned star.old }
+    requires turned { BeginsAnywhere star.old }
     requires within { first < length star.old.rays.items }
-    ensures turned { IsTurned star.new }
-    ensures kept { IsKept star.old star.new }
+    ensures turned { BeginsAnywhere star.new }
+    ensures kept { KeepsLabels star.old star.new }
     ensures counted { IsCountedFrom first star.old star.new }
 {
     turn(star.rays.as_mut_slice(), first);
@@ -64,9 +64,9 @@ fn count_from(star: &mut Star, first: usize)
 
 // Rotates the star so that its least ray comes first.
 pub(crate) fn begin_with_least(star: &mut Star)
-    requires turned { IsTurned star.old }
+    requires turned { BeginsAnywhere star.old }
     ensures star { IsStar star.new }
-    ensures kept { IsKept star.old star.new }
+    ensures kept { KeepsLabels star.old star.new }
     ensures counted { (star.new ≡ star.old) ⊎ ((m : ℕ) × (m < length star.old.rays.items) × IsCountedFrom m star.old star.new) }
 {
     if star.rays.is_empty() {
@@ -84,13 +84,13 @@ fn are_one(a: Label, b: Label, c: Label) -> bool
 
 // Removes the last ray, which is needless: its mark is the label of the sectors on both sides.
 fn drop_last(star: &mut Star)
-    requires turned { IsTurned star.old }
+    requires turned { BeginsAnywhere star.old }
     requires some { 0 < length star.old.rays.items }
     requires needless { IsNeedless star.old (length star.old.rays.items - 2) (length star.old.rays.items - 1) }
-    ensures turned { IsTurned star.new }
-    ensures kept { IsKept star.old star.new }
+    ensures turned { BeginsAnywhere star.new }
+    ensures kept { KeepsLabels star.old star.new }
     ensures fewer { length star.new.rays.items + 1 ≡ length star.old.rays.items }
-    ensures needed { (c : ℕ) → AreNeeded c star.old → AreNeeded c star.new }
+    ensures needed { (c : ℕ) → NoneNeedless c star.old → NoneNeedless c star.new }
 {
     let last = star.rays.len() - 1;
     star.rays.truncate(last);
@@ -101,11 +101,11 @@ fn drop_last(star: &mut Star)
 
 // Removes the last ray if it is needless, or else rotates the star so that this ray comes first.
 fn pass_last(star: &mut Star)
-    requires turned { IsTurned star.old }
+    requires turned { BeginsAnywhere star.old }
     requires some { 0 < length star.old.rays.items }
-    ensures turned { IsTurned star.new }
-    ensures kept { IsKept star.old star.new }
-    ensures passed { (c : ℕ) → AreNeeded c star.old → IsPassed c star.old star.new }
+    ensures turned { BeginsAnywhere star.new }
+    ensures kept { KeepsLabels star.old star.new }
+    ensures passed { (c : ℕ) → NoneNeedless c star.old → IsRayTried c star.old star.new }
 {
     let last = star.rays.len() - 1;
     if is_needless(star, last) {
@@ -126,7 +126,7 @@ pub fn before_of(count: usize, k: usize) -> usize
 
 // Whether ray `k` is needless: its mark is the label of the sectors on both sides.
 fn is_needless(star: &Star, k: usize) -> bool
-    requires turned { IsTurned star.now }
+    requires turned { BeginsAnywhere star.now }
     requires within { k < length star.now.rays.items }
     ensures needless { (j : ℕ) × IsNext (length star.now.rays.items) j k × (IsTrue result ↔ IsNeedless star.now j k) }
 {
@@ -136,8 +136,8 @@ fn is_needless(star: &Star, k: usize) -> bool
 
 // Whether no ray is needless.
 fn is_simple(star: &Star) -> bool
-    requires turned { IsTurned star.now }
-    ensures simple { IsTrue result → AreNeeded (length star.now.rays.items) star.now }
+    requires turned { BeginsAnywhere star.now }
+    ensures simple { IsTrue result → NoneNeedless (length star.now.rays.items) star.now }
 {
     for k in 0..star.rays.len() {
         if is_needless(star, k) {
@@ -152,7 +152,7 @@ fn is_simple(star: &Star) -> bool
 pub fn simplify(star: &mut Star)
     requires star { IsStar star.old }
     ensures star { IsStar star.new }
-    ensures kept { IsKept star.old star.new }
+    ensures kept { KeepsLabels star.old star.new }
     ensures simplified { IsSimplified (star_of star.new) }
 {
     // most stars have no needless ray
@@ -185,7 +185,7 @@ fn next_of(count: usize, k: usize) -> usize
 
 // Whether a ray with this direction to its left lies strictly between ray `k` and the next ray.
 pub(crate) fn is_past(star: &Star, k: usize, left: &Dir) -> bool
-    requires turned { IsTurned star.now }
+    requires turned { BeginsAnywhere star.now }
     requires within { k < length star.now.rays.items }
     ensures past { IsTrue result ↔ LeftPast star.now (vector_of left.now) k }
 {
@@ -196,7 +196,7 @@ pub(crate) fn is_past(star: &Star, k: usize, left: &Dir) -> bool
 
 // Whether ray `k` is the last ray at or before a ray with this direction to its left.
 fn is_under(star: &Star, k: usize, left: &Dir) -> bool
-    requires turned { IsTurned star.now }
+    requires turned { BeginsAnywhere star.now }
     requires within { k < length star.now.rays.items }
     ensures under { IsTrue result ↔ LeftUnder star.now (vector_of left.now) k }
 {
@@ -205,7 +205,7 @@ fn is_under(star: &Star, k: usize, left: &Dir) -> bool
 
 // The number of the last ray at or before a ray with this direction to its left.
 pub(crate) fn place_of(star: &Star, left: &Dir) -> usize
-    requires turned { IsTurned star.now }
+    requires turned { BeginsAnywhere star.now }
     requires some { 0 < length star.now.rays.items }
     requires circle { IsOnCircle (vector_of star.now.axis) (vector_of left.now) }
     ensures within { result < length star.now.rays.items }
@@ -229,11 +229,11 @@ pub(crate) fn with_mark(ray: &Ray, mark: Label) -> Ray
 
 // Adds a ray in the last sector. The ray and both parts of the sector keep the sector's label.
 fn add_last(star: &mut Star, ray: &Ray) -> Result<(), OutOfMemory>
-    requires turned { IsTurned star.old }
+    requires turned { BeginsAnywhere star.old }
     requires ray { IsRay (vector_of star.old.axis) ray.now }
     requires some { 0 < length star.old.rays.items }
     requires past { LeftPast star.old (left_of ray.now) (length star.old.rays.items - 1) }
-    ensures cut { OnOk result (IsCut (left_of ray.now) star.old star.new) }
+    ensures cut { OnOk result (IsWithRay (left_of ray.now) star.old star.new) }
 {
     let label = star.sectors[star.rays.len() - 1];
     star.rays.push(with_mark(ray, label))?;
@@ -243,9 +243,9 @@ fn add_last(star: &mut Star, ray: &Ray) -> Result<(), OutOfMemory>
 
 // Adds a ray, unless the star has a ray with the same direction to its left. Each direction keeps its label.
 pub(crate) fn cut(star: &mut Star, ray: &Ray) -> Result<(), OutOfMemory>
-    requires turned { IsTurned star.old }
+    requires turned { BeginsAnywhere star.old }
     requires ray { IsRay (vector_of star.old.axis) ray.now }
-    ensures cut { OnOk result (IsCut (left_of ray.now) star.old star.new) }
+    ensures cut { OnOk result (IsWithRay (left_of ray.now) star.old star.new) }
 {
     if star.rays.is_empty() {
         // the ray has the label of the one sector
@@ -265,10 +265,10 @@ pub(crate) fn cut(star: &mut Star, ray: &Ray) -> Result<(), OutOfMemory>
 
 // Adds each of the rays that the star doesn't have. Each direction keeps its label.
 pub(crate) fn cut_by(star: &mut Star, rays: &[Ray]) -> Result<(), OutOfMemory>
-    requires turned { IsTurned star.old }
+    requires turned { BeginsAnywhere star.old }
     requires rays { All (IsRay (vector_of star.old.axis)) rays.now }
-    ensures turned { OnOk result (IsTurned star.new) }
-    ensures kept { OnOk result (IsKept star.old star.new) }
+    ensures turned { OnOk result (BeginsAnywhere star.new) }
+    ensures kept { OnOk result (KeepsLabels star.old star.new) }
     ensures all { OnOk result ((k : ℕ) → k < length rays.now → HasLeft star.new (left_at rays.now k)) }
 {
     for ray in rays {

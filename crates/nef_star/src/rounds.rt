@@ -1,7 +1,7 @@
 //! Stars made of rays with labels, or of two great circles that cross.
 
 ghost use Rattle.std.specs.Prelude.{◌≡◌, ◌<◌, ◌+◌, ◌∷◌};
-ghost use Rattle.nef_star.specs.Prelude.{ℕ, [], length, IsTrue, IfOk, OnOk, svertex_limit, IsAt, IsAtMost, IsParallel, vector_of, End, AreApart, IsRound, HasWays, IsEnded, IsWhole, AreTwoWays, left_of, IsRay, IsTurned, IsStar, Star, op_label, IsLine, IsCrossed, IsFourRays};
+ghost use Rattle.nef_star.specs.Prelude.{ℕ, [], length, IsTrue, IfOk, OnOk, svertex_limit, IsAt, IsAtMost, IsParallel, vector_of, ArcEnd, EndsAreApart, IsRound, HasWays, IsEnded, IsWhole, AreTwoWays, left_of, IsRay, BeginsAnywhere, IsStar, Star, op_label, IsOnAxis, IsCrossed, IsFourRays};
 
 use crate::OutOfMemory;
 use crate::rays::{begin_with_least, cut, with_mark};
@@ -24,9 +24,9 @@ pub fn bare(alloc: Global, axis: Dir, mark: Label, around: Label) -> Result<Star
 
 // Adds the rays of the ends to a star without rays.
 fn cut_ways(star: &mut Star, ends: &[(Ray, Label)]) -> Result<(), OutOfMemory>
-    requires turned { IsTurned star.old }
+    requires turned { BeginsAnywhere star.old }
     requires none { length star.old.rays.items ≡ 0 }
-    requires rays { (k : ℕ) (e : End) → IsAt ends.now k e → IsRay (vector_of star.old.axis) e.0 }
+    requires rays { (k : ℕ) (e : ArcEnd) → IsAt ends.now k e → IsRay (vector_of star.old.axis) e.0 }
     ensures ways { OnOk result (HasWays ends.now (length ends.now) star.new) }
     ensures axis { OnOk result (star.new.axis ≡ star.old.axis) }
     ensures mark { OnOk result (star.new.mark ≡ star.old.mark) }
@@ -39,7 +39,7 @@ fn cut_ways(star: &mut Star, ends: &[(Ray, Label)]) -> Result<(), OutOfMemory>
 
 // The end whose ray has this direction to its left.
 fn end_with(ends: &[(Ray, Label)], left: &Dir) -> (Ray, Label)
-    requires some { (i : ℕ) × (e : End) × IsAt ends.now i e × (left_of e.0 ≡ vector_of left.now) }
+    requires some { (i : ℕ) × (e : ArcEnd) × IsAt ends.now i e × (left_of e.0 ≡ vector_of left.now) }
     ensures listed { (i : ℕ) × IsAt ends.now i result }
     ensures left { left_of result.0 ≡ vector_of left.now }
 {
@@ -82,7 +82,7 @@ fn all_ways(
     ends: &[(Ray, Label)],
 ) -> Result<Star, OutOfMemory>
     requires small { IsAtMost svertex_limit (vector_of axis) }
-    requires rays { (k : ℕ) (e : End) → IsAt ends.now k e → IsRay (vector_of axis) e.0 }
+    requires rays { (k : ℕ) (e : ArcEnd) → IsAt ends.now k e → IsRay (vector_of axis) e.0 }
     ensures whole { IfOk result (IsWhole ends.now) }
     ensures axis { IfOk result (λ t. t.axis ≡ axis) }
     ensures mark { IfOk result (λ t. t.mark ≡ mark) }
@@ -108,7 +108,7 @@ fn two_ways(
     ends: &[(Ray, Label)],
 ) -> Result<Star, OutOfMemory>
     requires small { IsAtMost svertex_limit (vector_of axis) }
-    requires rays { (k : ℕ) (e : End) → IsAt ends.now k e → IsRay (vector_of axis) e.0 }
+    requires rays { (k : ℕ) (e : ArcEnd) → IsAt ends.now k e → IsRay (vector_of axis) e.0 }
     requires two { AreTwoWays ends.now }
     ensures whole { IfOk result (IsWhole ends.now) }
     ensures axis { IfOk result (λ t. t.axis ≡ axis) }
@@ -130,8 +130,8 @@ pub fn round(
 ) -> Result<Star, OutOfMemory>
     requires small { IsAtMost svertex_limit (vector_of axis) }
     requires some { 0 < length ends.now }
-    requires rays { (k : ℕ) (e : End) → IsAt ends.now k e → IsRay (vector_of axis) e.0 }
-    requires apart { AreApart ends.now }
+    requires rays { (k : ℕ) (e : ArcEnd) → IsAt ends.now k e → IsRay (vector_of axis) e.0 }
+    requires apart { EndsAreApart ends.now }
     ensures star { IfOk result (λ t. IsStar t) }
     ensures axis { IfOk result (λ t. t.axis ≡ axis) }
     ensures mark { IfOk result (λ t. t.mark ≡ mark) }
@@ -148,7 +148,7 @@ pub fn round(
 
 /// A great circle near one of its directions: the labels on it, on the side of its normal, and on the other side.
 #[derive(Clone, Copy)]
-pub struct Line {
+pub struct CircleLabels {
     pub normal: Dir,
     pub mark: Label,
     pub pos: Label,
@@ -159,8 +159,8 @@ pub struct Line {
 fn four_rays(
     alloc: Global,
     axis: Dir,
-    x: &Line,
-    y: &Line,
+    x: &CircleLabels,
+    y: &CircleLabels,
     left: bool,
     op: Op,
 ) -> Result<Star, OutOfMemory>
@@ -191,10 +191,16 @@ fn four_rays(
 
 /// The star of a direction in which two great circles cross, with the labels of the operation. The order of the four
 /// rays is known at once, so no two stars are merged. `OutOfMemory` says that memory was wanted and not found.
-pub fn crossed(alloc: Global, axis: Dir, x: &Line, y: &Line, op: Op) -> Result<Star, OutOfMemory>
+pub fn crossed(
+    alloc: Global,
+    axis: Dir,
+    x: &CircleLabels,
+    y: &CircleLabels,
+    op: Op,
+) -> Result<Star, OutOfMemory>
     requires small { IsAtMost svertex_limit (vector_of axis) }
-    requires first { IsLine (vector_of axis) x.now }
-    requires second { IsLine (vector_of axis) y.now }
+    requires first { IsOnAxis (vector_of axis) x.now }
+    requires second { IsOnAxis (vector_of axis) y.now }
     requires apart { IsParallel (vector_of x.now.normal) (vector_of y.now.normal) → ⊥ }
     ensures star { IfOk result (λ t. IsStar t) }
     ensures axis { IfOk result (λ t. t.axis ≡ axis) }

@@ -1,5 +1,5 @@
 -- Sets of operands that are the same are the same.
-use Rattle.nef_statement.proofs.Prelude.{◌≡◌, refl, ◌∙◌, Bool, true, false, inl, inr, ⊎_elim, IsTrue, Place, Form, form_at, InFrame, Set, Interior, Closure, InHalf, SameSet, Out, Not, In, IsPositiveMultiple, sign_of, Minus, Zero, Plus}
+use Rattle.nef_statement.proofs.Prelude.{◌≡◌, refl, ◌∙◌, Bool, true, false, inl, inr, ⊎_elim, IsTrue, SpacePoint, Form, form_at, InFrame, Set, Interior, Closure, InHalf, SameSet, Out, Not, In, IsPositiveMultiple, sign_of, Minus, Zero, Plus}
 use Rattle.std.specs.Prelude.{◌↔◌}
 use Rattle.nef_space.specs.Sets.{Holds}
 use Rattle.nef_geo.specs.declared.sign.Sign.{Sign}
@@ -8,7 +8,7 @@ use Rattle.nef_expr.proofs.Holding.{half-minus, half-zero, half-plus}
 
 -- they hold at the same points of the frame
 abbrev pub Alike : Set → Set → Type 0
-Alike s t = (p : Place) → InFrame p → Holds s p ↔ Holds t p
+Alike s t = (p : SpacePoint) → InFrame p → Holds s p ↔ Holds t p
 
 pub alike-same : (s t : Set) → Alike s t → SameSet s t
 alike-same s t h p Out = (λ i. i, λ i. i)
@@ -33,13 +33,13 @@ module _ (a c : Set) (f : Alike a c) where
   unfolding Holds
   other-alike p i = (λ h k. h ((f p i).1 k), λ h k. h ((f p i).0 k))
 
-  interior-alike : (p : Place) → Interior (Holds a) p ↔ Interior (Holds c) p
+  interior-alike : (p : SpacePoint) → Interior (Holds a) p ↔ Interior (Holds c) p
   interior-alike p = (
     λ (n, some, h). (n, some, λ q i w. (f q i).0 (h q i w)),
     λ (n, some, h). (n, some, λ q i w. (f q i).1 (h q i w)),
   )
 
-  closure-alike : (p : Place) → Closure (Holds a) p ↔ Closure (Holds c) p
+  closure-alike : (p : SpacePoint) → Closure (Holds a) p ↔ Closure (Holds c) p
   closure-alike p = (
     λ h n some. let r = h n some in (r.0, r.1, r.2, (f r.0 r.1).0 r.3),
     λ h n some. let r = h n some in (r.0, r.1, r.2, (f r.0 r.1).1 r.3),

@@ -1,5 +1,5 @@
 -- The set of each name is that of its node.
-use Rattle.nef_statement.proofs.Prelude.{◌≡◌, ℕ, zero, suc, ◌+◌, ◌≤◌, nat_abs, Bool, true, false, cond, List, [], ◌∷◌, ◌++◌, length, map, Option, Some, None, slice_get, if◌then◌else◌, refl, sym, ap, ◌∙◌, subst, arith, inl, inr, append-nil, codes, option_map, option_to_list, position_from, bytes_eq, cases_Bool, length-map, Set, SameSet, Node, node_set, set_of, sets_after, IsOrdered, binds, number_or_zero, on_verb, bound_name, Names, IsNode, Sets, IsBind, IsTurn, IsBinding, MeansCommand, MeansWords, Verb, Command, Bindings, set_named, made_of, bound_set, turned_set, bound_after}
+use Rattle.nef_statement.proofs.Prelude.{◌≡◌, ℕ, zero, suc, ◌+◌, ◌≤◌, nat_abs, Bool, true, false, cond, List, [], ◌∷◌, ◌++◌, length, map, Option, Some, None, slice_get, if◌then◌else◌, refl, sym, ap, ◌∙◌, subst, arith, inl, inr, append-nil, codes, option_map, option_to_list, position_from, bytes_eq, cases_Bool, length-map, Set, SameSet, Node, node_set, set_of, sets_after, IsOrdered, binds, number_or_zero, on_verb, bound_name, NamesNode, IsNodeOfLine, Sets, IsBind, IsTurn, IsBinding, MeansCommand, MeansWords, Verb, Command, Bindings, set_named, made_of_both, bound_set, turned_set, bound_after}
 use Rattle.std.proofs.lemmas.Iterator.Adapters.{position_from-zero}
 use Rattle.law_turns.specs.Turned.{turned_set as turned_image}
 use Rattle.law_turns.proofs.Meaning.{same_set-turned}
@@ -59,7 +59,7 @@ named-from nodes word (b ∷ bs) (m ∷ ms) n i j k a e s g = by (λ j f h g. na
         let (u, is, h) = more j later (omega (arith, s)) g in
         (u, ap (λ u. if u then Some b.1 else set_named bs word) f ∙ is, h)
 
-pub named : (nodes : List Node) (word : List ℕ) (sets : Bindings) (bound : List ℕ) (k : ℕ) → Agree nodes sets bound → Names (names_in sets) bound word k → IsFound nodes sets word k
+pub named : (nodes : List Node) (word : List ℕ) (sets : Bindings) (bound : List ℕ) (k : ℕ) → Agree nodes sets bound → NamesNode (names_in sets) bound word k → IsFound nodes sets word k
 named nodes word sets bound k a (i, at, is) = named-from nodes word sets bound 0 i i k a (sym (position_from-zero (bytes_eq word) (names_in sets)) ∙ at) (omega arith) is
 
 -- ---- one more name
@@ -89,25 +89,25 @@ module _ (ss : Sets) (ordered : IsOrdered ss.nodes) (sets : Bindings) (agree : A
   to : (s : Set) (n m : Node) → n ≡ m → SameSet s (set_of (sets_after [] ss.nodes) m) → SameSet s (set_of (sets_after [] ss.nodes) n)
   to s n m e h = subst (λ (z : Node). SameSet s (set_of (sets_after [] ss.nodes) z)) (sym e) h
 
-  of : (word : List ℕ) (k : ℕ) → Names (names_in sets) ss.bound word k → IsFound ss.nodes sets word k
+  of : (word : List ℕ) (k : ℕ) → NamesNode (names_in sets) ss.bound word k → IsFound ss.nodes sets word k
   of word k h = named ss.nodes word sets ss.bound k agree h
 
   -- of two operands, and of one
-  two : (make : Set → Set → Set) (n m : Node) (left right : List ℕ) (i j : ℕ) → Names (names_in sets) ss.bound left i → Names (names_in sets) ss.bound right j → n ≡ m
+  two : (make : Set → Set → Set) (n m : Node) (left right : List ℕ) (i j : ℕ) → NamesNode (names_in sets) ss.bound left i → NamesNode (names_in sets) ss.bound right j → n ≡ m
       → ((s t : Set) → SameSet s (node_set ss.nodes i) → SameSet t (node_set ss.nodes j) → SameSet (make s t) (set_of (sets_after [] ss.nodes) m))
-      → (s : Set) × (made_of make (set_named sets left) (set_named sets right) ≡ Some s) × SameSet s (set_of (sets_after [] ss.nodes) n)
+      → (s : Set) × (made_of_both make (set_named sets left) (set_named sets right) ≡ Some s) × SameSet s (set_of (sets_after [] ss.nodes) n)
   two make n m left right i j p q is same =
       let (s, e, f) = of left i p in
       let (t, g, h) = of right j q in
-      (make s t, ap (λ o. made_of make o (set_named sets right)) e ∙ ap (made_of make (Some s)) g, to (make s t) n m is (same s t f h))
+      (make s t, ap (λ o. made_of_both make o (set_named sets right)) e ∙ ap (made_of_both make (Some s)) g, to (make s t) n m is (same s t f h))
 
-  one : (make : Set → Set) (n m : Node) (operand : List ℕ) (i : ℕ) → Names (names_in sets) ss.bound operand i → n ≡ m → ((s : Set) → SameSet s (node_set ss.nodes i) → SameSet (make s) (set_of (sets_after [] ss.nodes) m))
+  one : (make : Set → Set) (n m : Node) (operand : List ℕ) (i : ℕ) → NamesNode (names_in sets) ss.bound operand i → n ≡ m → ((s : Set) → SameSet s (node_set ss.nodes i) → SameSet (make s) (set_of (sets_after [] ss.nodes) m))
       → (s : Set) × (option_map make (set_named sets operand) ≡ Some s) × SameSet s (set_of (sets_after [] ss.nodes) n)
   one make n m operand i p is same =
       let (s, e, f) = of operand i p in
       (make s, ap (option_map make) e, to (make s) n m is (same s f))
 
-  made : (v : Verb) (args : List (List ℕ)) (n : Node) → IsNode (names_in sets) ss.bound v args n → Makes v args n
+  made : (v : Verb) (args : List (List ℕ)) (n : Node) → IsNodeOfLine (names_in sets) ss.bound v args n → Makes v args n
   made verb.Half (name ∷ a ∷ b ∷ c ∷ d ∷ mode ∷ []) n (o, is, given) = (Set.half _ (bytes_eq mode (codes "closed")), refl, to _ n (node.Half o (bytes_eq mode (codes "closed"))) is (same-half _ _ (bytes_eq mode (codes "closed")) given))
   made verb.Empty (name ∷ []) n is = (Set.empty, refl, to _ n node.Empty is (same-self Set.empty))
   made verb.Full (name ∷ []) n is = (Set.full, refl, to _ n node.Full is (same-self Set.full))

@@ -1,8 +1,8 @@
 -- Numbers within the limits have planes, points and directions of the program, and nodes have turned copies.
-use Rattle.nef_statement.proofs.Prelude.{◌≡◌, ℕ, zero, suc, ◌+◌, ◌<◌, ◌≤◌, ℤ, pos, neg_ℤ, ◌*ℤ◌, ◌<ℤ◌, nat_abs, Bool, true, false, List, [], ◌∷◌, ◌++◌, length, get_or, Some, slice_get, arith, refl, ap, ◌∙◌, inl, inr, subst, slice_index, ints, slice_get-get_or, normal_limit, offset_limit, point_limit, weight_limit, ray_direction_limit, DividesAll, Form, form, SamePlace, Set, vector, IsDirection, IsAtMost, SameDirection, IsNormal, IsPlaceAtMost, IsStretched, IsPositiveMultiple, given_form, place_at, place_of, vector_of, Dir, Oriented, Point, part_small, negated_if, IsComposition, Decided, turned_plane, signed, normal-choice, lowest_form-turned, IsSmallForm, point-with, Node, Stays, IsTurnedNode, OperandsTurned, IsMarked, AreNeeded, Shape, IsOrdered, Table, table, origin, HasOrigin, AreOrigins, IsCopyOf, TurnOf, operand-below, slice_get-left, slice_get-seam, new-names, new-image, ordered-push, origins-push, copy-there, copy-is, copy-image, IsCopying, copying-start, copying-length, copying-operands, copying-more, stays-same, stays-twice, eq-decided}
+use Rattle.nef_statement.proofs.Prelude.{◌≡◌, ℕ, zero, suc, ◌+◌, ◌<◌, ◌≤◌, ℤ, pos, neg_ℤ, ◌*ℤ◌, ◌<ℤ◌, nat_abs, Bool, true, false, List, [], ◌∷◌, ◌++◌, length, get_or, Some, slice_get, arith, refl, ap, ◌∙◌, inl, inr, subst, slice_index, ints, slice_get-get_or, normal_limit, offset_limit, point_limit, weight_limit, ray_direction_limit, DividesAll, Form, form, SamePoint, Set, vector, IsDirection, IsAtMost, SameDirection, IsNormal, IsPointAtMost, IsStretched, IsPositiveMultiple, given_form, point_at, point_of, vector_of, Dir, Oriented, Point, part_small, negated_if, IsComposition, Decided, turned_plane, signed, normal-choice, lowest_form-turned, IsSmallForm, point-with, Node, Stays, IsTurnedNode, OperandsTurned, IsMarked, AreWithOperands, Shape, IsOrdered, NodeTable, table, origin, HasOrigin, AreOrigins, IsCopyOf, TurnOf, operand-below, slice_get-left, slice_get-seam, new-names, new-image, ordered-push, origins-push, copy-there, copy-is, copy-image, IsCopying, copying-start, copying-length, copying-operands, copying-more, stays-same, stays-twice, eq-decided}
 use Rattle.nef_geo.proofs.Directions.{IsDirection-part, SameDirection-stretched}
 use Rattle.nef_geo.proofs.Divisors.{divisor_small, lowest_three}
-use Rattle.nef_geo.proofs.Places.{SamePlace-reduced}
+use Rattle.nef_geo.proofs.Places.{SamePoint-reduced}
 use Rattle.nef_case.proofs.TurnLemmas.{composition-turns, composed-by_numbers}
 use Rattle.law_exist.proofs.Reduced.{Reduced, reduce-by}
 use Rattle.nef_expr.specs.declared.nodes.Node.TheVariants as node
@@ -11,12 +11,12 @@ use Rattle.nef_expr.proofs.Halves.{half-in_range, half-some, half-read}
 
 -- ---- points
 -- the point (x/w, y/w, z/w), whose numbers are at most as large as these
-pub point-at : (m n : ℕ) (x y z w : ℤ) → m ≤ point_limit → n ≤ weight_limit → IsAtMost m (vector x y z) → nat_abs w ≤ n → (p : pos 0 <ℤ w) → (q : Point) × SamePlace (place_at x y z w p) (place_of q) × IsPlaceAtMost m n (place_of q)
+pub point-at : (m n : ℕ) (x y z w : ℤ) → m ≤ point_limit → n ≤ weight_limit → IsAtMost m (vector x y z) → nat_abs w ≤ n → (p : pos 0 <ℤ w) → (q : Point) × SamePoint (point_at x y z w p) (point_of q) × IsPointAtMost m n (point_of q)
 point-at m n x y z w few light S l p =
     let a = S.of_x in let b = S.of_y in let c = S.of_z in
     let (q, R) = point-with x y z w (omega (arith, a, few)) (omega (arith, b, few)) (omega (arith, c, few)) (omega (arith, l, light)) p in (
       q,
-      SamePlace-reduced x y z w q.x q.y q.z q.w p q.proper R,
+      SamePoint-reduced x y z w q.x q.y q.z q.w p q.proper R,
       record {
         numbers = record { of_x = part_small m R.factor x q.x R.positive R.x_is a; of_y = part_small m R.factor y q.y R.positive R.y_is b; of_z = part_small m R.factor z q.z R.positive R.z_is c };
         weight = part_small n R.factor w q.w R.positive R.w_is l;
@@ -142,13 +142,13 @@ origin-decided (p ∷ os) o = by (eq-decided p.base o.base) (eq-decided p.turn o
     by (inl b) (inr n) (inr m) = inr (λ (l, e). later l (λ f. n (ap (λ (q : Origin). q.turn) f)) m e)
 
 -- each node names earlier ones and is the image of its base
-pub record IsGood (T : Table) : Type 0 where
+pub record IsGood (T : NodeTable) : Type 0 where
   pub ordered : IsOrdered T.nodes
   pub origins : AreOrigins T.nodes T.origins T.bases
 
 -- the nodes with a turned copy of one of them
-pub record Copy (T : Table) (t k : ℕ) : Type 0 where
-  pub now : Table
+pub record Copy (T : NodeTable) (t k : ℕ) : Type 0 where
+  pub now : NodeTable
   pub good : IsGood now
   pub stays : Stays T now
   pub number : ℕ
@@ -156,7 +156,7 @@ pub record Copy (T : Table) (t k : ℕ) : Type 0 where
   pub copy : IsCopyOf now.origins t k number
 
 -- the copy of a node whose operands have their copies: the node that is there, or one more
-copy-one : (T : Table) → IsGood T → (t k : ℕ) (copies : List ℕ) → t < 48 → k < length T.nodes → ((n : Node) → slice_get T.nodes k ≡ Some n → OperandsTurned T.nodes t copies n) → Copy T t k
+copy-one : (T : NodeTable) → IsGood T → (t k : ℕ) (copies : List ℕ) → t < 48 → k < length T.nodes → ((n : Node) → slice_get T.nodes k ≡ Some n → OperandsTurned T.nodes t copies n) → Copy T t k
 copy-one T G t k copies l below turned =
     let O = G.origins in
     let count = O.count in
@@ -211,8 +211,8 @@ all-marked zero i l = absurd (omega (arith, l))
 all-marked (suc n) zero l = refl
 all-marked (suc n) (suc i) l = all-marked n i (omega (arith, l))
 
-module _ (T : Table) (G : IsGood T) (t k : ℕ) (few : t < 48) (below : k < length T.nodes) where
-  needed : AreNeeded T.nodes k (all-true (k + 1))
+module _ (T : NodeTable) (G : IsGood T) (t k : ℕ) (few : t < 48) (below : k < length T.nodes) where
+  needed : AreWithOperands T.nodes k (all-true (k + 1))
   needed = record {
     count = true-count (k + 1);
     itself = all-marked (k + 1) k (omega arith);
@@ -220,7 +220,7 @@ module _ (T : Table) (G : IsGood T) (t k : ℕ) (few : t < 48) (below : k < leng
   }
 
   record Copied (i : ℕ) : Type 0 where
-    now : Table
+    now : NodeTable
     good : IsGood now
     copies : List ℕ
     copying : IsCopying T t i (all-true (k + 1)) now copies

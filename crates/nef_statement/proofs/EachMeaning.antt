@@ -1,5 +1,5 @@
 -- Each accepted script has a meaning.
-use Rattle.nef_statement.proofs.Prelude.{◌≡◌, ℕ, ◌+◌, ◌<◌, ℤ, pos, negsuc, nat_abs, true, false, not, nat_eq, ◌||◌, List, [], ◌∷◌, ◌++◌, length, get_or, Option, Some, None, is_some, slice_get, arith, refl, sym, ap, ◌∙◌, subst, nat_lt, int_le, codes, list_any, position, enumerate_from, bytes_eq, or_parts, and_parts, eqb-true, slice_get-get_or, normal_limit, offset_limit, query_limit, query_weight_limit, ray_direction_limit, ray_point_limit, ray_weight_limit, form, vector, IsAtMost, Point, Node, table, origin, HasOrigin, AreOrigins, names-from, slice_get-seam, ordered-push, origins-push, base-new, base-image, lines_of, words_of, KeepsRayLimits, Names, IsNode, IsQuestion, IsQuotient, MeansScript, HasRead, State, state, IsSound, AddsWords, AddsLine, sets_of, line_refusal, IsAccepted, verb_of, roles, binds, is_own, number_or_zero, is_from, command_tests, words_tests, Verb, Command, ScriptKind, HasRead-start, HasRead-next, HasRead-refused, HasRead-end, first_state, never_both, EachMeans}
+use Rattle.nef_statement.proofs.Prelude.{◌≡◌, ℕ, ◌+◌, ◌<◌, ℤ, pos, negsuc, nat_abs, true, false, not, nat_eq, ◌||◌, List, [], ◌∷◌, ◌++◌, length, get_or, Option, Some, None, is_some, slice_get, arith, refl, sym, ap, ◌∙◌, subst, nat_lt, int_le, codes, list_any, position, enumerate_from, bytes_eq, or_parts, and_parts, eqb-true, slice_get-get_or, normal_limit, offset_limit, query_limit, query_weight_limit, ray_direction_limit, ray_point_limit, ray_weight_limit, form, vector, IsAtMost, Point, Node, table, origin, HasOrigin, AreOrigins, names-from, slice_get-seam, ordered-push, origins-push, base-new, base-image, lines_of, words_of, KeepsRayLimits, NamesNode, IsNodeOfLine, IsQuestion, IsQuotient, MeansScript, HasRead, ReadState, state, IsSoundState, AddsWords, AddsLine, sets_of, line_refusal, IsAccepted, verb_of, roles, binds, is_own, number_or_zero, is_from, command_tests, words_tests, Verb, Command, ScriptKind, HasRead-start, HasRead-next, HasRead-refused, HasRead-end, first_state, never_both, EachMeans}
 use Rattle.nef_expr.specs.declared.nodes.Node.TheVariants as node
 use Rattle.nef_script.specs.declared.arguments.Verb.TheVariants as verb
 use Rattle.nef_script.specs.declared.script.Command.TheVariants as command
@@ -24,25 +24,25 @@ three-in limit x y z a b c = record { of_x = within limit (nat_abs (number_or_ze
 
 -- ---- one line more
 -- what is read with a command and the words after it
-record WordsAdd (number : ℕ) (v : Verb) (args : List (List ℕ)) (old : State) : Type 0 where
-  new : State
+record WordsAdd (number : ℕ) (v : Verb) (args : List (List ℕ)) (old : ReadState) : Type 0 where
+  new : ReadState
   good : IsGood new.table
   adds : AddsWords number v args old new
 
 -- what is read with a line
-record LineAdds (number : ℕ) (text : List ℕ) (old : State) : Type 0 where
-  new : State
+record LineAdds (number : ℕ) (text : List ℕ) (old : ReadState) : Type 0 where
+  new : ReadState
   good : IsGood new.table
   adds : AddsLine number text old new
 
-module _ (number : ℕ) (old : State) (sound : IsSound old) (good : IsGood old.table) where
+module _ (number : ℕ) (old : ReadState) (sound : IsSoundState old) (good : IsGood old.table) where
   abbrev Known : List ℕ → Type 0
   Known word = not (list_any (bytes_eq word) old.names) ≡ false
 
   -- the node of a name
   record Found (word : List ℕ) : Type 0 where
     node : ℕ
-    named : Names old.names old.bound word node
+    named : NamesNode old.names old.bound word node
     there : node < length old.table.nodes
 
   found : (word : List ℕ) → Known word → Found word
@@ -58,14 +58,14 @@ module _ (number : ℕ) (old : State) (sound : IsSound old) (good : IsGood old.t
           record { node = k; named = (i, f, at); there = sound.within i k at }
 
   -- a node of the line's own
-  binds-node : (v : Verb) (name : List ℕ) (args : List (List ℕ)) (n : Node) → is_own v ≡ true → IsNode old.names old.bound v (name ∷ args) n → WordsAdd number v (name ∷ args) old
+  binds-node : (v : Verb) (name : List ℕ) (args : List (List ℕ)) (n : Node) → is_own v ≡ true → IsNodeOfLine old.names old.bound v (name ∷ args) n → WordsAdd number v (name ∷ args) old
   binds-node v name args n own is =
       let T = old.table in
       let O = good.origins in
       let k = length T.nodes in
       let o = origin T.bases 0 in
       let below = names-from k n (λ i operand. (let (j, at) = node-operands old.names old.bound v (name ∷ args) n is i operand in sound.within j i at)) in
-      let new : State = state (old.names ++ name ∷ []) (old.bound ++ k ∷ []) (table (T.nodes ++ n ∷ []) (T.origins ++ o ∷ []) (T.bases + 1)) (old.commands ++ command.Bind number k ∷ []) in
+      let new : ReadState = state (old.names ++ name ∷ []) (old.bound ++ k ∷ []) (table (T.nodes ++ n ∷ []) (T.origins ++ o ∷ []) (T.bases + 1)) (old.commands ++ command.Bind number k ∷ []) in
       record {
         new = new;
         good = record {
@@ -76,13 +76,13 @@ module _ (number : ℕ) (old : State) (sound : IsSound old) (good : IsGood old.t
             (subst (λ (j : ℕ). HasOrigin (T.origins ++ o ∷ []) j o) O.count (slice_get-seam T.origins o [])) refl refl;
       }
 
-  binds-one : (v : Verb) (name l : List ℕ) (make : ℕ → Node) → is_own v ≡ true → ((i : ℕ) → Names old.names old.bound l i → IsNode old.names old.bound v (name ∷ l ∷ []) (make i)) → (not (list_any (bytes_eq l) old.names) || false) ≡ false → WordsAdd number v (name ∷ l ∷ []) old
+  binds-one : (v : Verb) (name l : List ℕ) (make : ℕ → Node) → is_own v ≡ true → ((i : ℕ) → NamesNode old.names old.bound l i → IsNodeOfLine old.names old.bound v (name ∷ l ∷ []) (make i)) → (not (list_any (bytes_eq l) old.names) || false) ≡ false → WordsAdd number v (name ∷ l ∷ []) old
   binds-one v name l make own is known =
       let (p, k) = or_parts (not (list_any (bytes_eq l) old.names)) false known in
       let f = found l p in
       binds-node v name (l ∷ []) (make f.node) own (is f.node f.named)
 
-  binds-two : (v : Verb) (name l r : List ℕ) (make : ℕ → ℕ → Node) → is_own v ≡ true → ((i j : ℕ) → Names old.names old.bound l i → Names old.names old.bound r j → IsNode old.names old.bound v (name ∷ l ∷ r ∷ []) (make i j)) → (not (list_any (bytes_eq l) old.names) || (not (list_any (bytes_eq r) old.names) || false)) ≡ false → WordsAdd number v (name ∷ l ∷ r ∷ []) old
+  binds-two : (v : Verb) (name l r : List ℕ) (make : ℕ → ℕ → Node) → is_own v ≡ true → ((i j : ℕ) → NamesNode old.names old.bound l i → NamesNode old.names old.bound r j → IsNodeOfLine old.names old.bound v (name ∷ l ∷ r ∷ []) (make i j)) → (not (list_any (bytes_eq l) old.names) || (not (list_any (bytes_eq r) old.names) || false)) ≡ false → WordsAdd number v (name ∷ l ∷ r ∷ []) old
   binds-two v name l r make own is known =
       let (p, k) = or_parts (not (list_any (bytes_eq l) old.names)) _ known in
       let (q, k2) = or_parts (not (list_any (bytes_eq r) old.names)) false k in
@@ -111,15 +111,15 @@ module _ (number : ℕ) (old : State) (sound : IsSound old) (good : IsGood old.t
       let few : t < 48 = omega (arith, small) in
       by f.node f.named t few (whole 47 (number_or_zero index) r) (copy-of old.table good t f.node few f.there)
     where
-      by : (from : ℕ) → Names old.names old.bound l from → (t : ℕ) → t < 48 → number_or_zero index ≡ pos t → Copy old.table t from → WordsAdd number verb.Turn (name ∷ l ∷ index ∷ []) old
+      by : (from : ℕ) → NamesNode old.names old.bound l from → (t : ℕ) → t < 48 → number_or_zero index ≡ pos t → Copy old.table t from → WordsAdd number verb.Turn (name ∷ l ∷ index ∷ []) old
       by from named t few e c =
-          let new : State = state (old.names ++ name ∷ []) (old.bound ++ c.number ∷ []) c.now (old.commands ++ command.Turn number c.number from t ∷ []) in
+          let new : ReadState = state (old.names ++ name ∷ []) (old.bound ++ c.number ∷ []) c.now (old.commands ++ command.Turn number c.number from t ∷ []) in
           record { new = new; good = c.good; adds = AddsWords-turn number (name ∷ l ∷ index ∷ []) old new from t c.number sound refl named e few c.turned c.copy c.stays refl refl refl }
 
   -- a question
   asks : (v : Verb) (args : List (List ℕ)) (c : Command) → binds v ≡ false → IsQuestion old.names old.bound number v args c → KeepsRayLimits c → WordsAdd number v args old
   asks v args c e is rays =
-      let new : State = state old.names old.bound old.table (old.commands ++ c ∷ []) in
+      let new : ReadState = state old.names old.bound old.table (old.commands ++ c ∷ []) in
       record { new = new; good = good; adds = AddsWords-ask number v args old new c sound e is rays refl refl refl refl }
 
   -- the point that is asked for
@@ -236,15 +236,15 @@ module _ (number : ℕ) (old : State) (sound : IsSound old) (good : IsGood old.t
 -- ---- all lines
 module _ (bytes : List ℕ) (accepted : IsAccepted bytes) where
   record ReadAll : Type 0 where
-    reached : State
+    reached : ReadState
     good : IsGood reached.table
     read : HasRead (lines_of bytes) [] reached
 
-  read-all : (left : List (ℕ × List ℕ)) (s : State) → HasRead (lines_of bytes) left s → IsGood s.table → ReadAll
+  read-all : (left : List (ℕ × List ℕ)) (s : ReadState) → HasRead (lines_of bytes) left s → IsGood s.table → ReadAll
   read-all [] s read good = record { reached = s; good = good; read = read }
   read-all ((number, text) ∷ left) s read good = by (line_refusal s.names text) refl (λ t r g. read-all left t r g)
     where
-      by : (o : Option ScriptKind) → line_refusal s.names text ≡ o → ((t : State) → HasRead (lines_of bytes) left t → IsGood t.table → ReadAll) → ReadAll
+      by : (o : Option ScriptKind) → line_refusal s.names text ≡ o → ((t : ReadState) → HasRead (lines_of bytes) left t → IsGood t.table → ReadAll) → ReadAll
       by None e more =
           let L = line-adds number s read.sound good text e in
           more L.new (HasRead-next (lines_of bytes) number text left s L.new read L.adds) L.good

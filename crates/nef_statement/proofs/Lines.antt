@@ -1,5 +1,5 @@
 -- The rows of bytes that are made of rows.
-use Rattle.nef_statement.proofs.Prelude.{◌≡◌, ℕ, zero, suc, ◌+◌, ◌-◌, ◌*◌, ◌^◌, ◌<◌, ◌≤◌, ◌/◌, ◌%◌, ◌==◌, nat_abs, ℤ, pos, negsuc, neg_ℤ, Bool, true, false, cond, List, [], ◌∷◌, ◌++◌, length, map, Some, None, refl, sym, ap, ◌∙◌, subst, arith, inl, append-nil, append_assoc, length-append, nat_le, nat_lt, unwrap_or, ◌&&◌, ne_eqb, le-leb, All, list_all, flat_map, join_with_byte, digits_onto, digit_glyph, decimal, signed_decimal, All-cons, All-nil, is_line_feed, pieces_of, without_return, words_of, is_gap, LacksFeed, ended, is_word_byte, IsWord, IsGap, IsRest, IsParted, is_digits, decimal_value, number_of, number_or_zero, Word, line, rows_of}
+use Rattle.nef_statement.proofs.Prelude.{◌≡◌, ℕ, zero, suc, ◌+◌, ◌-◌, ◌*◌, ◌^◌, ◌<◌, ◌≤◌, ◌/◌, ◌%◌, ◌==◌, nat_abs, ℤ, pos, negsuc, neg_ℤ, Bool, true, false, cond, List, [], ◌∷◌, ◌++◌, length, map, Some, None, refl, sym, ap, ◌∙◌, subst, arith, inl, append-nil, append_assoc, length-append, nat_le, nat_lt, unwrap_or, ◌&&◌, ne_eqb, le-leb, All, list_all, flat_map, join_with_byte, digits_onto, digit_glyph, decimal, signed_decimal, All-cons, All-nil, is_line_feed, pieces_of, without_return, words_of, is_gap, LacksFeed, each_ended, is_word_byte, IsWord, IsGap, IsRest, IsParted, is_digits, decimal_value, number_of, number_or_zero, Word, line, line_rows}
 use Rattle.std.specs.Prelude.{nat_eq, ◌||◌, not}
 use Rattle.std.specs.Char.{is_ascii_digit}
 use Rattle.std.specs.Fmt.{digits}
@@ -111,7 +111,7 @@ words-joined (w ∷ ws) (h, k) =
     ∙ ap (λ l. w ∷ l) (after-words ws)
 
 -- ---- rows
-ended-rows : (rows : List Row) → flat_map line rows ≡ ended (map (join_with_byte 32) rows) []
+ended-rows : (rows : List Row) → flat_map line rows ≡ each_ended (map (join_with_byte 32) rows) []
 ended-rows [] = refl
 ended-rows (ws ∷ rows) = append_assoc (join_with_byte 32 ws) (10 ∷ []) (flat_map line rows) ∙ ap (λ r. join_with_byte 32 ws ++ (10 ∷ r)) (ended-rows rows)
 
@@ -126,7 +126,7 @@ each-row (ws ∷ rows) (h, k) =
     ∙ ap (λ l. ws ∷ l) (each-row rows k)
 
 -- the rows of lines that are made of rows
-pub rows-read : (rows : List Row) → Each AreGood rows → rows_of (flat_map line rows) ≡ rows
+pub rows-read : (rows : List Row) → Each AreGood rows → line_rows (flat_map line rows) ≡ rows
 rows-read rows h =
     ap (λ x. map words_of (map without_return (pieces_of x))) (ended-rows rows)
     ∙ ap (λ ps. map words_of (map without_return ps)) (pieces_of_ended (map (join_with_byte 32) rows) [] (all-lack rows h) (All-nil (λ b. is_line_feed b ≡ false)) ∙ append-nil (map (join_with_byte 32) rows))

@@ -1,5 +1,5 @@
 -- Words and bytes mean one thing, and a run does what is meant.
-use Rattle.nef_statement.proofs.Prelude.{◌≡◌, ℕ, ◌+◌, ◌<◌, ◌≤◌, arith, refl, sym, ap, ◌∙◌, subst, List, [], ◌++◌, length, Option, Some, None, inl, inr, ◌⊎◌, append-nil, length-append, option_map, Set, TextVersion, Rose, Grows, GrowsWithin, lines_of, Options, options_in, ScriptKind, script_limit, FirstRefusal, IsAccepted, stairs_text, one_refusal, never_both, Status, Refused, Words, ReadFault, WriteFault, OutOfMemory, ReadSource, IsRead, Means, refusal_line, AreSaid, WroteOf, IsMeant, WroteFront, Ended, Traffic}
+use Rattle.nef_statement.proofs.Prelude.{◌≡◌, ℕ, ◌+◌, ◌<◌, ◌≤◌, arith, refl, sym, ap, ◌∙◌, subst, List, [], ◌++◌, length, Option, Some, None, inl, inr, ◌⊎◌, append-nil, length-append, option_map, Set, TextVersion, Rose, Grows, GrowsWithin, lines_of, Options, options_in, ScriptKind, script_limit, FirstRefusal, IsAccepted, stairs_text, one_refusal, never_both, Status, Refused, Words, ReadFault, WriteFault, OutOfMemory, ReadSource, AreBytesRead, Means, refusal_line, AreSaid, WroteOf, IsMeant, WroteFront, Ended, Traffic}
 use Rattle.std.specs.Io.KnownBytes.{Consumes, IsAtEnd}
 use Rattle.nef_script.specs.declared.script.ScriptKind.TheVariants.{ScriptTooLong}
 use Rattle.nef_statement.specs.Status.{EndsByItself}
@@ -43,7 +43,7 @@ first-long bytes line kind long (FirstRefusal.too_long h) = (refl, refl)
 first-long bytes line kind long (FirstRefusal.at_line n k short here before) = absurd (omega arith)
 
 -- the refusal of what was read is that of all that the source had
-refused-whole : (bytes taken : List ℕ) (new : Option (List ℕ)) (line : ℕ) (kind : ScriptKind) → IsRead (Some bytes) new taken → FirstRefusal taken line kind → FirstRefusal bytes line kind
+refused-whole : (bytes taken : List ℕ) (new : Option (List ℕ)) (line : ℕ) (kind : ScriptKind) → AreBytesRead (Some bytes) new taken → FirstRefusal taken line kind → FirstRefusal bytes line kind
 refused-whole bytes taken new line kind read refused = elim read.1 [
   | inl end ↦ subst (λ z. FirstRefusal z line kind) (sym (taken-whole bytes taken new read.0 end)) refused
   | inr long ↦
@@ -53,7 +53,7 @@ refused-whole bytes taken new line kind read refused = elim read.1 [
 ]
 
 -- what was read and is accepted is all of it
-accepted-whole : (bytes taken : List ℕ) (new : Option (List ℕ)) → IsRead (Some bytes) new taken → IsAccepted taken → taken ≡ bytes
+accepted-whole : (bytes taken : List ℕ) (new : Option (List ℕ)) → AreBytesRead (Some bytes) new taken → IsAccepted taken → taken ≡ bytes
 accepted-whole bytes taken new read accepted = elim read.1 [
   | inl end ↦ sym (taken-whole bytes taken new read.0 end)
   | inr long ↦ absurd (let short = accepted.short in omega (arith, short, long))
@@ -64,8 +64,8 @@ module _ (Text : TextVersion → Set → List ℕ → Type 0) where
   pub meant-whole : (words : List (List ℕ)) (io : Traffic) (bytes : List ℕ) (s : Status) (x : List ℕ) → (ReadSource words → io.before.rest ≡ Some bytes) → IsMeant Text words io s x → Means Text words bytes s x
   meant-whole words io bytes s x told (taken, read, meant) = by meant
     where
-      read-of : ReadSource words → IsRead (Some bytes) io.after.rest taken
-      read-of source = subst (λ z. IsRead z io.after.rest taken) (told source) (read source)
+      read-of : ReadSource words → AreBytesRead (Some bytes) io.after.rest taken
+      read-of source = subst (λ z. AreBytesRead z io.after.rest taken) (told source) (read source)
 
       by : {s : Status} {x : List ℕ} → Means Text words taken s x → Means Text words bytes s x
       by (Means.refused_words out) = Means.refused_words out

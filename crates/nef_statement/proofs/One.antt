@@ -1,5 +1,5 @@
 -- What lines say is one.
-use Rattle.nef_statement.proofs.Prelude.{◌≡◌, ℕ, ℤ, pos, ◌<ℤ◌, zero, suc, refl, sym, ap, ◌∙◌, subst, List, [], ◌∷◌, ◌++◌, take, Option, Some, append_assoc, props, HasLabel, Place, Set, vector, Label, label-one, place_at, words_of, verb_of, number_or_zero, Verb, IsSameAnswer, IsJoinedAnswer, IsRayAnswer, framed, answer_of, Bindings, set_named, bound_after, CountTells, IsSaid, IsSaidBy, AreSaid}
+use Rattle.nef_statement.proofs.Prelude.{◌≡◌, ℕ, ℤ, pos, ◌<ℤ◌, zero, suc, refl, sym, ap, ◌∙◌, subst, List, [], ◌∷◌, ◌++◌, take, Option, Some, append_assoc, props, HasLabel, SpacePoint, Set, vector, Label, label-one, point_at, words_of, verb_of, number_or_zero, Verb, IsSameAnswer, IsJoinedAnswer, IsRayAnswer, framed, answer_of, Bindings, set_named, bound_after, CountTells, IsSaid, IsSaidBy, AreSaid}
 use Rattle.nef_script.specs.declared.arguments.Verb.TheVariants as verb
 use Rattle.nef_statement.proofs.Answered.{answered-one, joined-one, ended-one}
 use Rattle.nef_statement.proofs.Counts.{count-one}
@@ -8,15 +8,15 @@ use Rattle.nef_statement.proofs.Counts.{count-one}
 positive-prop : (w : ℤ) → IsProp (pos 0 <ℤ w)
 positive-prop w = hlevel props
 
-abbrev point : (a b c w : List ℕ) → pos 0 <ℤ number_or_zero w → Place
-point a b c w h = place_at (number_or_zero a) (number_or_zero b) (number_or_zero c) (number_or_zero w) h
+abbrev point : (a b c w : List ℕ) → pos 0 <ℤ number_or_zero w → SpacePoint
+point a b c w h = point_at (number_or_zero a) (number_or_zero b) (number_or_zero c) (number_or_zero w) h
 
 -- what is so of a point is so whatever shows that its w is positive
-again : (P : Place → Type 0) (a b c w : List ℕ) (h k : pos 0 <ℤ number_or_zero w) → P (point a b c w k) → P (point a b c w h)
+again : (P : SpacePoint → Type 0) (a b c w : List ℕ) (h k : pos 0 <ℤ number_or_zero w) → P (point a b c w k) → P (point a b c w h)
 again P a b c w h k so = subst (λ (i : pos 0 <ℤ number_or_zero w). P (point a b c w i)) (positive-prop (number_or_zero w) k h) so
 
 -- the answer to what the label of s is at p
-abbrev IsLabelAnswer : Set → Place → List ℕ → Type 0
+abbrev IsLabelAnswer : Set → SpacePoint → List ℕ → Type 0
 IsLabelAnswer s p said = (l : Label) × HasLabel s p l × (said ≡ answer_of l)
 
 -- ---- lines

@@ -1,5 +1,5 @@
 -- An accepted script has an output.
-use Rattle.nef_statement.proofs.Prelude.{◌≡◌, ℕ, zero, suc, ◌+◌, ◌^◌, ◌<◌, ◌≤◌, ℤ, pos, negsuc, ◌<ℤ◌, nat_abs, arith, refl, sym, ap, ◌∙◌, inl, inr, ⊎_elim, List, [], ◌∷◌, ◌++◌, length, take, get_or, Bool, true, false, not, nat_eq, ◌||◌, Option, Some, None, find, slice_get, if◌then◌else◌, subst, append-nil, append_assoc, length-append, nat_lt, int_le, option_map, option_to_list, codes, list_any, zip, bytes_eq, or_parts, and_parts, eqb-true, leb-true, leb-false, ltb-false, ints, normal_limit, offset_limit, query_weight_limit, ray_direction_limit, ray_point_limit, ray_weight_limit, Place, Form, form, InFrame, Set, Lies, Vector, vector, IsDirection, IsAtMost, lies-append, Out, IsPlaceAtMost, place_at, Decided, label_of, InFrame-decided, At, line, numbers, text, TextVersion, IsSmallForm, AreSmall, AreTurnsOf, lines_of, words_of, line_refusal, bound_name, names_of, IsAccepted, verb_of, roles, binds, name_count_limit, line_limit, is_bad_byte, number_or_zero, is_zero, is_from, on_verb, word_test, has_zero_normal, has_zero_direction, command_tests, words_tests, Verb, ScriptKind, Bindings, set_named, made_of, bound_set, turned_set, bound_after, answer_of, framed, line_end, IsSameAnswer, IsJoinedAnswer, IsRayAnswer, IsSaid, IsSaidBy, AreSaid, IsText, CountTells, eq-decided, is-at_none, is-at_first}
+use Rattle.nef_statement.proofs.Prelude.{◌≡◌, ℕ, zero, suc, ◌+◌, ◌^◌, ◌<◌, ◌≤◌, ℤ, pos, negsuc, ◌<ℤ◌, nat_abs, arith, refl, sym, ap, ◌∙◌, inl, inr, ⊎_elim, List, [], ◌∷◌, ◌++◌, length, take, get_or, Bool, true, false, not, nat_eq, ◌||◌, Option, Some, None, find, slice_get, if◌then◌else◌, subst, append-nil, append_assoc, length-append, nat_lt, int_le, option_map, option_to_list, codes, list_any, zip, bytes_eq, or_parts, and_parts, eqb-true, leb-true, leb-false, ltb-false, ints, normal_limit, offset_limit, query_weight_limit, ray_direction_limit, ray_point_limit, ray_weight_limit, SpacePoint, Form, form, InFrame, Set, Lies, Vector, vector, IsDirection, IsAtMost, lies-append, Out, IsPointAtMost, point_at, Decided, label_of, InFrame-decided, IsAt, line, numbers, text, TextVersion, IsSmallForm, AreSmallForms, AreTurnsOf, lines_of, words_of, line_refusal, bound_name, names_of, IsAccepted, verb_of, roles, binds, name_count_limit, line_limit, is_bad_byte, number_or_zero, is_zero, is_from, on_verb, word_test, has_zero_normal, has_zero_direction, command_tests, words_tests, Verb, ScriptKind, Bindings, set_named, made_of_both, bound_set, turned_set, bound_after, answer_of, framed, line_end, IsSameAnswer, IsJoinedAnswer, IsRayAnswer, IsSaid, IsSaidBy, AreSaid, IsText, CountTells, eq-decided, is-at_none, is-at_first}
 use Rattle.std.proofs.Common.{drop, nat_le, ◌&&◌}
 use Rattle.std.specs.Prelude.{map}
 use Rattle.law_exist.proofs.Connected.{joined-is_decided, components-are_counted}
@@ -18,11 +18,11 @@ use Rattle.nef_statement.proofs.Turning.{set-same}
 abbrev pub refusal_in : List (ScriptKind × Bool) → Option ScriptKind
 refusal_in xs = option_map (λ (t : ScriptKind × Bool). t.0) (find (λ (t : ScriptKind × Bool). t.1) xs)
 
-none-holds : (xs : List (ScriptKind × Bool)) → refusal_in xs ≡ None → (k : ℕ) (t : ScriptKind × Bool) → At xs k t → t.1 ≡ false
+none-holds : (xs : List (ScriptKind × Bool)) → refusal_in xs ≡ None → (k : ℕ) (t : ScriptKind × Bool) → IsAt xs k t → t.1 ≡ false
 none-holds [] e k t a = absurd (is-at_none a)
 none-holds ((j, b) ∷ xs) e k t a = by b refl k a (λ f n u c. none-holds xs f n u c)
   where
-    by : (d : Bool) → b ≡ d → (k : ℕ) → At ((j, b) ∷ xs) k t → (refusal_in xs ≡ None → (n : ℕ) (u : ScriptKind × Bool) → At xs n u → u.1 ≡ false) → t.1 ≡ false
+    by : (d : Bool) → b ≡ d → (k : ℕ) → IsAt ((j, b) ∷ xs) k t → (refusal_in xs ≡ None → (n : ℕ) (u : ScriptKind × Bool) → IsAt xs n u → u.1 ≡ false) → t.1 ≡ false
     by true f k a more = absurd (let g : Some j ≡ None = sym (ap (λ c. refusal_in ((j, c) ∷ xs)) f) ∙ e in cc)
     by false f zero a more = ap (λ (u : ScriptKind × Bool). u.1) (sym (is-at_first a)) ∙ f
     by false f (suc n) a more = more (sym (ap (λ c. refusal_in ((j, c) ∷ xs)) f) ∙ e) n t a
@@ -53,7 +53,7 @@ passed names v args e = record {
     some : ScriptKind → ScriptKind × Bool
     some k = (k, list_any (word_test k names) (zip (roles v) args))
 
-    fails : (k : ℕ) (t : ScriptKind × Bool) → At (command_tests names (Some v) args) k t → t.1 ≡ false
+    fails : (k : ℕ) (t : ScriptKind × Bool) → IsAt (command_tests names (Some v) args) k t → t.1 ≡ false
     fails = none-holds (command_tests names (Some v) args) e
 
 -- a line that isn't refused passes the tests of its words
@@ -116,7 +116,7 @@ lists-decided (x ∷ xs) (y ∷ ys) = by (eq-decided x y) (lists-decided xs ys)
 -- ---- bindings
 -- the names are bound to sets whose halves are turns of the forms
 record IsBound (names : List (List ℕ)) (sets : Bindings) (bs : List Form) : Type 0 where
-  small : AreSmall bs
+  small : AreSmallForms bs
   few : length bs ≤ length names
   room : length names ≤ name_count_limit
   named : names_in sets ≡ names
@@ -149,7 +149,7 @@ step-none names sets bs name false None e f B = subst (λ (z : Bindings). IsBoun
 step-none names sets bs name false (Some s) e f B = cc
 
 step-some : (names : List (List ℕ)) (sets : Bindings) (bs cs : List Form) (name : List ℕ) (s : Set) (t : Bool) (o : Option Set) → t ≡ true → o ≡ Some s → IsBound names sets bs
-    → length names < name_count_limit → AreSmall cs → ((f : Form) → Lies bs f → Lies cs f) → length cs ≤ length names + 1 → AreTurnsOf cs s → IsBound (names ++ name_if t name) (and_bound sets name o) cs
+    → length names < name_count_limit → AreSmallForms cs → ((f : Form) → Lies bs f → Lies cs f) → length cs ≤ length names + 1 → AreTurnsOf cs s → IsBound (names ++ name_if t name) (and_bound sets name o) cs
 step-some names sets bs cs name s false o e f B room S M few T = cc
 step-some names sets bs cs name s true None e f B room S M few T = cc
 step-some names sets bs cs name s true (Some u) e f B room S M few T = record {
@@ -189,7 +189,7 @@ module _ (version : TextVersion) where
     }
 
     makes : (word name : List ℕ) (args : List (List ℕ)) (v : Verb) → verb_of word ≡ Some v → binds v ≡ true → (s : Set) → bound_set sets (Some v) (name ∷ args) ≡ Some s → IsSaid (IsText version) sets (Some v) (name ∷ args) []
-        → nat_le name_count_limit (length names) ≡ false → (cs : List Form) → AreSmall cs → ((f : Form) → Lies bs f → Lies cs f) → length cs ≤ length names + 1 → AreTurnsOf cs s → Says names sets (word ∷ name ∷ args)
+        → nat_le name_count_limit (length names) ≡ false → (cs : List Form) → AreSmallForms cs → ((f : Form) → Lies bs f → Lies cs f) → length cs ≤ length names + 1 → AreTurnsOf cs s → Says names sets (word ∷ name ∷ args)
     makes word name args v e b s n S room cs small more few T = record {
       said = [];
       is = subst (λ o. IsSaid (IsText version) sets o (name ∷ args) []) (sym e) S;
@@ -202,7 +202,7 @@ module _ (version : TextVersion) where
     same-forms : (f : Form) → Lies bs f → Lies bs f
     same-forms f l = l
 
-    two : (word name l r : List ℕ) (v : Verb) (make : Set → Set → Set) → verb_of word ≡ Some v → binds v ≡ true → bound_set sets (Some v) (name ∷ l ∷ r ∷ []) ≡ made_of make (set_named sets l) (set_named sets r)
+    two : (word name l r : List ℕ) (v : Verb) (make : Set → Set → Set) → verb_of word ≡ Some v → binds v ≡ true → bound_set sets (Some v) (name ∷ l ∷ r ∷ []) ≡ made_of_both make (set_named sets l) (set_named sets r)
         → ((s : Set) → bound_set sets (Some v) (name ∷ l ∷ r ∷ []) ≡ Some s → IsSaid (IsText version) sets (Some v) (name ∷ l ∷ r ∷ []) []) → nat_le name_count_limit (length names) ≡ false
         → (not (list_any (bytes_eq l) names) || (not (list_any (bytes_eq r) names) || false)) ≡ false → ((s t : Set) → AreTurnsOf bs s → AreTurnsOf bs t → AreTurnsOf bs (make s t)) → Says names sets (word ∷ name ∷ l ∷ r ∷ [])
     two word name l r v make e b is said room known T =
@@ -210,7 +210,7 @@ module _ (version : TextVersion) where
         let (q, k2) = or_parts (not (list_any (bytes_eq r) names)) false k in
         let (s, f, S) = found l p in
         let (t, g, U) = found r q in
-        let n : bound_set sets (Some v) (name ∷ l ∷ r ∷ []) ≡ Some (make s t) = is ∙ ap (λ o. made_of make o (set_named sets r)) f ∙ ap (made_of make (Some s)) g in
+        let n : bound_set sets (Some v) (name ∷ l ∷ r ∷ []) ≡ Some (make s t) = is ∙ ap (λ o. made_of_both make o (set_named sets r)) f ∙ ap (made_of_both make (Some s)) g in
         makes word name (l ∷ r ∷ []) v e b (make s t) n (said (make s t) n) room bs B.small same-forms (let c = B.few in omega (arith, c)) (T s t S U)
 
     one : (word name l : List ℕ) (v : Verb) (make : Set → Set) → verb_of word ≡ Some v → binds v ≡ true → bound_set sets (Some v) (name ∷ l ∷ []) ≡ option_map make (set_named sets l)
@@ -241,7 +241,7 @@ module _ (version : TextVersion) where
         let n = λ (k : ℕ). (components-are_counted s k).0 in
         (line (numbers (n 0 ∷ n 1 ∷ n 2 ∷ n 3 ∷ [])), (n, λ k. (components-are_counted s k).1, refl))
 
-    joined-of : (s : Set) (p q : Place) → (x : List ℕ) × IsJoinedAnswer s p q x
+    joined-of : (s : Set) (p q : SpacePoint) → (x : List ℕ) × IsJoinedAnswer s p q x
     joined-of s p q = by (InFrame-decided p) (InFrame-decided q)
       where
         by : Decided (InFrame p) → Decided (InFrame q) → (x : List ℕ) × IsJoinedAnswer s p q x
@@ -249,7 +249,7 @@ module _ (version : TextVersion) where
         by (inl P) (inr n) = (answer_of Out, IsJoinedAnswer.outside (λ i. n i.1) refl)
         by (inl P) (inl Q) = ⊎_elim (λ j. (codes "joined" ++ line_end, IsJoinedAnswer.joined P Q j refl)) (λ j. (codes "apart" ++ line_end, IsJoinedAnswer.apart P Q j refl)) (joined-is_decided s p q)
 
-    ray-of : (s : Set) (p : Place) (d : Vector) → AreTurnsOf bs s → IsDirection d → IsPlaceAtMost ray_point_limit ray_weight_limit p → IsAtMost ray_direction_limit d → (x : List ℕ) × IsRayAnswer s p d x
+    ray-of : (s : Set) (p : SpacePoint) (d : Vector) → AreTurnsOf bs s → IsDirection d → IsPointAtMost ray_point_limit ray_weight_limit p → IsAtMost ray_direction_limit d → (x : List ℕ) × IsRayAnswer s p d x
     ray-of s p d T some ps ds =
         let (hs, few, A) = carried-by bs B.small few-forms in
         ray-answer s p d some ps ds (λ f l. let (h, i, e) = A s T f l in (h, e))
@@ -292,7 +292,7 @@ module _ (version : TextVersion) where
         let (s, f, S) = found name p in
         let (q, k2) = or_parts (not (is_from 1 query_weight_limit (number_or_zero w))) false P.weight in
         let proper = (from-one query_weight_limit (number_or_zero w) q).0 in
-        let (l, h) = label_of s (place_at (number_or_zero x) (number_or_zero y) (number_or_zero z) (number_or_zero w) proper) in
+        let (l, h) = label_of s (point_at (number_or_zero x) (number_or_zero y) (number_or_zero z) (number_or_zero w) proper) in
         asks word name (x ∷ y ∷ z ∷ w ∷ []) verb.Has e refl refl (answer_of l) (s, f, (proper, (l, h, refl)))
 
     joined-says : (word name x y z w x2 y2 z2 w2 : List ℕ) → verb_of word ≡ Some verb.Joined → Passed names verb.Joined (name ∷ x ∷ y ∷ z ∷ w ∷ x2 ∷ y2 ∷ z2 ∷ w2 ∷ []) → Says names sets (word ∷ name ∷ x ∷ y ∷ z ∷ w ∷ x2 ∷ y2 ∷ z2 ∷ w2 ∷ [])
@@ -303,7 +303,7 @@ module _ (version : TextVersion) where
         let (q2, k3) = or_parts (not (is_from 1 query_weight_limit (number_or_zero w2))) false k2 in
         let proper = (from-one query_weight_limit (number_or_zero w) q).0 in
         let proper2 = (from-one query_weight_limit (number_or_zero w2) q2).0 in
-        let (a, A) = joined-of s (place_at (number_or_zero x) (number_or_zero y) (number_or_zero z) (number_or_zero w) proper) (place_at (number_or_zero x2) (number_or_zero y2) (number_or_zero z2) (number_or_zero w2) proper2) in
+        let (a, A) = joined-of s (point_at (number_or_zero x) (number_or_zero y) (number_or_zero z) (number_or_zero w) proper) (point_at (number_or_zero x2) (number_or_zero y2) (number_or_zero z2) (number_or_zero w2) proper2) in
         asks word name (x ∷ y ∷ z ∷ w ∷ x2 ∷ y2 ∷ z2 ∷ w2 ∷ []) verb.Joined e refl refl a (s, f, (proper, (proper2, A)))
 
     ray-says : (word name x y z w dx dy dz : List ℕ) → verb_of word ≡ Some verb.Ray → Passed names verb.Ray (name ∷ x ∷ y ∷ z ∷ w ∷ dx ∷ dy ∷ dz ∷ []) → Says names sets (word ∷ name ∷ x ∷ y ∷ z ∷ w ∷ dx ∷ dy ∷ dz ∷ [])
@@ -318,7 +318,7 @@ module _ (version : TextVersion) where
         let r4 = or_parts (nat_lt ray_direction_limit (nat_abs (number_or_zero dx))) _ r3.1 in
         let r5 = or_parts (nat_lt ray_direction_limit (nat_abs (number_or_zero dy))) _ r4.1 in
         let r6 = or_parts (nat_lt ray_direction_limit (nat_abs (number_or_zero dz))) _ r5.1 in
-        let (a, A) = ray-of s (place_at (number_or_zero x) (number_or_zero y) (number_or_zero z) (number_or_zero w) proper) (vector (number_or_zero dx) (number_or_zero dy) (number_or_zero dz)) S
+        let (a, A) = ray-of s (point_at (number_or_zero x) (number_or_zero y) (number_or_zero z) (number_or_zero w) proper) (vector (number_or_zero dx) (number_or_zero dy) (number_or_zero dz)) S
         (some-way (number_or_zero dx) (number_or_zero dy) (number_or_zero dz) P.direction)
         (record { numbers = record { of_x = word-in ray_point_limit x r1.0; of_y = word-in ray_point_limit y r2.0; of_z = word-in ray_point_limit z r3.0 }; weight = heavy })
         (record { of_x = word-in ray_direction_limit dx r4.0; of_y = word-in ray_direction_limit dy r5.0; of_z = word-in ray_direction_limit dz r6.0 }) in

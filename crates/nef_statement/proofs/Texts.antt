@@ -1,5 +1,5 @@
 -- A set has one text, and the text tells it.
-use Rattle.nef_statement.proofs.Prelude.{◌≡◌, ◌↔◌, ℕ, refl, ap, sym, ◌∙◌, subst, List, [], ◌∷◌, ◌++◌, length, map, append_assoc, SameSet, Place, InFrame, Set, Holds, Belongs, Vertex, Shows, facet-of, complex_of, vertex_of, edge_of, TextVersion, set-vertices, IsParts, version_word, first_line, vertices_text, edge_line, facet_text, line, numbers, volumes_text, text, Spells, codes, flat_map, Parts, Complex, Edge as ComplexEdge, One, Two, upright-by_maps, rows_of, vertices_told, with_edges, AreEdges, TextSays, count_line, IsWrittenOf, IsText, CountTells}
+use Rattle.nef_statement.proofs.Prelude.{◌≡◌, ◌↔◌, ℕ, refl, ap, sym, ◌∙◌, subst, List, [], ◌∷◌, ◌++◌, length, map, append_assoc, SameSet, SpacePoint, InFrame, Set, Holds, Belongs, Vertex, Shows, facet-of, complex_of, vertex_of, edge_of, TextVersion, set-vertices, IsParts, version_word, first_line, vertices_text, edge_line, facet_text, line, numbers, volumes_text, text, Spells, codes, flat_map, Parts, Complex, Edge as ComplexEdge, One, Two, upright-by_maps, line_rows, vertices_told, with_edges, AreAllEdges, TextSays, count_line, IsWrittenOf, IsText, CountTells}
 use Rattle.law_complex.proofs.FacetNames.{facet-at}
 use Rattle.law_complex.proofs.Skeletons.{belongs-holds}
 use Rattle.law_text.proofs.SameText.{same-parts, same-set_text, text-set, spelled-holds}
@@ -29,7 +29,7 @@ pub text-spells : (version : TextVersion) (s : Set) (x : List ℕ) → IsWritten
 text-spells version s x (c, p, S, P, e) = (c, (S.edges, (p, P, e)))
 
 -- and a point of the frame belongs to each complex that it spells exactly where the set holds
-pub text-holds : (version : TextVersion) (s : Set) (x : List ℕ) (d : Complex) (y : Place) → IsWrittenOf s (text version) x → Spells version x d → InFrame y → Belongs (complex_of d) y ↔ Holds s y
+pub text-holds : (version : TextVersion) (s : Set) (x : List ℕ) (d : Complex) (y : SpacePoint) → IsWrittenOf s (text version) x → Spells version x d → InFrame y → Belongs (complex_of d) y ↔ Holds s y
 text-holds version s x d y (c, p, S, P, e) spells inside = spelled-holds (λ s C p S inside. belongs-holds s C S (facet-at s C S) (facet-of s C S) p inside) version s c d p x y S e spells inside
 
 -- the counted numbers are those of components
@@ -41,7 +41,7 @@ text-same One c p = refl
 text-same Two c p = refl
 
 -- to the vertices and edges of a complex that shows the set a point of the frame belongs exactly where the set holds, whatever the carriers
-shown-holds : (version : TextVersion) (t : Set) (c : Complex) (p : Parts) (y : Place) → Shows t (complex_of c) → IsParts (complex_of c) p → InFrame y → Belongs (with_edges (map vertex_of c.vertices) (map edge_of c.edges)) y ↔ Holds t y
+shown-holds : (version : TextVersion) (t : Set) (c : Complex) (p : Parts) (y : SpacePoint) → Shows t (complex_of c) → IsParts (complex_of c) p → InFrame y → Belongs (with_edges (map vertex_of c.vertices) (map edge_of c.edges)) y ↔ Holds t y
 shown-holds version t c p y S P inside =
     let d : Complex = record { carriers = []; vertices = c.vertices; edges = c.edges; has_item = c.has_item; index = c.index } in
     spelled-holds (λ s C p S inside. belongs-holds s C S (facet-at s C S) (facet-of s C S) p inside) version t c d p (text version c p) y S refl
@@ -65,7 +65,7 @@ pub text-says : (version : TextVersion) (s : Set) (x : List ℕ) → IsText vers
 text-says version s x (t, same, (c, p, S, P, e)) =
     record {
       first = (count_line c p, after-first version c p, count-same s t (count_line c p) same (count-tells t (count_line c p) (c, p, S, P, refl)), e ∙ text-begins version c p);
-      weights = subst (λ z. HasWeights (rows_of z)) (sym e) (weights-told version c p);
+      weights = subst (λ z. HasWeights (line_rows z)) (sym e) (weights-told version c p);
       edges = (map edge_of c.edges, edges);
       holds = λ es y E inside.
           let w = belongs-edged (vertices_told x) es (map edge_of c.edges) y E edges in
@@ -77,8 +77,8 @@ text-says version s x (t, same, (c, p, S, P, e)) =
     vertices : vertices_told x ≡ map vertex_of c.vertices
     vertices = ap vertices_told e ∙ vertices-told version c p
 
-    edges : AreEdges (vertices_told x) (map edge_of c.edges)
-    edges = subst (λ (vs : List Vertex). AreEdges vs (map edge_of c.edges)) (sym vertices) (sorted-edges (map vertex_of c.vertices) (map edge_of c.edges) S.edges)
+    edges : AreAllEdges (vertices_told x) (map edge_of c.edges)
+    edges = subst (λ (vs : List Vertex). AreAllEdges vs (map edge_of c.edges)) (sym vertices) (sorted-edges (map vertex_of c.vertices) (map edge_of c.edges) S.edges)
 
 pub one-text : (version : TextVersion) (s t : Set) (x y : List ℕ) → IsText version s x → IsText version t y → (x ≡ y) ↔ SameSet s t
 one-text version s t x y (a, f, h) (b, g, k) =

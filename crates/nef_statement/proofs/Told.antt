@@ -1,10 +1,10 @@
 -- A reader of a text is told the vertices of the complex.
-use Rattle.nef_statement.proofs.Prelude.{◌≡◌, ℕ, zero, suc, ◌-◌, ◌^◌, ◌<◌, ◌≤◌, nat_abs, ℤ, pos, ◌<ℤ◌, true, false, List, [], ◌∷◌, ◌++◌, map, Option, Some, None, slice_get, refl, sym, ap, ◌∙◌, subst, arith, append-nil, append_assoc, if◌then◌else◌, codes, props, bytes_eq, flat_map, decimal, signed_decimal, direction_limit, point_limit, weight_limit, Place, Vector, vector, Label, Out, Not, In, place_of, vector_of, Dir, Point, MapVertex, Arc, MapSloop, Vertex as PlainVertex, svertex_of, arc_of, sloop_of, SVertex, SArc, SLoop, Edge, Complex, vertex_of, TextVersion, One, Two, Cycle, Facet, Parts, Shell, Word, line, label_word, option_word, numbers, svertex_line, arc_line, sloop_line, vertex_line, vertex_text, edge_line, corner_words, cycle_line, facet_line, facet_text, volume_line, sface_line, side_words, shell_line, faced_text, shelled_text, with_rows, counts, version_word, first_line, vertices_text, volumes_text, text, number_or_zero, rows_of, word_at, number_at, Told, with_row, told_by, vertices_told, positive}
+use Rattle.nef_statement.proofs.Prelude.{◌≡◌, ℕ, zero, suc, ◌-◌, ◌^◌, ◌<◌, ◌≤◌, nat_abs, ℤ, pos, ◌<ℤ◌, true, false, List, [], ◌∷◌, ◌++◌, map, Option, Some, None, slice_get, refl, sym, ap, ◌∙◌, subst, arith, append-nil, append_assoc, if◌then◌else◌, codes, props, bytes_eq, flat_map, decimal, signed_decimal, direction_limit, point_limit, weight_limit, SpacePoint, Vector, vector, Label, Out, Not, In, point_of, vector_of, Dir, Point, MapVertex, Arc, MapSloop, Vertex as PlainVertex, svertex_of, arc_of, sloop_of, SVertex, SArc, SLoop, Edge, Complex, vertex_of, TextVersion, One, Two, Cycle, Facet, Parts, Shell, Word, line, label_word, option_word, numbers, svertex_line, arc_line, sloop_line, vertex_line, vertex_text, edge_line, corner_words, cycle_line, facet_line, facet_text, volume_line, sface_line, side_words, shell_line, faced_text, shelled_text, with_rows, counts, version_word, first_line, vertices_text, volumes_text, text, number_or_zero, line_rows, word_at, number_at, Told, with_row, told_by, vertices_told, positive}
 use Rattle.std.proofs.Common.{option_to_list, option_map}
 use Rattle.nef_complex.specs.declared.complex.Vertex.{Vertex}
 use Rattle.nef_complex.specs.declared.complex.Corner.{Corner}
 use Rattle.nef_complex.specs.declared.parts.Side.{Side}
-use Rattle.nef_complex.specs.Text.{signed}
+use Rattle.nef_complex.specs.Text.{signed_numbers}
 use Rattle.law_text.proofs.Vertices.{with-rows_firsts}
 use Rattle.nef_statement.proofs.Lines.{Row, Each, Each-append, IsGood, AreGood, rows-read, signed-read, decimal-read, decimal-good, signed-good}
 
@@ -114,13 +114,13 @@ dir-read d =
     ∙ ap (λ n. vector d.x n (number_or_zero (signed_decimal d.z))) (direction-read d.y d.y_small)
     ∙ ap (λ n. vector d.x d.y n) (direction-read d.z d.z_small)
 
-dir-good : (d : Dir) → AreGood (signed (d.x ∷ d.y ∷ d.z ∷ []))
+dir-good : (d : Dir) → AreGood (signed_numbers (d.x ∷ d.y ∷ d.z ∷ []))
 dir-good d = (signed-good d.x, (signed-good d.y, (signed-good d.z, tt)))
 
 positive-prop : (n : ℕ) → IsProp (0 < n)
 positive-prop n = hlevel props
 
-abbrev place : (x y z : ℤ) (w : ℕ) → 0 < w → Place
+abbrev place : (x y z : ℤ) (w : ℕ) → 0 < w → SpacePoint
 place x y z w proper = record { x = x; y = y; z = z; w = w; proper = proper }
 
 -- places with the same numbers are equal
@@ -129,19 +129,19 @@ place-one x y z v w a b e =
     subst (λ (u : ℕ). (c : 0 < u) → place x y z v a ≡ place x y z u c) e (λ c. ap (place x y z v) (positive-prop v a c)) b
 
 point-place : (p : Point) → (a : 0 < suc (nat_abs (number_or_zero (signed_decimal p.w)) - 1))
-    → place (number_or_zero (signed_decimal p.x)) (number_or_zero (signed_decimal p.y)) (number_or_zero (signed_decimal p.z)) (suc (nat_abs (number_or_zero (signed_decimal p.w)) - 1)) a ≡ place_of p
+    → place (number_or_zero (signed_decimal p.x)) (number_or_zero (signed_decimal p.y)) (number_or_zero (signed_decimal p.z)) (suc (nat_abs (number_or_zero (signed_decimal p.w)) - 1)) a ≡ point_of p
 point-place p a =
     let e = weight-read p.w p.w_small in
-    let l = (place_of p).proper in
+    let l = (point_of p).proper in
     let f : nat_abs (number_or_zero (signed_decimal p.w)) ≡ nat_abs p.w = ap nat_abs e in
     ap (λ n. place n (number_or_zero (signed_decimal p.y)) (number_or_zero (signed_decimal p.z)) _ a) (point-read p.x p.x_small)
     ∙ ap (λ n. place p.x n (number_or_zero (signed_decimal p.z)) _ a) (point-read p.y p.y_small)
     ∙ ap (λ n. place p.x p.y n _ a) (point-read p.z p.z_small)
-    ∙ place-one p.x p.y p.z _ (nat_abs p.w) a (place_of p).proper (omega (arith, f, l))
+    ∙ place-one p.x p.y p.z _ (nat_abs p.w) a (point_of p).proper (omega (arith, f, l))
 
 -- ---- svertices
 abbrev svertex_words : SVertex → Row
-svertex_words v = codes "s" ∷ [] ++ signed (v.dir.x ∷ v.dir.y ∷ v.dir.z ∷ []) ++ label_word v.mark ∷ option_word v.around ∷ []
+svertex_words v = codes "s" ∷ [] ++ signed_numbers (v.dir.x ∷ v.dir.y ∷ v.dir.z ∷ []) ++ label_word v.mark ∷ option_word v.around ∷ []
 
 abbrev more_svertices : List SVertex → Told → Told
 more_svertices vs t = told (map svertex_of vs ++ t.svertices) t.arcs t.sloop t.vertices
@@ -162,7 +162,7 @@ svertices-tell (v ∷ vs) = tells-both (svertex_line v) (flat_map svertex_line v
 
 -- ---- arcs
 abbrev arc_words : SArc → Row
-arc_words a = codes "a" ∷ [] ++ numbers (a.source ∷ a.target ∷ []) ++ signed (a.normal.x ∷ a.normal.y ∷ a.normal.z ∷ []) ++ label_word a.mark ∷ label_word a.pos ∷ label_word a.neg ∷ []
+arc_words a = codes "a" ∷ [] ++ numbers (a.source ∷ a.target ∷ []) ++ signed_numbers (a.normal.x ∷ a.normal.y ∷ a.normal.z ∷ []) ++ label_word a.mark ∷ label_word a.pos ∷ label_word a.neg ∷ []
 
 abbrev more_arcs : List SArc → Told → Told
 more_arcs as' t = told t.svertices (map arc_of as' ++ t.arcs) t.sloop t.vertices
@@ -188,7 +188,7 @@ arcs-tell (a ∷ as') = tells-both (arc_line a) (flat_map arc_line as') (more_ar
 
 -- ---- sloops
 abbrev sloop_words : SLoop → Row
-sloop_words l = codes "l" ∷ [] ++ signed (l.normal.x ∷ l.normal.y ∷ l.normal.z ∷ []) ++ label_word l.mark ∷ label_word l.pos ∷ label_word l.neg ∷ []
+sloop_words l = codes "l" ∷ [] ++ signed_numbers (l.normal.x ∷ l.normal.y ∷ l.normal.z ∷ []) ++ label_word l.mark ∷ label_word l.pos ∷ label_word l.neg ∷ []
 
 abbrev with_sloop : Option SLoop → Told → Told
 with_sloop None t = t
@@ -213,10 +213,10 @@ sloops-tell (Some l) = tells-both (sloop_line l) [] (with_sloop (Some l)) (λ t.
 
 -- ---- vertices
 abbrev vertex_words : Vertex → Row
-vertex_words v = codes "v" ∷ [] ++ signed (v.point.x ∷ v.point.y ∷ v.point.z ∷ v.point.w ∷ []) ++ label_word v.map.mark ∷ option_word v.map.ground ∷ []
+vertex_words v = codes "v" ∷ [] ++ signed_numbers (v.point.x ∷ v.point.y ∷ v.point.z ∷ v.point.w ∷ []) ++ label_word v.map.mark ∷ option_word v.map.ground ∷ []
 
 abbrev with_vertex : Vertex → Told → Told
-with_vertex v t = let ground : Option Label = v.map.ground in told [] [] None (record { point = place_of v.point; map = record { mark = v.map.mark; svertices = t.svertices; arcs = t.arcs; sloop = t.sloop; ground = ground } } ∷ t.vertices)
+with_vertex v t = let ground : Option Label = v.map.ground in told [] [] None (record { point = point_of v.point; map = record { mark = v.map.mark; svertices = t.svertices; arcs = t.arcs; sloop = t.sloop; ground = ground } } ∷ t.vertices)
 
 vertex-good : (v : Vertex) → AreGood (vertex_words v)
 vertex-good v =
@@ -225,10 +225,10 @@ vertex-good v =
 
 line-tells : (v : Vertex) → Tells (vertex_line v) (with_vertex v)
 line-tells v = vertex-row (vertex_words v) (with_vertex v) (vertex-good v) (λ first. subst (λ z. pos 0 <ℤ z) (sym (weight-read v.point.w v.point.w_small)) v.point.proper) (λ t.
-    let make = λ (p : Place) (m : Label) (o : Option Label). told [] [] None (record { point = p; map = record { mark = m; svertices = t.svertices; arcs = t.arcs; sloop = t.sloop; ground = o } } ∷ t.vertices) in
+    let make = λ (p : SpacePoint) (m : Label) (o : Option Label). told [] [] None (record { point = p; map = record { mark = m; svertices = t.svertices; arcs = t.arcs; sloop = t.sloop; ground = o } } ∷ t.vertices) in
     ap (λ p. make p (read_label (label_word v.map.mark)) (read_option (option_word v.map.ground))) (point-place v.point (positive _))
-    ∙ ap (λ m. make (place_of v.point) m (read_option (option_word v.map.ground))) (label-read v.map.mark)
-    ∙ ap (λ o. make (place_of v.point) v.map.mark o) (option-read v.map.ground))
+    ∙ ap (λ m. make (point_of v.point) m (read_option (option_word v.map.ground))) (label-read v.map.mark)
+    ∙ ap (λ o. make (point_of v.point) v.map.mark o) (option-read v.map.ground))
 
 -- what a vertex's rows tell, before rows that begin no vertex's own
 abbrev add_vertex : Vertex → Told → Told
@@ -257,7 +257,7 @@ sloop-only (Some l) vs = refl
 added : (v : Vertex) (vs : List PlainVertex) → add_vertex v (only vs) ≡ only (vertex_of v ∷ vs)
 added v vs =
     let m = v.map in
-    let make = λ (ss : List MapVertex) (rs : List Arc). (let ground : Option Label = m.ground in only (record { point = place_of v.point; map = record { mark = m.mark; svertices = ss; arcs = rs; sloop = option_map sloop_of m.sloop; ground = ground } } ∷ vs)) in
+    let make = λ (ss : List MapVertex) (rs : List Arc). (let ground : Option Label = m.ground in only (record { point = point_of v.point; map = record { mark = m.mark; svertices = ss; arcs = rs; sloop = option_map sloop_of m.sloop; ground = ground } } ∷ vs)) in
     ap (λ t. with_vertex v (more_svertices m.svertices (more_arcs m.arcs t))) (sloop-only m.sloop vs)
     ∙ ap (λ ss. make ss (map arc_of m.arcs ++ [])) (append-nil (map svertex_of m.svertices))
     ∙ ap (λ rs. make (map svertex_of m.svertices) rs) (append-nil (map arc_of m.arcs))
@@ -295,7 +295,7 @@ facet-tells f =
     let h = f.plane in
     let last : AreGood (label_word f.mark ∷ decimal f.pos ∷ decimal f.neg ∷ []) = (label-good f.mark, (decimal-good f.pos, (decimal-good f.neg, tt))) in
     tells-both (facet_line f) (flat_map cycle_line f.cycles) (λ t. t) (λ t. t)
-    (one-row (codes "f" ∷ [] ++ signed (h.a ∷ h.b ∷ h.c ∷ h.d ∷ []) ++ label_word f.mark ∷ [] ++ numbers (f.pos ∷ f.neg ∷ [])) refl (λ t. t)
+    (one-row (codes "f" ∷ [] ++ signed_numbers (h.a ∷ h.b ∷ h.c ∷ h.d ∷ []) ++ label_word f.mark ∷ [] ++ numbers (f.pos ∷ f.neg ∷ [])) refl (λ t. t)
     ((omega arith, (omega arith, tt)), (signed-good h.a, (signed-good h.b, (signed-good h.c, (signed-good h.d, last))))) (λ t. refl))
     (silent cycle_line cycle-tells f.cycles)
 
@@ -353,7 +353,7 @@ pub vertices-told : (version : TextVersion) (c : Complex) (p : Parts) → vertic
 vertices-told version c p =
     let h = text-tells version c p in
     ap (λ (t : Told). t.vertices)
-    (ap (λ x. told_by (rows_of x)) h.is ∙ ap told_by (rows-read h.rows h.good) ∙ sym (onto-all h.rows) ∙ h.tells (only []) ∙ all-added c.vertices)
+    (ap (λ x. told_by (line_rows x)) h.is ∙ ap told_by (rows-read h.rows h.good) ∙ sym (onto-all h.rows) ∙ h.tells (only []) ∙ all-added c.vertices)
 
 -- and each row that tells a vertex has a positive w
 abbrev pub HasWeights : List Row → Type 0
@@ -364,7 +364,7 @@ each-weighed [] h n row at first = let f : None ≡ Some row = at in cc
 each-weighed (r ∷ rows) h zero row at first = let f : r ≡ row = (let e : Some r ≡ Some row = at in cc) in subst IsWeighed f h.0 first
 each-weighed (r ∷ rows) h (suc n) row at first = each-weighed rows h.1 n row at first
 
-pub weights-told : (version : TextVersion) (c : Complex) (p : Parts) → HasWeights (rows_of (text version c p))
+pub weights-told : (version : TextVersion) (c : Complex) (p : Parts) → HasWeights (line_rows (text version c p))
 weights-told version c p =
     let h = text-tells version c p in
-    subst HasWeights (sym (ap rows_of h.is ∙ rows-read h.rows h.good)) (each-weighed h.rows h.weighed)
+    subst HasWeights (sym (ap line_rows h.is ∙ rows-read h.rows h.good)) (each-weighed h.rows h.weighed)

@@ -1,5 +1,5 @@
 -- The lines of a script, one after the other, with the names that they bind.
-use Rattle.nef_statement.proofs.Prelude.{◌≡◌, ℕ, ◌+◌, Bool, true, false, cond, List, [], ◌∷◌, ◌++◌, length, take, Some, slice_get, if◌then◌else◌, refl, sym, ap, ◌∙◌, subst, arith, append-nil, append_assoc, length-append, nat_eq, not, filter, take-append_seam, ne_eqb, filter-append, slice_get_within, words_of, IsOrdered, slice_get-seam, names_of, bound_name, Names, Sets, MeansWords, MeansLines, has_words, bases_of, names_of-push, Command, Bindings, bound_after, denoted, NodesDenote}
+use Rattle.nef_statement.proofs.Prelude.{◌≡◌, ℕ, ◌+◌, Bool, true, false, cond, List, [], ◌∷◌, ◌++◌, length, take, Some, slice_get, if◌then◌else◌, refl, sym, ap, ◌∙◌, subst, arith, append-nil, append_assoc, length-append, nat_eq, not, filter, take-append_seam, ne_eqb, filter-append, slice_get_within, words_of, IsOrdered, slice_get-seam, names_of, bound_name, NamesNode, Sets, MeansWords, MeansLines, has_words, bases_of, names_of-push, Command, Bindings, bound_after, denoted, NodesDenote}
 use Rattle.nef_statement.proofs.Bound.{names_in, Agree, named, words-follow}
 
 pub no-words : (words : List (List ℕ)) → not (nat_eq (length words) 0) ≡ false → words ≡ []
@@ -107,4 +107,4 @@ module _ (lines : List (List ℕ)) (ss : Sets) (commands : List Command) (means 
 pub nodes-denote : NodesDenote
 nodes-denote lines ss commands means ordered name k is =
     let (agree, names) = walk-denoted lines ss commands means ordered lines [] [] [] commands (begun lines ss commands) in
-    named ss.nodes name (denoted [] lines) ss.bound k agree (subst (λ n. Names n ss.bound name k) (sym names) is)
+    named ss.nodes name (denoted [] lines) ss.bound k agree (subst (λ n. NamesNode n ss.bound name k) (sym names) is)

@@ -42,19 +42,19 @@ turned_set k (Set.border a) = Set.border (turned_set k a)
 turned_set k (Set.regular a) = Set.regular (turned_set k a)
 
 -- the set that is made of two sets, if both are there
-abbrev pub made_of : (Set → Set → Set) → Option Set → Option Set → Option Set
-made_of make (Some s) (Some t) = Some (make s t)
-made_of make s t = None
+abbrev pub made_of_both : (Set → Set → Set) → Option Set → Option Set → Option Set
+made_of_both make (Some s) (Some t) = Some (make s t)
+made_of_both make s t = None
 
 -- the set to which a command binds its name: none for a wrong number of words or an unbound operand
 abbrev pub bound_set : Bindings → Option Verb → List (List ℕ) → Option Set
 bound_set sets (Some verb.Half) (name ∷ a ∷ b ∷ c ∷ d ∷ mode ∷ []) = Some (Set.half (form (number_or_zero a) (number_or_zero b) (number_or_zero c) (number_or_zero d)) (bytes_eq mode (codes "closed")))
 bound_set sets (Some verb.Empty) (name ∷ []) = Some Set.empty
 bound_set sets (Some verb.Full) (name ∷ []) = Some Set.full
-bound_set sets (Some verb.And) (name ∷ left ∷ right ∷ []) = made_of Set.both (set_named sets left) (set_named sets right)
-bound_set sets (Some verb.Or) (name ∷ left ∷ right ∷ []) = made_of Set.either (set_named sets left) (set_named sets right)
-bound_set sets (Some verb.Diff) (name ∷ left ∷ right ∷ []) = made_of Set.less (set_named sets left) (set_named sets right)
-bound_set sets (Some verb.Xor) (name ∷ left ∷ right ∷ []) = made_of Set.one_of (set_named sets left) (set_named sets right)
+bound_set sets (Some verb.And) (name ∷ left ∷ right ∷ []) = made_of_both Set.both (set_named sets left) (set_named sets right)
+bound_set sets (Some verb.Or) (name ∷ left ∷ right ∷ []) = made_of_both Set.either (set_named sets left) (set_named sets right)
+bound_set sets (Some verb.Diff) (name ∷ left ∷ right ∷ []) = made_of_both Set.less (set_named sets left) (set_named sets right)
+bound_set sets (Some verb.Xor) (name ∷ left ∷ right ∷ []) = made_of_both Set.one_of (set_named sets left) (set_named sets right)
 bound_set sets (Some verb.Not) (name ∷ operand ∷ []) = option_map Set.other (set_named sets operand)
 bound_set sets (Some verb.Int) (name ∷ operand ∷ []) = option_map Set.inside (set_named sets operand)
 bound_set sets (Some verb.Cl) (name ∷ operand ∷ []) = option_map Set.closed (set_named sets operand)

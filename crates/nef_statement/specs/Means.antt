@@ -18,8 +18,8 @@ abbrev pub ReadSource : List (List ℕ) → Type 0
 ReadSource words = option_map (λ options. options.stairs) (options_in words) ≡ Some None
 
 -- the bytes that were read: all that the source still had, or one byte more than a script may have
-abbrev pub IsRead : Option (List ℕ) → Option (List ℕ) → List ℕ → Type 0
-IsRead old new bytes = Consumes old new bytes × (IsAtEnd new ⊎ (length bytes ≡ script_limit + 1))
+abbrev pub AreBytesRead : Option (List ℕ) → Option (List ℕ) → List ℕ → Type 0
+AreBytesRead old new bytes = Consumes old new bytes × (IsAtEnd new ⊎ (length bytes ≡ script_limit + 1))
 
 -- the status and the output that words and bytes mean: for refused words, a refused script, an accepted script, and the
 -- generated script, which is never refused

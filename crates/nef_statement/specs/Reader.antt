@@ -2,9 +2,9 @@
 use Rattle.std.specs.Prelude.{◌≡◌, ◌+◌, ◌-◌, ◌<◌, ◌<ℤ◌, ◌∷◌, ◌++◌, if◌then◌else◌, ◌↔◌, ℕ, suc, ℤ, pos, nat_abs, List, [], Option, Some, None, codes, get_or, slice_get, map}
 use Rattle.nef_script.specs.Prelude.{bytes_eq, lines_of, words_of, number_or_zero}
 use Rattle.std.proofs.Common.{arith}
-use Rattle.nef_space.specs.Prelude.{Place, InFrame, Set, Holds, Vector, vector}
+use Rattle.nef_space.specs.Prelude.{SpacePoint, InFrame, Set, Holds, Vector, vector, IsAt}
 use Rattle.nef_complex.specs.Prelude.{Label, Out, Not, In}
-use Rattle.law_sphere.specs.Maps.{At, MapVertex, Arc, MapSloop}
+use Rattle.law_sphere.specs.Maps.{MapVertex, Arc, MapSloop}
 use Rattle.law_complex.specs.Belongs.{Belongs}
 use Rattle.law_complex.specs.Complexes.{Vertex, Edge, Complex, IsEdge}
 use Rattle.nef_core.specs.declared.work.TextVersion.{TextVersion}
@@ -12,8 +12,8 @@ use Rattle.nef_complex.specs.Text.{version_word}
 use Rattle.nef_statement.specs.Written.{CountTells}
 
 -- the words of each line, as in a script
-abbrev pub rows_of : List ℕ → List (List (List ℕ))
-rows_of x = map words_of (lines_of x)
+abbrev pub line_rows : List ℕ → List (List (List ℕ))
+line_rows x = map words_of (lines_of x)
 
 -- word n of a row, counted from 0: as it stands, as a number, a count, a label, or a label that may be missing
 abbrev pub word_at : List (List ℕ) → ℕ → List ℕ
@@ -38,8 +38,8 @@ vector_at row n = vector (number_at row n) (number_at row (n + 1)) (number_at ro
 pub positive : (n : ℕ) → 0 < suc n
 positive n = omega arith
 
-abbrev pub place_in : List (List ℕ) → ℕ → Place
-place_in row n = record { x = number_at row n; y = number_at row (n + 1); z = number_at row (n + 2); w = suc (count_at row (n + 3) - 1); proper = positive (count_at row (n + 3) - 1) }
+abbrev pub point_in : List (List ℕ) → ℕ → SpacePoint
+point_in row n = record { x = number_at row n; y = number_at row (n + 1); z = number_at row (n + 2); w = suc (count_at row (n + 3) - 1); proper = positive (count_at row (n + 3) - 1) }
 
 -- what rows tell: vertices, and the svertices, arcs and sloop of a vertex whose row comes before them
 pub record Told : Type 0 where
@@ -50,7 +50,7 @@ pub record Told : Type 0 where
 
 -- the vertex of a row, with what the rows after it tell of its map
 abbrev pub vertex_told : List (List ℕ) → Told → Vertex
-vertex_told row t = let ground : Option Label = option_at row 6 in record { point = place_in row 1; map = record { mark = label_at row 5; svertices = t.svertices; arcs = t.arcs; sloop = t.sloop; ground = ground } }
+vertex_told row t = let ground : Option Label = option_at row 6 in record { point = point_in row 1; map = record { mark = label_at row 5; svertices = t.svertices; arcs = t.arcs; sloop = t.sloop; ground = ground } }
 
 -- what rows tell with one more row in front: by its first word a vertex, a svertex, an arc or a sloop, or nothing
 abbrev pub with_row : List (List ℕ) → Told → Told
@@ -64,19 +64,19 @@ told_by [] = record { svertices = []; arcs = []; sloop = None; vertices = [] }
 told_by (row ∷ rows) = with_row row (told_by rows)
 
 abbrev pub vertices_told : List ℕ → List Vertex
-vertices_told x = (told_by (rows_of x)).vertices
+vertices_told x = (told_by (line_rows x)).vertices
 
 abbrev pub with_edges : List Vertex → List Edge → Complex
 with_edges vertices edges = record { carriers = []; vertices = vertices; edges = edges }
 
 -- es has exactly the edges of the vertices
-abbrev pub AreEdges : List Vertex → List Edge → Type 0
-AreEdges vertices es = (e : Edge) → IsEdge vertices e ↔ ((k : ℕ) × At es k e)
+abbrev pub AreAllEdges : List Vertex → List Edge → Type 0
+AreAllEdges vertices es = (e : Edge) → IsEdge vertices e ↔ ((k : ℕ) × IsAt es k e)
 
 -- the text begins with its format, its version and the counted numbers of the set; its vertices have positive w, and a
 -- point of the frame belongs to them with their edges exactly where the set holds
 pub record TextSays (version : TextVersion) (s : Set) (x : List ℕ) : Type 0 where
   pub first : (counted : List ℕ) × (rest : List ℕ) × CountTells s counted × (x ≡ codes "nef3 " ++ version_word version ++ codes " " ++ counted ++ rest)
-  pub weights : (n : ℕ) (row : List (List ℕ)) → slice_get (rows_of x) n ≡ Some row → word_at row 0 ≡ codes "v" → pos 0 <ℤ number_at row 4
-  pub edges : (es : List Edge) × AreEdges (vertices_told x) es
-  pub holds : (es : List Edge) (p : Place) → AreEdges (vertices_told x) es → InFrame p → Belongs (with_edges (vertices_told x) es) p ↔ Holds s p
+  pub weights : (n : ℕ) (row : List (List ℕ)) → slice_get (line_rows x) n ≡ Some row → word_at row 0 ≡ codes "v" → pos 0 <ℤ number_at row 4
+  pub edges : (es : List Edge) × AreAllEdges (vertices_told x) es
+  pub holds : (es : List Edge) (p : SpacePoint) → AreAllEdges (vertices_told x) es → InFrame p → Belongs (with_edges (vertices_told x) es) p ↔ Holds s p

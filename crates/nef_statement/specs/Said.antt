@@ -1,7 +1,7 @@
 -- What the lines of a script say. Text s x stands for: x is the text of the set s.
 use Rattle.std.specs.Prelude.{◌≡◌, ◌<ℤ◌, ◌∷◌, ◌++◌}
-use Rattle.nef_geo.specs.Prelude.{ℕ, pos, List, [], Option, Some, HasLabel, Place, Set, vector, Label}
-use Rattle.nef_geo.specs.Shapes.{place_at}
+use Rattle.nef_geo.specs.Prelude.{ℕ, pos, List, [], Option, Some, HasLabel, SpacePoint, Set, vector, Label}
+use Rattle.nef_geo.specs.Shapes.{point_at}
 use Rattle.nef_script.specs.Prelude.{words_of, verb_of, number_or_zero}
 use Rattle.nef_script.specs.declared.arguments.Verb.{Verb}
 use Rattle.nef_script.specs.declared.arguments.Verb.TheVariants as verb
@@ -10,8 +10,8 @@ use Rattle.nef_statement.specs.Written.{CountTells}
 use Rattle.nef_statement.specs.Denotes.{Bindings, set_named, bound_set, bound_after}
 
 -- P holds of the point (x/w, y/w, z/w), whose w is positive
-abbrev pub AtPoint : List ℕ → List ℕ → List ℕ → List ℕ → (Place → Type 0) → Type 0
-AtPoint x y z w P = (proper : pos 0 <ℤ number_or_zero w) × P (place_at (number_or_zero x) (number_or_zero y) (number_or_zero z) (number_or_zero w) proper)
+abbrev pub AtPoint : List ℕ → List ℕ → List ℕ → List ℕ → (SpacePoint → Type 0) → Type 0
+AtPoint x y z w P = (proper : pos 0 <ℤ number_or_zero w) × P (point_at (number_or_zero x) (number_or_zero y) (number_or_zero z) (number_or_zero w) proper)
 
 -- P holds of the set of the name, which is bound
 abbrev pub OfName : Bindings → List ℕ → (Set → Type 0) → Type 0

@@ -11,7 +11,7 @@ use Rattle.nef_script.specs.Prelude.{lines_of, IsAccepted}
 use Rattle.nef_words.specs.Grammar.{options_in}
 use Rattle.nef_statement.specs.declared.status.Status.{Status}
 use Rattle.nef_statement.specs.declared.status.Status.TheVariants.{ReadFault, WriteFault, OutOfMemory}
-use Rattle.nef_statement.specs.Means.{ReadSource, IsRead, Means}
+use Rattle.nef_statement.specs.Means.{ReadSource, AreBytesRead, Means}
 use Rattle.nef_statement.specs.Reader.{TextSays}
 use Rattle.nef_statement.specs.Said.{AreSaid}
 use Rattle.nef_statement.specs.Status.{status_code}
@@ -19,7 +19,7 @@ use Rattle.nef_statement.specs.Traffic.{Traffic}
 
 -- by its words and the bytes that were read of its source a run is to end with this status and to write this output
 abbrev pub IsMeant : (TextVersion → Set → List ℕ → Type 0) → List (List ℕ) → Traffic → Status → List ℕ → Type 0
-IsMeant Text words io status output = (bytes : List ℕ) × (ReadSource words → IsRead io.before.rest io.after.rest bytes) × Means Text words bytes status output
+IsMeant Text words io status output = (bytes : List ℕ) × (ReadSource words → AreBytesRead io.before.rest io.after.rest bytes) × Means Text words bytes status output
 
 -- the sink took some front of an output that is meant
 abbrev pub WroteFront : (TextVersion → Set → List ℕ → Type 0) → List (List ℕ) → Traffic → Type 0

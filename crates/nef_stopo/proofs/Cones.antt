@@ -1,5 +1,5 @@
 -- The operation on the labels of two maps of sets gives the germs of the combination.
-use Rattle.nef_stopo.proofs.Prelude.{◌≡◌, refl, sym, ◌↔◌, subst, Place, Set, Vector, IsDirection, Label, Out, Not, In, HasLabel, Germ, label_and, label_or, label_less, label_one_of, ByOp, Cone, Map, MapLabel, Valid, Op, op_label}
+use Rattle.nef_stopo.proofs.Prelude.{◌≡◌, refl, sym, ◌↔◌, subst, SpacePoint, Set, Vector, IsDirection, Label, Out, Not, In, HasLabel, Germ, label_and, label_or, label_less, label_one_of, ByOp, Cone, Map, MapLabel, Valid, Op, op_label}
 use Rattle.law_near.proofs.Combine.{and-label, or-label, less-label, one_of-label, germ-combines}
 use Rattle.nef_star.specs.declared.star.Op.TheVariants.{And, Or, Diff, Xor}
 use Rattle.nef_stopo.specs.Sets.{op_set}
@@ -50,20 +50,20 @@ one_of-same In Not = refl
 one_of-same In In = refl
 
 -- ---- labels and germs
-pub label-by_op : (op : Op) (s t : Set) (p : Place) (k l : Label) → HasLabel s p k → HasLabel t p l → HasLabel (op_set op s t) p (op_label op k l)
+pub label-by_op : (op : Op) (s t : Set) (p : SpacePoint) (k l : Label) → HasLabel s p k → HasLabel t p l → HasLabel (op_set op s t) p (op_label op k l)
 label-by_op And s t p k l h i = subst (HasLabel (Set.both s t) p) (and-same k l) (and-label s t p k l h i)
 label-by_op Or s t p k l h i = subst (HasLabel (Set.either s t) p) (or-same k l) (or-label s t p k l h i)
 label-by_op Diff s t p k l h i = subst (HasLabel (Set.less s t) p) (less-same k l) (less-label s t p k l h i)
 label-by_op Xor s t p k l h i = subst (HasLabel (Set.one_of s t) p) (one_of-same k l) (one_of-label s t p k l h i)
 
-pub germ-by_op : (op : Op) (s t : Set) (p : Place) (d : Vector) (k l : Label) → Germ s p d k → Germ t p d l → Germ (op_set op s t) p d (op_label op k l)
+pub germ-by_op : (op : Op) (s t : Set) (p : SpacePoint) (d : Vector) (k l : Label) → Germ s p d k → Germ t p d l → Germ (op_set op s t) p d (op_label op k l)
 germ-by_op And s t p d k l g h = subst (Germ (Set.both s t) p d) (and-same k l) (let c = germ-combines s t p d k l g h in c.both)
 germ-by_op Or s t p d k l g h = subst (Germ (Set.either s t) p d) (or-same k l) (let c = germ-combines s t p d k l g h in c.either)
 germ-by_op Diff s t p d k l g h = subst (Germ (Set.less s t) p d) (less-same k l) (let c = germ-combines s t p d k l g h in c.less)
 germ-by_op Xor s t p d k l g h = subst (Germ (Set.one_of s t) p d) (one_of-same k l) (let c = germ-combines s t p d k l g h in c.one_of)
 
 -- ---- maps
-pub cone-by_op : (op : Op) (A B M : Map) (s t : Set) (p : Place) → Valid M → M.mark ≡ op_label op A.mark B.mark → ((d : Vector) (l : Label) → IsDirection d → MapLabel M d l ↔ ByOp A B (op_label op) d l)
+pub cone-by_op : (op : Op) (A B M : Map) (s t : Set) (p : SpacePoint) → Valid M → M.mark ≡ op_label op A.mark B.mark → ((d : Vector) (l : Label) → IsDirection d → MapLabel M d l ↔ ByOp A B (op_label op) d l)
     → Cone A s p → Cone B t p → Cone M (op_set op s t) p
 cone-by_op op A B M s t p V mark labels K L = record {
   valid = V;

@@ -1,5 +1,5 @@
 -- A least map with In and Not exchanged everywhere is the least map of the complement.
-use Rattle.nef_stopo.proofs.Prelude.{◌≡◌, List, [], ◌∷◌, Option, Some, None, Bool, map, refl, ap, sym, subst, ◌∙◌, option_map, normal_limit, svertex_limit, Place, Set, IsAtMost, Label, Out, Not, In, MapVertex, Arc, MapSloop, Item, Map, item_normal, Valid, Least, Ordered, Cone, complement, all_in, some_in, label_by, sloop_by, exchanged, exchanged_svertex, exchanged_arc, exchanged_sloop, exchanged_map, topology-cone, SArc, SphereMap, SVertex, svertex_of, arc_of, sloop_of, map_of, IsSmall, IsLeastMap}
+use Rattle.nef_stopo.proofs.Prelude.{◌≡◌, List, [], ◌∷◌, Option, Some, None, Bool, map, refl, ap, sym, subst, ◌∙◌, option_map, normal_limit, svertex_limit, SpacePoint, Set, IsAtMost, Label, Out, Not, In, MapVertex, Arc, MapSloop, Item, Map, item_normal, Valid, Least, Ordered, Cone, complement, all_in, some_in, label_by, sloop_by, exchanged, exchanged_svertex, exchanged_arc, exchanged_sloop, exchanged_map, topology-cone, SArc, SphereMap, SVertex, svertex_of, arc_of, sloop_of, map_of, IsSmall, IsLeastMap}
 use Rattle.law_border.proofs.Exchanged.{item-same, svertex-was, item-was}
 use Rattle.law_border.proofs.ExchangedLabels.{exchanged-laws}
 
@@ -61,7 +61,7 @@ other-least m n L O =
       least = subst Least e (laws.2 L.least);
     }
 
-pub other-cone : (m n : SphereMap) → IsLeastMap m → IsOther m n → (s : Set) (p : Place) → Cone (map_of m) s p → Cone (map_of n) (Set.other s) p
+pub other-cone : (m n : SphereMap) → IsLeastMap m → IsOther m n → (s : Set) (p : SpacePoint) → Cone (map_of m) s p → Cone (map_of n) (Set.other s) p
 other-cone m n L O s p K =
     let laws = exchanged-laws (map_of m) L.sphere_map.valid in
     subst (λ (M : Map). Cone M (Set.other s) p) (sym (other-map m n O)) (topology-cone complement (map_of m) (exchanged_map (map_of m)) s p K laws.0 laws.3)

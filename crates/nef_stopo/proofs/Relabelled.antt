@@ -1,5 +1,5 @@
 -- The raw stars of a map with what its labels become, and the map that is built of them.
-use Rattle.nef_stopo.proofs.Prelude.{◌≡◌, ℕ, List, length, map, Option, Some, None, Result, Ok, Err, IfOk, refl, sym, ap, subst, ◌∙◌, length-map, option_map, normal_limit, Place, Set, Vector, IsDirection, IsAtMost, Label, vector_of, At, MapVertex, MapSloop, MapLabel, sloop_item, forms, Cone, at-sloop, IsLabelling, IsRawOf, Topology, set_by, IsTopologyMap, MarkLabel, label_from, face_label, sloop_by, map_labels, IsRemarkedAt, IsTopologyRaw, at-other, topology-cone, Star, star_of, IsStar, SLoop, SphereMap, RawStars, svertex_of, sloop_of, map_of, raw_of, IsSphereMap, IsLeastMap, IsRawStars, at-map, at-all, AreRemarked}
+use Rattle.nef_stopo.proofs.Prelude.{◌≡◌, ℕ, List, length, map, Option, Some, None, Result, Ok, Err, IfOk, refl, sym, ap, subst, ◌∙◌, length-map, option_map, normal_limit, SpacePoint, Set, Vector, IsDirection, IsAtMost, Label, vector_of, IsAt, MapVertex, MapSloop, MapLabel, sloop_item, forms, Cone, at-sloop, IsLabelling, IsRawOf, Topology, set_by, IsTopologyMap, MarkLabel, label_from, face_label, sloop_by, map_labels, IsRemarkedAt, IsTopologyRaw, at-other, topology-cone, Star, star_of, IsStar, SLoop, SphereMap, RawStars, svertex_of, sloop_of, map_of, raw_of, IsSphereMap, IsLeastMap, IsRawStars, at-map, at-all, AreRemarked}
 use Rattle.law_sphere.specs.Stars.{Star as PlainStar}
 use Rattle.law_border.proofs.RawTopology.{topology-stars}
 use Rattle.law_border.proofs.MarkMade.{topology-mark}
@@ -17,7 +17,7 @@ sloop-was k (Some q) (Some c) l e f =
 
 module _ (k : Topology) (m : SphereMap) (S : IsSphereMap m) (r : RawStars) (mark : r.mark ≡ label_from k m.mark (map_labels (map_of m))) (M : AreRemarked k m (length m.svertices) r.stars)
     (sloop : option_map sloop_of r.sloop ≡ option_map (sloop_by k) (option_map sloop_of m.sloop)) (ground : r.ground ≡ option_map (face_label k) m.ground) where
-  is-star : (i : ℕ) (u : Star) → At r.stars i u → IsStar u
+  is-star : (i : ℕ) (u : Star) → IsAt r.stars i u → IsStar u
   is-star i u a = let v = at-other r.stars m.svertices i u M.as_many a in (M.stars i v.0 u v.1 a).0
 
   circle-small : (l : SLoop) → r.sloop ≡ Some l → IsAtMost normal_limit (vector_of l.normal)
@@ -30,7 +30,7 @@ module _ (k : Topology) (m : SphereMap) (S : IsSphereMap m) (r : RawStars) (mark
   pub raw-stars : IsRawStars r
   raw-stars = record { stars = at-all IsStar r.stars is-star; circle_small = circle-small }
 
-  star-remarked : (i : ℕ) (v : MapVertex) (u : PlainStar) → At (map svertex_of m.svertices) i v → At (map star_of r.stars) i u → IsRemarkedAt k (map_of m) v.dir u
+  star-remarked : (i : ℕ) (v : MapVertex) (u : PlainStar) → IsAt (map svertex_of m.svertices) i v → IsAt (map star_of r.stars) i u → IsRemarkedAt k (map_of m) v.dir u
   star-remarked i v u a b =
       let w = at-map svertex_of m.svertices i v a in
       let x = at-map star_of r.stars i u b in
@@ -61,7 +61,7 @@ topology-map k m r n S T e h =
       labels = λ d f. (t.0 d, h (forms (map_of m)) t.0 t.1 t.2 d f, t.3 d f);
     }
 
-topology-set : (k : Topology) (m n : SphereMap) → IsLeastMap n → IsTopologyMap k (map_of m) (map_of n) → (s : Set) (p : Place) → Cone (map_of m) s p → Cone (map_of n) (set_by k s) p
+topology-set : (k : Topology) (m n : SphereMap) → IsLeastMap n → IsTopologyMap k (map_of m) (map_of n) → (s : Set) (p : SpacePoint) → Cone (map_of m) s p → Cone (map_of n) (set_by k s) p
 topology-set k m n N T s p C = topology-cone k (map_of m) (map_of n) s p C N.sphere_map.valid T
 
 -- where there is a map, by what building says of it

@@ -1,5 +1,5 @@
 -- A star with other marks is a star; and with what its marks and sectors become it is remarked.
-use Rattle.nef_stopo.proofs.Prelude.{◌≡◌, ℕ, zero, suc, ◌-◌, ◌<◌, List, [], ◌∷◌, length, map, get_or, Bool, cond, arith, refl, sym, ap, subst, ◌∙◌, inl, inr, length-map, normal_limit, svertex_limit, IsBelow, Vector, zero_vector, opposite, dot, triple_of, IsAtMost, IsNormal, Label, Out, vector_of, Dir, At, Follows, Topology, label_from, face_label, star_labels, marked, IsRemarked, Ray, Star, ray_of, star_of, left_of, left_at, sector_count, IsRay, IsRayBelow, IsTurned, IsStar, IsTurning, IsNext, sectors-fill, map-at, at-map, at-within, get-at, IsMarked, AreMarked}
+use Rattle.nef_stopo.proofs.Prelude.{◌≡◌, ℕ, zero, suc, ◌-◌, ◌<◌, List, [], ◌∷◌, length, map, get_or, Bool, cond, arith, refl, sym, ap, subst, ◌∙◌, inl, inr, length-map, normal_limit, svertex_limit, IsBelow, Vector, zero_vector, opposite, dot, direction_numbers, IsAtMost, IsNormal, Label, Out, vector_of, Dir, IsAt, Follows, Topology, label_from, face_label, star_labels, marked, IsRemarked, Ray, Star, ray_of, star_of, left_of, left_at, sector_count, IsRay, IsRayBelow, BeginsAnywhere, IsStar, IsTurning, IsNext, sectors-fill, map-at, at-map, at-within, get-at, IsRayMarked, AreRaysMarked}
 use Rattle.law_sphere.specs.Stars.{Ray as PlainRay}
 use Rattle.nef_star.proofs.RayOrder.{one-value}
 
@@ -8,13 +8,13 @@ pub record IsAlike (r u : Ray) : Type 0 where
   pub normal : u.normal ≡ r.normal
   pub ahead : u.ahead ≡ r.ahead
 
-abbrev pub AreAlike : List Ray → List Ray → Type 0
-AreAlike ts us = (k : ℕ) (d : Ray) → k < length us → IsAlike (get_or ts k d) (get_or us k d)
+abbrev pub AreLikeRays : List Ray → List Ray → Type 0
+AreLikeRays ts us = (k : ℕ) (d : Ray) → k < length us → IsAlike (get_or ts k d) (get_or us k d)
 
 left-alike : (r u : Ray) → IsAlike r u → left_of u ≡ left_of r
 left-alike r u a = ap (λ (n : Dir). cond u.ahead (vector_of n) (opposite (vector_of n))) a.normal ∙ ap (λ (b : Bool). cond b (vector_of r.normal) (opposite (vector_of r.normal))) a.ahead
 
-lefts-alike : (ts us : List Ray) → length us ≡ length ts → AreAlike ts us → map left_of us ≡ map left_of ts
+lefts-alike : (ts us : List Ray) → length us ≡ length ts → AreLikeRays ts us → map left_of us ≡ map left_of ts
 lefts-alike [] [] e a = refl
 lefts-alike [] (u ∷ us) e a = absurd (omega (arith, e))
 lefts-alike (t ∷ ts) [] e a = absurd (omega (arith, e))
@@ -37,19 +37,19 @@ ray-alike a r u l R = record {
 
 below-alike : (q r p u : Ray) → IsAlike q p → IsAlike r u → IsRayBelow u p → IsRayBelow r q
 below-alike q r p u a b (inl h) =
-    inl (subst (λ (n : Dir). IsBelow (triple_of (vector_of n)) (triple_of (vector_of q.normal))) b.normal
-    (subst (λ (n : Dir). IsBelow (triple_of (vector_of u.normal)) (triple_of (vector_of n))) a.normal h))
+    inl (subst (λ (n : Dir). IsBelow (direction_numbers (vector_of n)) (direction_numbers (vector_of q.normal))) b.normal
+    (subst (λ (n : Dir). IsBelow (direction_numbers (vector_of u.normal)) (direction_numbers (vector_of n))) a.normal h))
 below-alike q r p u a b (inr (e, f, g)) = inr (sym b.normal ∙ e ∙ a.normal, sym b.ahead ∙ f, sym a.ahead ∙ g)
 
 -- ---- the star
-module _ (t u : Star) (T : IsStar t) (axis : u.axis ≡ t.axis) (many : length u.rays.items ≡ length t.rays.items) (alike : AreAlike t.rays.items u.rays.items) (sectors : length u.sectors.items ≡ length t.sectors.items) where
+module _ (t u : Star) (T : IsStar t) (axis : u.axis ≡ t.axis) (many : length u.rays.items ≡ length t.rays.items) (alike : AreLikeRays t.rays.items u.rays.items) (sectors : length u.sectors.items ≡ length t.sectors.items) where
   abbrev ts : List Ray
   ts = t.rays.items
 
   abbrev us : List Ray
   us = u.rays.items
 
-  turned-alike : IsTurned u
+  turned-alike : BeginsAnywhere u
   turned-alike = record {
     axis_small = subst (λ (x : Dir). IsAtMost svertex_limit (vector_of x)) (sym axis) T.turned.axis_small;
     rays = λ k d h. subst (λ (x : Dir). IsRay (vector_of x) (get_or us k d)) (sym axis) (ray-alike (vector_of t.axis) (get_or ts k d) (get_or us k d) (alike k d h) (T.turned.rays k d (omega (arith, h, many))));
@@ -76,11 +76,11 @@ before-of : (n k : ℕ) → k < n → (i : ℕ) × (i < n) × IsNext n i k
 before-of n zero h = (n - 1, omega (arith, h), inr (omega (arith, h), refl))
 before-of n (suc k) h = (k, omega (arith, h), inl (refl, h))
 
-module _ (k : Topology) (t u : Star) (T : IsStar t) (axis : u.axis ≡ t.axis) (M : AreMarked k t (length t.rays.items) u.rays.items) (sectors : u.sectors.items ≡ map (face_label k) t.sectors.items) where
-  sector-of : (n : ℕ) → n < length t.rays.items → (l : Label) × At t.sectors.items n l
+module _ (k : Topology) (t u : Star) (T : IsStar t) (axis : u.axis ≡ t.axis) (M : AreRaysMarked k t (length t.rays.items) u.rays.items) (sectors : u.sectors.items ≡ map (face_label k) t.sectors.items) where
+  sector-of : (n : ℕ) → n < length t.rays.items → (l : Label) × IsAt t.sectors.items n l
   sector-of n h = let w = sectors-fill t.rays.items (length t.sectors.items) n T.turned.sectors h in (get_or t.sectors.items n Out, get-at t.sectors.items n Out w)
 
-  are-alike : AreAlike t.rays.items u.rays.items
+  are-alike : AreLikeRays t.rays.items u.rays.items
   are-alike n d h =
       let w : n < length t.rays.items = omega (arith, h, M.as_many) in
       let i = before-of (length t.rays.items) n w in
@@ -94,22 +94,22 @@ module _ (k : Topology) (t u : Star) (T : IsStar t) (axis : u.axis ≡ t.axis) (
   pub star-remarked : IsStar u
   star-remarked = star-alike t u T axis M.as_many are-alike as-many
 
-  marked-ray : (r v : Ray) (l m : Label) → IsMarked k l m r v → ray_of v ≡ marked (ray_of r) (label_from k r.mark (l ∷ m ∷ []))
+  marked-ray : (r v : Ray) (l m : Label) → IsRayMarked k l m r v → ray_of v ≡ marked (ray_of r) (label_from k r.mark (l ∷ m ∷ []))
   marked-ray r v l m R =
       ap (λ (n : Dir). record { normal = vector_of n; ahead = v.ahead; mark = v.mark }) R.normal
       ∙ ap (λ (b : Bool). record { normal = vector_of r.normal; ahead = b; mark = v.mark }) R.ahead
       ∙ ap (λ (x : Label). record { normal = vector_of r.normal; ahead = r.ahead; mark = x }) R.mark
 
-  rays-remarked : (i j : ℕ) (r : PlainRay) (l m : Label) → At (map ray_of t.rays.items) j r → Follows (map ray_of t.rays.items) i j → At t.sectors.items i l → At t.sectors.items j m
-      → At (map ray_of u.rays.items) j (marked r (label_from k r.mark (l ∷ m ∷ [])))
+  rays-remarked : (i j : ℕ) (r : PlainRay) (l m : Label) → IsAt (map ray_of t.rays.items) j r → Follows (map ray_of t.rays.items) i j → IsAt t.sectors.items i l → IsAt t.sectors.items j m
+      → IsAt (map ray_of u.rays.items) j (marked r (label_from k r.mark (l ∷ m ∷ [])))
   rays-remarked i j r l m a f b c =
       let q = at-map ray_of t.rays.items j r a in
       let w = at-within t.rays.items j q.0 q.1 in
       let h : j < length u.rays.items = omega (arith, w, M.as_many) in
       let v = get_or u.rays.items j q.0 in
       let R = M.rays i j q.0 v l m q.1 (get-at u.rays.items j q.0 h) (next f w) b c in
-      subst (λ (x : PlainRay). At (map ray_of u.rays.items) j (marked x (label_from k x.mark (l ∷ m ∷ [])))) q.2
-      (subst (At (map ray_of u.rays.items) j) (marked-ray q.0 v l m R) (map-at ray_of u.rays.items j v (get-at u.rays.items j q.0 h)))
+      subst (λ (x : PlainRay). IsAt (map ray_of u.rays.items) j (marked x (label_from k x.mark (l ∷ m ∷ [])))) q.2
+      (subst (IsAt (map ray_of u.rays.items) j) (marked-ray q.0 v l m R) (map-at ray_of u.rays.items j v (get-at u.rays.items j q.0 h)))
     where
       next : Follows (map ray_of t.rays.items) i j → j < length t.rays.items → IsNext (length t.rays.items) i j
       next (inl e) w = inl (e, w)
@@ -122,5 +122,5 @@ module _ (k : Topology) (t u : Star) (T : IsStar t) (axis : u.axis ≡ t.axis) (
     as_many_rays = length-map u.rays.items ray_of ∙ M.as_many ∙ sym (length-map t.rays.items ray_of);
     as_many_sectors = as-many;
     rays = rays-remarked;
-    sectors = λ j l a. subst (λ (ls : List Label). At ls j (face_label k l)) (sym sectors) (map-at (face_label k) t.sectors.items j l a);
+    sectors = λ j l a. subst (λ (ls : List Label). IsAt ls j (face_label k l)) (sym sectors) (map-at (face_label k) t.sectors.items j l a);
   }

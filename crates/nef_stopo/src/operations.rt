@@ -1,7 +1,7 @@
 //! The operations of topology on sphere maps, with the complement in place too, and combinations of two maps.
 
 ghost use Rattle.std.specs.Prelude.{◌≡◌, ◌↔◌};
-ghost use Rattle.nef_stopo.specs.Prelude.{IfOk, length, map, Place, Set, Vector, IsDirection, Label as PlainLabel, ByOp, Cone, MapLabel, set_by, interior as made_interior, closure as made_closure, boundary as made_boundary, complement as made_complement, op_label, map_of, IsSphereMap, IsLeastMap, svertex_of, arc_of, topology_of, IsMadeBy, op_set, IsRemarked, face_label, exchanged_svertex as other_svertex, exchanged_arc as other_arc, star_of, IsStar, AreMarked, AreRemarked};
+ghost use Rattle.nef_stopo.specs.Prelude.{IfOk, length, map, SpacePoint, Set, Vector, IsDirection, Label as PlainLabel, ByOp, Cone, MapLabel, set_by, interior as made_interior, closure as made_closure, boundary as made_boundary, complement as made_complement, op_label, map_of, IsSphereMap, IsLeastMap, svertex_of, arc_of, topology_of, IsMadeBy, op_set, IsRemarked, face_label, exchanged_svertex as other_svertex, exchanged_arc as other_arc, star_of, IsStar, AreRaysMarked, AreRemarked};
 
 use crate::OutOfMemory;
 use crate::topology::{Nearby, Topology, near_map, near_star};
@@ -15,7 +15,7 @@ use std::alloc::Global;
 // The rays of the star with the operation's marks, by each ray's mark and the labels of the sectors on both sides.
 fn remarked_rays(alloc: Global, star: &Star, topology: Topology) -> Result<Vec<Ray>, OutOfMemory>
     requires star { IsStar star.now }
-    ensures rays { IfOk result (λ rays. AreMarked (topology_of topology) star.now (length star.now.rays.items) rays.items) }
+    ensures rays { IfOk result (λ rays. AreRaysMarked (topology_of topology) star.now (length star.now.rays.items) rays.items) }
 {
     let sectors = star.sectors.as_slice();
     let mut before = sectors[sectors.len() - 1];
@@ -137,7 +137,7 @@ pub fn combine(
     ensures least { IfOk result (λ m. IsLeastMap m) }
     ensures mark { IfOk result (λ m. m.mark ≡ op_label op a.now.mark b.now.mark) }
     ensures labels { IfOk result (λ m. (d : Vector) (l : PlainLabel) → IsDirection d → MapLabel (map_of m) d l ↔ ByOp (map_of a.now) (map_of b.now) (op_label op) d l) }
-    ensures cone { IfOk result (λ m. (s t : Set) (p : Place) → Cone (map_of a.now) s p → Cone (map_of b.now) t p → Cone (map_of m) (op_set op s t) p) }
+    ensures cone { IfOk result (λ m. (s t : Set) (p : SpacePoint) → Cone (map_of a.now) s p → Cone (map_of b.now) t p → Cone (map_of m) (op_set op s t) p) }
 {
     let raw = overlay(alloc, a, b, op)?;
     let map = build(alloc, raw)?;
@@ -172,7 +172,7 @@ fn exchanged_arcs(arcs: List<SArc>) -> List<SArc>
 pub fn exchanged(map: SphereMap) -> SphereMap
     requires least { IsLeastMap map }
     ensures least { IsLeastMap result }
-    ensures cone { (s : Set) (p : Place) → Cone (map_of map) s p → Cone (map_of result) (Set.other s) p }
+    ensures cone { (s : Set) (p : SpacePoint) → Cone (map_of map) s p → Cone (map_of result) (Set.other s) p }
 {
     SphereMap {
         mark: Topology::Complement.face_label(map.mark),

@@ -1,5 +1,5 @@
 -- Turned numbers make one direction and one plane in lowest terms.
-use Rattle.nef_turn.proofs.Prelude.{◌≡◌, ℕ, ◌≤◌, ℤ, pos, ◌*ℤ◌, ◌-ℤ◌, ◌<ℤ◌, neg_ℤ, nat_abs, Bool, true, false, cond, [], ◌∷◌, arith, ap, sym, ◌∙◌, subst, w64, to_z, of_z, ints, ring, at, num, neg, ◌⊖◌, ◌⊗◌, direction_limit, normal_limit, point_limit, Place, Form, form, SamePlace, normal_of, Vector, vector, IsDirection, IsAtMost, IsNormal, SameDirection, IsSamePlane, IsInRange, IsPositiveMultiple, form_of, vector_of, turned_form as opposite_form, given_form, place_at, Dir, Plane, Point, IsAtMost-weaken as larger, same_directions_equal, same_planes_equal, Triple, negated_if, turned, normal-direction, turned_vector, turned_plane, signed, signed_form, same-place_sym, at_most-turned, lowest_vector-turned, lowest_form-turned, normal-choice}
+use Rattle.nef_turn.proofs.Prelude.{◌≡◌, ℕ, ◌≤◌, ℤ, pos, ◌*ℤ◌, ◌-ℤ◌, ◌<ℤ◌, neg_ℤ, nat_abs, Bool, true, false, cond, [], ◌∷◌, arith, ap, sym, ◌∙◌, subst, w64, to_z, of_z, ints, ring, at, num, neg, ◌⊖◌, ◌⊗◌, direction_limit, normal_limit, point_limit, SpacePoint, Form, form, SamePoint, normal_of, Vector, vector, IsDirection, IsAtMost, IsNormal, SameDirection, IsSamePlane, IsInRange, IsPositiveMultiple, form_of, vector_of, opposite_form, given_form, point_at, Dir, Plane, Point, IsAtMost-weaken as larger, same_directions_equal, same_planes_equal, Triple, negated_if, turned, normal-direction, turned_vector, turned_plane, signed, signed_form, same-point_sym, at_most-turned, lowest_vector-turned, lowest_form-turned, normal-choice}
 use Rattle.nef_geo.specs.declared.plane.Oriented.{Oriented}
 use Rattle.nef_geo.proofs.Products.{kept}
 use Rattle.nef_geo.proofs.Unique.{direction, plane}
@@ -31,9 +31,9 @@ point-words k p t x y z e u v w =
 pub point-small : (k : ℕ) (p : Point) → IsAtMost point_limit (turned_vector k (vector p.x p.y p.z))
 point-small k p = at_most-turned k false point_limit (vector p.x p.y p.z) (record { of_x = p.x_small; of_y = p.y_small; of_z = p.z_small })
 
-pub same-numbers : (x y z w : ℤ) (h : pos 0 <ℤ w) (q p : Place) → x ≡ p.x → y ≡ p.y → z ≡ p.z → nat_abs w ≡ p.w → SamePlace (place_at x y z w h) q → SamePlace q p
+pub same-numbers : (x y z w : ℤ) (h : pos 0 <ℤ w) (q p : SpacePoint) → x ≡ p.x → y ≡ p.y → z ≡ p.z → nat_abs w ≡ p.w → SamePoint (point_at x y z w h) q → SamePoint q p
 same-numbers x y z w h q p ex ey ez ew S =
-    let s = same-place_sym (place_at x y z w h) q S in
+    let s = same-point_sym (point_at x y z w h) q S in
     record { along_x = by q.x x p.x ex s.along_x; along_y = by q.y y p.y ey s.along_y; along_z = by q.z z p.z ez s.along_z }
   where
     by : (a n m : ℤ) → n ≡ m → a *ℤ pos (nat_abs w) ≡ n *ℤ pos q.w → a *ℤ pos p.w ≡ m *ℤ pos q.w

@@ -1,5 +1,5 @@
 -- Lists of images, made one after the other.
-use Rattle.nef_turn.proofs.Prelude.{◌≡◌, ℕ, ◌+◌, ◌<◌, ◌≤◌, List, [], ◌∷◌, ◌++◌, length, get_or, arith, refl, sym, ap, subst, ◌∙◌, ⊎_elim, At, at-one, at-within, at-more, read-at, AreImages, is-at_none}
+use Rattle.nef_turn.proofs.Prelude.{◌≡◌, ℕ, ◌+◌, ◌<◌, ◌≤◌, List, [], ◌∷◌, ◌++◌, length, get_or, arith, refl, sym, ap, subst, ◌∙◌, ⊎_elim, IsAt, at-one, at-within, at-more, read-at, AreImages, is-at_none}
 use Rattle.nef_smap.proofs.SideLists.{at-some as at-length}
 
 length-more : {A : Type 0} (xs : List A) (x : A) → length (xs ++ x ∷ []) ≡ length xs + 1
@@ -10,16 +10,16 @@ module _ {A B : Type 0} (R : ℕ → A → B → Type 0) (xs : List A) where
   pub images-none : AreImages R 0 xs []
   images-none = record { count = refl; each = λ j y a. absurd (is-at_none a) }
 
-  pub images-more : (n : ℕ) (ys : List B) (x : A) (y : B) → AreImages R n xs ys → At xs n x → R n x y → AreImages R (n + 1) xs (ys ++ y ∷ [])
+  pub images-more : (n : ℕ) (ys : List B) (x : A) (y : B) → AreImages R n xs ys → IsAt xs n x → R n x y → AreImages R (n + 1) xs (ys ++ y ∷ [])
   images-more n ys x y I a r = record {
     count = length-more ys y ∙ ap (λ m. m + 1) I.count;
     each = λ j z b. ⊎_elim (λ c. I.each j z c)
-        (λ (e, f). (x, subst (λ m. At xs m x) (sym (e ∙ I.count)) a, subst (λ m. R m x z) (sym (e ∙ I.count)) (subst (λ (w : B). R n x w) f r)))
+        (λ (e, f). (x, subst (λ m. IsAt xs m x) (sym (e ∙ I.count)) a, subst (λ m. R m x z) (sym (e ∙ I.count)) (subst (λ (w : B). R n x w) f r)))
         (at-more ys y j z b);
   }
 
   -- where each element has its image, there is one at each place
-  pub images-all : (ys : List B) → AreImages R (length xs) xs ys → (i : ℕ) (x : A) → At xs i x → (y : B) × At ys i y × R i x y
+  pub images-all : (ys : List B) → AreImages R (length xs) xs ys → (i : ℕ) (x : A) → IsAt xs i x → (y : B) × IsAt ys i y × R i x y
   images-all ys I i x a =
       let l = at-within xs i x a in
       let count = I.count in

@@ -1,12 +1,12 @@
 -- A map of the turned svertices, arcs and sloop is the turned map.
-use Rattle.nef_turn.proofs.Prelude.{◌≡◌, ℕ, List, map, length, Some, option_map, ap, sym, ◌∙◌, subst, Vector, IsNormal, vector_of, IsPrimitive, VectorBelow, At, MapVertex, Arc, MapSloop, Item, arc_item, sloop_item, items, item_normal, InOrder, ArcBelow, Ordered, arc-at, sloop-at, at-map, map-at, svertex_of, arc_of, sloop_of, map_of, SLoop, SphereMap, dir-primitive, turned_svertex, IsTurnedArc, IsTurnedOption, HasTurnedLists, Moved, AreImages, AreMoved, AreNumbers, IsOfMoved, AreTurnedArcs, number_in}
+use Rattle.nef_turn.proofs.Prelude.{◌≡◌, ℕ, List, map, length, Some, option_map, ap, sym, ◌∙◌, subst, Vector, IsNormal, vector_of, IsPrimitive, VectorBelow, IsAt, MapVertex, Arc, MapSloop, Item, arc_item, sloop_item, items, item_normal, InOrder, ArcBelow, Ordered, arc-at, sloop-at, at-map, map-at, svertex_of, arc_of, sloop_of, map_of, SLoop, SphereMap, dir-primitive, turned_svertex, IsTurnedArc, IsTurnedOption, HasTurnedLists, Moved, AreImages, AreMoved, AreNewNumbers, IsOfMoved, AreTurnedArcs, number_in}
 use Rattle.nef_turn.proofs.MovedSvertices.{placed, number-is}
 use Rattle.nef_smap.proofs.MapLists.{sloop-was as sloop-from}
 
 -- what the steps of turning the map m make
-pub record IsMade (k : ℕ) (m n : SphereMap) (us : List Moved) (ns : List ℕ) : Type 0 where
+pub record IsMadeByTurning (k : ℕ) (m n : SphereMap) (us : List Moved) (ns : List ℕ) : Type 0 where
   pub moved : AreMoved k m.svertices us
-  pub numbers : AreNumbers (length us) us ns
+  pub numbers : AreNewNumbers (length us) us ns
   pub svertices : AreImages IsOfMoved (length us) us n.svertices
   pub arcs : AreTurnedArcs k ns m.arcs n.arcs
   pub sloop : IsTurnedOption k (option_map sloop_of m.sloop) (option_map sloop_of n.sloop)
@@ -14,11 +14,11 @@ pub record IsMade (k : ℕ) (m n : SphereMap) (us : List Moved) (ns : List ℕ) 
   pub mark : n.mark ≡ m.mark
   pub ground : n.ground ≡ m.ground
 
-module _ (k : ℕ) (m n : SphereMap) (us : List Moved) (ns : List ℕ) (I : IsMade k m n us ns) where
+module _ (k : ℕ) (m n : SphereMap) (us : List Moved) (ns : List ℕ) (I : IsMadeByTurning k m n us ns) where
   abbrev Good : Vector → Type 0
   Good v = IsPrimitive v × IsNormal v
 
-  arc-good : (j : ℕ) (b : Arc) → At (map arc_of n.arcs) j b → Good b.normal
+  arc-good : (j : ℕ) (b : Arc) → IsAt (map arc_of n.arcs) j b → Good b.normal
   arc-good j b a =
       let (y, c, e) = at-map arc_of n.arcs j b a in
       let (i, x, d, (flip, t, up)) = I.arcs.each j y c in
@@ -27,7 +27,7 @@ module _ (k : ℕ) (m n : SphereMap) (us : List Moved) (ns : List ℕ) (I : IsMa
   sloop-good : (l : MapSloop) → option_map sloop_of n.sloop ≡ Some l → Good l.normal
   sloop-good l e = let (s, f, g) = sloop-from n.sloop l e in subst (λ (r : MapSloop). Good r.normal) g (dir-primitive s.normal, I.upward s f)
 
-  item-good : (j : ℕ) (y : Item) → At (items (map_of n)) j y → Good (item_normal y)
+  item-good : (j : ℕ) (y : Item) → IsAt (items (map_of n)) j y → Good (item_normal y)
   item-good j (arc_item b) a = arc-good j b (arc-at (map arc_of n.arcs) (option_map sloop_of n.sloop) j b a)
   item-good j (sloop_item l) a = sloop-good l (sloop-at (map arc_of n.arcs) (option_map sloop_of n.sloop) j l a)
 
@@ -51,7 +51,7 @@ module _ (k : ℕ) (m n : SphereMap) (us : List Moved) (ns : List ℕ) (I : IsMa
     svertices = λ i v a.
         let (x, b, e) = at-map svertex_of m.svertices i v a in
         let (y, c, q) = placed k m.svertices us ns I.moved I.numbers n.svertices I.svertices i x b in
-        subst (λ (r : MapVertex). At (map svertex_of n.svertices) (number_in ns i) r) (q ∙ ap (turned_svertex k) e) (map-at svertex_of n.svertices (number_in ns i) y c);
+        subst (λ (r : MapVertex). IsAt (map svertex_of n.svertices) (number_in ns i) r) (q ∙ ap (turned_svertex k) e) (map-at svertex_of n.svertices (number_in ns i) y c);
     svertices_from = λ j u a.
         let (y, c, e) = at-map svertex_of n.svertices j u a in
         let (w, d, f) = I.svertices.each j y c in

@@ -1,10 +1,10 @@
 -- Turned carriers, sorted, are the turned planes.
-use Rattle.nef_turn.proofs.Prelude.{◌≡◌, ℕ, List, map, ap, sym, ◌∙◌, subst, length, IsPermutation, IsSorted, IsBelow, Form, form_numbers, form_of, Plane, plane_order, never-below, At, at-map, map-at, number-order, AreInOrder, at-some, was-listed, still-listed, turned_plane, signed_form, AreTurnedPlanes, one-plane, AreImages, AreApart, IsTurnedCarrier}
+use Rattle.nef_turn.proofs.Prelude.{◌≡◌, ℕ, List, map, ap, sym, ◌∙◌, subst, length, IsPermutation, IsSorted, IsBelow, Form, form_numbers, form_of, Plane, plane_order, never-below, IsAt, at-map, map-at, number-order, AreInOrder, at-some, was-listed, still-listed, turned_plane, signed_form, AreTurnedPlanes, one-plane, AreImages, AreApart, IsTurnedCarrier}
 use Rattle.nef_turn.proofs.Images.{images-all}
 use Rattle.nef_turn.proofs.Orders.{IsOnePlane, planes-in_order}
 
 module _ (k : ℕ) (gs hs ks : List Plane) (ordered : AreInOrder gs) (I : AreImages (IsTurnedCarrier k) (length gs) gs hs) where
-  never : (i j : ℕ) (g h : Plane) → At gs i g → At gs j h → form_of g ≡ form_of h → i ≡ j
+  never : (i j : ℕ) (g h : Plane) → IsAt gs i g → IsAt gs j h → form_of g ≡ form_of h → i ≡ j
   never i j g h a b e = number-order i j
       (λ l. absurd (never-below (form_numbers (form_of h)) (subst (λ (f : Form). IsBelow (form_numbers f) (form_numbers (form_of h))) e (ordered i j g h l (at-some gs i g a) (at-some gs j h b)))))
       (λ e. e)

@@ -5,7 +5,7 @@ ghost use Rattle.nef_complex.specs.Prelude.{length, cond, option_map, map, IfOk,
 ghost use Rattle.nef_smap.specs.Maps.{sloop_of, map_of, IsLeastMap};
 ghost use Rattle.law_turns.specs.Maps.{HasTurnedLists, IsTurnedOption};
 ghost use Rattle.nef_turn.specs.Images.{AreApart};
-ghost use Rattle.nef_turn.specs.Turning.{HaveSameNumber, AreMoved, AreNumbers, AreWithin, svertex_in, HasEnds, IsArcImage, Renumbers, AreTurnedArcs};
+ghost use Rattle.nef_turn.specs.Turning.{HaveSameNumber, AreMoved, AreNewNumbers, AreOldNumbers, svertex_in, EndsBelow, IsSArcImage, Renumbers, AreTurnedArcs};
 
 use crate::OutOfMemory;
 use crate::turning::{Turn, turned_dir, turned_normal};
@@ -43,10 +43,10 @@ fn moved_svertices(alloc: Global, turn: &Turn, map: &SphereMap) -> Result<Vec<Mo
 
 // For each svertex its new number, in the order of the old numbers.
 fn new_numbers(alloc: Global, svertices: &[Moved]) -> Result<Vec<usize>, OutOfMemory>
-    requires within { AreWithin svertices.now }
+    requires within { AreOldNumbers svertices.now }
     requires apart { AreApart HaveSameNumber svertices.now }
     ensures count { IfOk result (λ v. length v.items ≡ length svertices.now) }
-    ensures numbers { IfOk result (λ v. AreNumbers (length svertices.now) svertices.now v.items) }
+    ensures numbers { IfOk result (λ v. AreNewNumbers (length svertices.now) svertices.now v.items) }
 {
     let mut numbers = vec![in alloc; 0; svertices.len()]?;
     for (new, moved) in svertices.iter().enumerate() {
@@ -77,8 +77,8 @@ fn exchanged_if<T: Copy>(exchange: bool, first: T, second: T) -> (T, T)
 // The turned arc. The ends are swapped by a turn that makes counterclockwise clockwise, and the ends and the sides
 // where the normal form is opposite to the turned normal.
 fn turned_arc(turn: &Turn, numbers: &[usize], arc: &SArc) -> SArc
-    requires ends { HasEnds (length numbers.now) arc.now }
-    ensures turned { IsArcImage turn.now.number numbers.now 0 arc.now result }
+    requires ends { EndsBelow (length numbers.now) arc.now }
+    ensures turned { IsSArcImage turn.now.number numbers.now 0 arc.now result }
 {
     let (normal, flipped) = turned_normal(turn, &arc.normal);
     let (source, target) = exchanged_if(

@@ -1,10 +1,10 @@
 //! Turns by their rows; turned points, directions, normals and carriers; and the complex of a turned set.
 
 ghost use Rattle.std.specs.Prelude.{◌≡◌, ◌<◌, ◌≤◌};
-ghost use Rattle.nef_complex.specs.Prelude.{nat_abs, All, map, IfOk, point_limit, SamePlace, Set, IsNormal, form_of, place_of, vector_of, vertex_of, AreSorted, ShowsSet, AreInOrder};
+ghost use Rattle.nef_complex.specs.Prelude.{nat_abs, All, map, IfOk, point_limit, SamePoint, Set, IsNormal, form_of, point_of, vector_of, vertex_of, AreSorted, ShowsSet, AreInOrder};
 ghost use Rattle.law_turns.specs.Complexes.{AreTurnedPlanes, AreTurnedVertices};
-ghost use Rattle.law_turns.specs.Turned.{is_odd, turned_vector, turned_place, signed};
-ghost use Rattle.nef_case.specs.Turns.{IsEntry, IsRowOf, turned};
+ghost use Rattle.law_turns.specs.Turned.{is_odd, turned_vector, turned_point, signed};
+ghost use Rattle.nef_case.specs.Turns.{IsEntry, IsRowOfTurn, turned};
 ghost use Rattle.nef_turn.specs.Shown.{ShowsTurnedSets, BackShowsSame, TwiceShowsComposed};
 ghost use Rattle.nef_turn.specs.Turning.{IsTurnedCarrier, HaveLeastMaps};
 
@@ -25,7 +25,7 @@ pub(crate) struct Turn {
     pub(crate) odd: bool,
     pub(crate) number: usize,
     pub ghost entries: { All IsEntry row },
-    pub ghost is_row: { IsRowOf number row },
+    pub ghost is_row: { IsRowOfTurn number row },
     pub ghost parity: { odd ≡ is_odd number },
 }
 
@@ -66,7 +66,7 @@ pub(crate) fn turned(turn: &Turn, x: i64, y: i64, z: i64) -> (i64, i64, i64)
 
 /// The point with the turned coordinates.
 pub(crate) fn turned_point(turn: &Turn, p: &Point) -> Point
-    ensures same { SamePlace (place_of result) (turned_place turn.now.number (place_of p.now)) }
+    ensures same { SamePoint (point_of result) (turned_point turn.now.number (point_of p.now)) }
 {
     let (x, y, z) = turned(turn, p.x(), p.y(), p.z());
     Point::of(x, y, z, p.w())

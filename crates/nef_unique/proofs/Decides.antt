@@ -1,5 +1,5 @@
 -- `==` on what a map holds says whether it is equal.
-use Rattle.nef_unique.proofs.Prelude.{◌≡◌, refl, ap, sym, ◌∙◌, Bool, true, false, Option, Some, None, List, Decides, Decides-and, Decides-like, Decides-int_eq, Decides-eqb, vector, Label, Out, Not, In, Dir, Point, same_places_equal, SVertex, SArc, SLoop}
+use Rattle.nef_unique.proofs.Prelude.{◌≡◌, refl, ap, sym, ◌∙◌, Bool, true, false, Option, Some, None, List, Decides, Decides-and, Decides-like, Decides-int_eq, Decides-eqb, vector, Label, Out, Not, In, Dir, Point, same_points_equal, SVertex, SArc, SLoop}
 use Rattle.std.specs.Option.{option_eq}
 use Rattle.std.specs.Cmp.Lexicographic.{pointwise}
 use Rattle.std.proofs.lemmas.Slice.Eq.{slice_eq-Decides}
@@ -58,7 +58,7 @@ dir-decides d e =
     (Decides-and _ _ (Decides-int_eq d.x e.x) (Decides-and _ _ (Decides-int_eq d.y e.y) (Decides-int_eq d.z e.z)))
 
 point-one : (p q : Point) → p.x ≡ q.x → p.y ≡ q.y → p.z ≡ q.z → p.w ≡ q.w → p ≡ q
-point-one p q a b c d = same_places_equal p q (record { along_x = rw (a, d) refl; along_y = rw (b, d) refl; along_z = rw (c, d) refl })
+point-one p q a b c d = same_points_equal p q (record { along_x = rw (a, d) refl; along_y = rw (b, d) refl; along_z = rw (c, d) refl })
 
 pub point-decides : IsTest Point point_test
 point-decides p q =

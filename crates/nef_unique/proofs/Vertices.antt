@@ -1,5 +1,5 @@
 -- Complexes that show one set have the same vertices and edges.
-use Rattle.nef_unique.proofs.Prelude.{◌≡◌, ℕ, arith, refl, sym, List, map, inl, inr, subst, ints, SameSet, Place, SamePlace, IsPlaceBelow, Set, SameCone, cones-of_same, FlatDim-by_cone, place_below-trans, place_below-apart, place_of, Point, same_places_equal, Cone, InOrder, At, Map, same-lists, cone-unique, map_of, map-at, at-map, Edge as PlainEdge, IsEdgeBelow, Edges, Shows, Vertex, vertex_of, edge_of, complex_of}
+use Rattle.nef_unique.proofs.Prelude.{◌≡◌, ℕ, arith, refl, sym, List, map, inl, inr, subst, ints, SameSet, SpacePoint, SamePoint, IsPointBelow, Set, SameCone, cones-of_same, FlatDim-by_cone, point_below-trans, point_below-apart, point_of, Point, same_points_equal, Cone, InOrder, IsAt, Map, same-lists, cone-unique, map_of, map-at, at-map, Edge as PlainEdge, IsEdgeBelow, Edges, Shows, Vertex, vertex_of, edge_of, complex_of}
 use Rattle.law_complex.specs.Complexes.{Vertex as PlainVertex}
 use Rattle.nef_complex.specs.declared.complex.Complex.{Complex}
 use Rattle.nef_unique.proofs.Injective.{map-one, map_of-one, vertex-equal, edge-one}
@@ -18,7 +18,7 @@ pub edges-one : (vs : List PlainVertex) (es fs : List PlainEdge) → Edges vs es
 edges-one vs es fs E F = same-lists IsEdgeBelow below-apart es fs E.ordered F.ordered (λ k e a. F.complete e (E.edges k e a)) (λ k e a. E.complete e (F.edges k e a))
 
 -- ---- vertices
-pub cone-carried : (M : Map) (s t : Set) (p : Place) → SameCone s t p → Cone M s p → Cone M t p
+pub cone-carried : (M : Map) (s t : Set) (p : SpacePoint) → SameCone s t p → Cone M s p → Cone M t p
 cone-carried M s t p c C = record {
   valid = C.valid;
   mark = (c.label M.mark).0 C.mark;
@@ -26,30 +26,30 @@ cone-carried M s t p c C = record {
 }
 
 abbrev IsBelow : Vertex → Vertex → Type 0
-IsBelow v u = IsPlaceBelow (place_of v.point) (place_of u.point)
+IsBelow v u = IsPointBelow (point_of v.point) (point_of u.point)
 
 never-both : (v u : Vertex) → IsBelow v u → IsBelow u v → ⊥
-never-both v u h k = let p = place_of v.point in place_below-apart p p (place_below-trans p (place_of u.point) p h k) (record { along_x = refl; along_y = refl; along_z = refl })
+never-both v u h k = let p = point_of v.point in point_below-apart p p (point_below-trans p (point_of u.point) p h k) (record { along_x = refl; along_y = refl; along_z = refl })
 
 in-order : (s : Set) (a : Complex) → Shows s (complex_of a) → InOrder IsBelow a.vertices
 in-order s a S i k v u l x y = S.ordered i k (vertex_of v) (vertex_of u) l (map-at vertex_of a.vertices i v x) (map-at vertex_of a.vertices k u y)
 
 module _ (s t : Set) (a b : Complex) (S : Shows s (complex_of a)) (T : Shows t (complex_of b)) (same : SameSet s t) where
   -- the other complex has the vertex at the same point, where both maps show the set
-  vertex-carried : (k : ℕ) (v : Vertex) → At a.vertices k v → (l : ℕ) × At b.vertices l v
+  vertex-carried : (k : ℕ) (v : Vertex) → IsAt a.vertices k v → (l : ℕ) × IsAt b.vertices l v
   vertex-carried k v h =
-      let p = place_of v.point in
+      let p = point_of v.point in
       let c = cones-of_same s t same p in
       let i = map-at vertex_of a.vertices k v h in
       let f = T.complete p ((FlatDim-by_cone s t p 0 c).0 (S.vertices k (vertex_of v) i)) in
       let u = at-map vertex_of b.vertices f.0 f.1 f.2 in
       let j = map-at vertex_of b.vertices f.0 u.0 u.1 in
-      let e : v.point ≡ u.0.point = sym (same_places_equal u.0.point v.point (subst (λ (r : PlainVertex). SamePlace r.point p) (sym u.2) f.3)) in
+      let e : v.point ≡ u.0.point = sym (same_points_equal u.0.point v.point (subst (λ (r : PlainVertex). SamePoint r.point p) (sym u.2) f.3)) in
       let C = cone-carried (map_of v.map) s t p c (S.cones k (vertex_of v) i) in
-      let D = subst (λ (r : Point). Cone (map_of u.0.map) t (place_of r)) (sym e) (T.cones f.0 (vertex_of u.0) j) in
+      let D = subst (λ (r : Point). Cone (map_of u.0.map) t (point_of r)) (sym e) (T.cones f.0 (vertex_of u.0) j) in
       let m = cone-unique (map_of v.map) (map_of u.0.map) t p C D (S.maps_ordered k (vertex_of v) i) (T.maps_ordered f.0 (vertex_of u.0) j)
       (S.least k (vertex_of v) i) (T.least f.0 (vertex_of u.0) j) in
-      (f.0, subst (λ (r : Vertex). At b.vertices f.0 r) (sym (vertex-equal v u.0 e (map_of-one v.map u.0.map m))) u.1)
+      (f.0, subst (λ (r : Vertex). IsAt b.vertices f.0 r) (sym (vertex-equal v u.0 e (map_of-one v.map u.0.map m))) u.1)
 
 module _ (s t : Set) (a b : Complex) (S : Shows s (complex_of a)) (T : Shows t (complex_of b)) (same : SameSet s t) where
   vertices-same : a.vertices ≡ b.vertices

@@ -11,8 +11,8 @@ abbrev pub HaveSameLabels : SphereMap → SphereMap → Type 0
 HaveSameLabels m n = (d : Vector) (l : Label) → IsDirection d → MapLabel (map_of m) d l ↔ MapLabel (map_of n) d l
 
 -- two least maps with one mark and one label in each direction are equal
-abbrev pub LeastUnique : Type 0
-LeastUnique = (m n : SphereMap) → IsLeastMap m → IsLeastMap n → m.mark ≡ n.mark → HaveSameLabels m n → m ≡ n
+abbrev pub LeastSphereMapUnique : Type 0
+LeastSphereMapUnique = (m n : SphereMap) → IsLeastMap m → IsLeastMap n → m.mark ≡ n.mark → HaveSameLabels m n → m ≡ n
 
 -- complexes that show one set have the same vertices, with equal maps, and the same edges
 abbrev pub SameSetSameVertices : Type 0

@@ -2,7 +2,7 @@
 
 ghost use Rattle.std.specs.Prelude.{◌≡◌, ◌↔◌};
 ghost use Rattle.nef_complex.specs.Prelude.{IsTrue, SameSet, Set, ShowsSet};
-ghost use Rattle.nef_unique.specs.Laws.{LeastUnique, SameSetSameVertices, SameVerticesSameSet};
+ghost use Rattle.nef_unique.specs.Laws.{LeastSphereMapUnique, SameSetSameVertices, SameVerticesSameSet};
 
 use nef_complex::{Complex, Vertex};
 use nef_smap::SphereMap;
@@ -53,7 +53,7 @@ pub fn compare(a: &Complex, b: &Complex) -> bool
 /// Two least maps with one mark and one label in each direction are equal. So complexes that show one set have the same
 /// vertices and edges; and sets with the same vertices are one set.
 pub fn unique_laws()
-    ensures least { LeastUnique }
+    ensures least { LeastSphereMapUnique }
     ensures vertices { SameSetSameVertices }
     ensures sets { SameVerticesSameSet }
 {}

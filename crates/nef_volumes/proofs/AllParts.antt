@@ -1,5 +1,5 @@
 -- The parts of a complex, put together.
-use Rattle.nef_volumes.proofs.Prelude.{◌≡◌, ℕ, ◌<◌, List, [], ◌∷◌, length, map, arith, refl, sym, subst, IsAt, Chained, Label, Plane, At, Item, item_pos, item_neg, is-at_one, is-at_within, Vertex, Complex, Corner, IsCorner, VertexSide, HasSideLabel, corner_of, VolumeLink, IsCycle, Cycles, IsFacetOf, IsVolumeOf, VolumeNumbers, pos_of, neg_of, IsFacetAt, cycle_corners, IsFacet, shell_sides, IsParts, SfaceNumbers, Shells, Cycle, Facet, Parts, Shell, IsFacetParts, AreVolumeLabels, HasItem, IsFirstCorner, HasFirst, AreFacetsOf}
+use Rattle.nef_volumes.proofs.Prelude.{◌≡◌, ℕ, ◌<◌, List, [], ◌∷◌, length, map, arith, refl, sym, subst, IsAt, Chained, Label, Plane, Item, item_pos, item_neg, is-at_one, is-at_within, Vertex, Complex, Corner, IsCorner, VertexSide, HasSideLabel, corner_of, VolumeLink, IsCycle, Cycles, IsFacetOf, IsVolumeOf, VolumeNumbers, pos_of, neg_of, IsFacetAt, cycle_corners, IsFacet, shell_sides, IsParts, SfaceNumbers, Shells, Cycle, Facet, Parts, Shell, IsFacetParts, AreVolumeLabels, HasItem, IsFirstCorner, HasFirst, AreFacetsOf}
 use Rattle.nef_space.proofs.Lists.{is-at_none}
 use Rattle.nef_complex.specs.declared.complex.Corner.{Corner as ProgramCorner}
 use Rattle.nef_volumes.proofs.Components.{numbered-item}
@@ -13,9 +13,9 @@ module _ (C : Complex) (planes : List Plane) (marks : List Label) (cycles : List
   first-corner n [] Y j p = let r = Y.complete j p in absurd (is-at_none r.3)
   first-corner n (x ∷ xs) Y j p = by x.corners refl (Y.cycles 0 (map corner_of x.corners) refl) (λ k h. Y.within 0 0 (map corner_of x.corners) k refl h)
     where
-      by : (ks : List ProgramCorner) → x.corners ≡ ks → IsCycle C (map corner_of ks) → ((k : Corner) → At (map corner_of x.corners) 0 k → IsFacetOf facet_of k n) → (k : ProgramCorner) × IsFirstCorner (x ∷ xs) k × IsFacetOf facet_of (corner_of k) n
+      by : (ks : List ProgramCorner) → x.corners ≡ ks → IsCycle C (map corner_of ks) → ((k : Corner) → IsAt (map corner_of x.corners) 0 k → IsFacetOf facet_of k n) → (k : ProgramCorner) × IsFirstCorner (x ∷ xs) k × IsFacetOf facet_of (corner_of k) n
       by [] e c w = absurd c
-      by (k ∷ ks) e c w = (k, (x, refl, subst (λ (zs : List ProgramCorner). IsAt zs 0 k) (sym e) refl), w (corner_of k) (subst (λ (zs : List ProgramCorner). At (map corner_of zs) 0 (corner_of k)) (sym e) refl))
+      by (k ∷ ks) e c w = (k, (x, refl, subst (λ (zs : List ProgramCorner). IsAt zs 0 k) (sym e) refl), w (corner_of k) (subst (λ (zs : List ProgramCorner). IsAt (map corner_of zs) 0 (corner_of k)) (sym e) refl))
 
   first-of : (n : ℕ) (xs : List Cycle) → IsAt cycles n xs → (k : ProgramCorner) × IsFirstCorner xs k × IsFacetOf facet_of (corner_of k) n
   first-of n xs a =

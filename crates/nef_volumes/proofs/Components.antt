@@ -1,5 +1,5 @@
 -- Points at items are joined exactly where the items have one facet number, and points at sides where the sides have one volume number; so facets and volumes are the components of the points with two flat directions and with three.
-use Rattle.nef_volumes.proofs.Prelude.{◌≡◌, ◌↔◌, ℕ, ◌<◌, inr, List, length, arith, subst, length-map, FlatDim, Joined, Place, Set, Label, Item, items, is-at_within, is-at_some, at-from_get, at-some, side-has, at-within, Vertex, Complex as PlainComplex, Corner, IsCorner, VertexSide, HasSideLabel, Shows, same-itself, vertex_of, edge_of, complex_of, IsAtItem, IsAtSide, IsUpright, sides-have_points, sides-joined, HasComponents, IsFacetOf, IsVolumeOf, FacetNumbers, IsParts, Parts, FacetsAreComponents, VolumesAreComponents, AreCounted, HasItem}
+use Rattle.nef_volumes.proofs.Prelude.{◌≡◌, ◌↔◌, ℕ, ◌<◌, inr, List, length, arith, subst, length-map, FlatDim, Joined, SpacePoint, Set, Label, Item, items, is-at_within, is-at_some, at-from_get, at-some, side-has, at-within, Vertex, Complex as PlainComplex, Corner, IsCorner, VertexSide, HasSideLabel, Shows, same-itself, vertex_of, edge_of, complex_of, IsAtItem, IsAtSide, IsUpright, sides-have_points, sides-joined, HasComponents, IsFacetOf, IsVolumeOf, FacetNumbers, IsParts, Parts, FacetsAreComponents, VolumesAreComponents, AreCounted, HasItem}
 use Rattle.nef_complex.specs.declared.complex.Complex.{Complex}
 use Rattle.law_links.proofs.ItemLinks.{items-joined}
 use Rattle.law_links.proofs.ItemPoints.{items-have_points}
@@ -42,7 +42,7 @@ volume-side C rows x n (j, J, X) = (J.label, (J.vertex, J.is_vertex, side-has J.
 module _ (c : Complex) (p : Parts) (I : IsParts (complex_of c) p) where
   module _ (s : Set) (S : Shows s (complex_of c)) (U : IsUpright (complex_of c)) where
     -- ---- one number just where points are joined
-    facets-joined : (j k : Corner) (m n : ℕ) (y z : Place) → IsFacetOf p.facet_of j m → IsFacetOf p.facet_of k n → IsAtItem s (complex_of c) j y → IsAtItem s (complex_of c) k z → Joined s y z ↔ (m ≡ n)
+    facets-joined : (j k : Corner) (m n : ℕ) (y z : SpacePoint) → IsFacetOf p.facet_of j m → IsFacetOf p.facet_of k n → IsAtItem s (complex_of c) j y → IsAtItem s (complex_of c) k z → Joined s y z ↔ (m ≡ n)
     facets-joined j k m n y z a b f g =
         let N = I.facet_numbers in
         let one = N.numbered.by_class j k m n a b in (
@@ -50,7 +50,7 @@ module _ (c : Complex) (p : Parts) (I : IsParts (complex_of c) p) where
           λ e. items-joined s (complex_of c) j k y z S (one.0 e) f g,
         )
 
-    volumes-joined : (x w : VertexSide) (m n : ℕ) (y z : Place) → IsVolumeOf (complex_of c) p.volume_of x m → IsVolumeOf (complex_of c) p.volume_of w n → IsAtSide s (complex_of c) x y → IsAtSide s (complex_of c) w z → Joined s y z ↔ (m ≡ n)
+    volumes-joined : (x w : VertexSide) (m n : ℕ) (y z : SpacePoint) → IsVolumeOf (complex_of c) p.volume_of x m → IsVolumeOf (complex_of c) p.volume_of w n → IsAtSide s (complex_of c) x y → IsAtSide s (complex_of c) w z → Joined s y z ↔ (m ≡ n)
     volumes-joined x w m n y z a b f g =
         let N = I.volume_numbers in
         let one = N.numbered.by_class x w m n a b in (
@@ -63,16 +63,16 @@ module _ (c : Complex) (p : Parts) (I : IsParts (complex_of c) p) where
     C = complex_of c
 
     -- the point is at an item, or at a side, with the number
-    abbrev InFacet : ℕ → Place → Type 0
+    abbrev InFacet : ℕ → SpacePoint → Type 0
     InFacet i y = (k : Corner) × IsFacetOf p.facet_of k i × IsAtItem s (complex_of c) k y
 
-    abbrev InVolume : ℕ → Place → Type 0
+    abbrev InVolume : ℕ → SpacePoint → Type 0
     InVolume i y = (x : VertexSide) × IsVolumeOf (complex_of c) p.volume_of x i × IsAtSide s (complex_of c) x y
 
     facets-counted : HasComponents s 2 (length p.facets)
     facets-counted = components-by s 2 (length p.facets) InFacet some flat one reach
       where
-        some : (i : ℕ) → i < length p.facets → (y : Place) × InFacet i y
+        some : (i : ℕ) → i < length p.facets → (y : SpacePoint) × InFacet i y
         some i l =
             let f = is-at_some p.facets i l in
             let F = I.facets i f.0 f.1 in
@@ -81,13 +81,13 @@ module _ (c : Complex) (p : Parts) (I : IsParts (complex_of c) p) where
             let q = items-have_points s (complex_of c) k.0 x.0 x.1 S x.2 in
             (q.0, (k.0, k.1, q.1))
 
-        flat : (i : ℕ) (y : Place) → InFacet i y → FlatDim s y 2
+        flat : (i : ℕ) (y : SpacePoint) → InFacet i y → FlatDim s y 2
         flat i y (k, a, A) = A.even y (inr (same-itself y))
 
-        one : (i j : ℕ) (y z : Place) → InFacet i y → InFacet j z → (Joined s y z → i ≡ j) × (i ≡ j → Joined s y z)
+        one : (i j : ℕ) (y z : SpacePoint) → InFacet i y → InFacet j z → (Joined s y z → i ≡ j) × (i ≡ j → Joined s y z)
         one i j y z (k, a, A) (l, b, B) = facets-joined k l i j y z a b A B
 
-        reach : (q : Place) → FlatDim s q 2 → (i : ℕ) × (r : Place) × (i < length p.facets) × InFacet i r × Joined s q r
+        reach : (q : SpacePoint) → FlatDim s q 2 → (i : ℕ) × (r : SpacePoint) × (i < length p.facets) × InFacet i r × Joined s q r
         reach q f =
             let (k, r, A, J) = points-reach_items s (complex_of c) q S f in
             let n = item-numbered (complex_of c) p.facet_of I.facet_numbers k A.vertex A.item A.corner in
@@ -96,7 +96,7 @@ module _ (c : Complex) (p : Parts) (I : IsParts (complex_of c) p) where
     volumes-counted : HasComponents s 3 (length p.volumes)
     volumes-counted = components-by s 3 (length p.volumes) InVolume some flat one reach
       where
-        some : (i : ℕ) → i < length p.volumes → (y : Place) × InVolume i y
+        some : (i : ℕ) → i < length p.volumes → (y : SpacePoint) × InVolume i y
         some i l =
             let f = is-at_some p.volumes i l in
             let V = I.volumes i f.0 f.1 in
@@ -105,13 +105,13 @@ module _ (c : Complex) (p : Parts) (I : IsParts (complex_of c) p) where
             let q = sides-have_points s (complex_of c) x.0 h.0 S h.1 in
             (q.0, (x.0, x.1, q.1))
 
-        flat : (i : ℕ) (y : Place) → InVolume i y → FlatDim s y 3
+        flat : (i : ℕ) (y : SpacePoint) → InVolume i y → FlatDim s y 3
         flat i y (x, a, A) = A.even y (inr (same-itself y))
 
-        one : (i j : ℕ) (y z : Place) → InVolume i y → InVolume j z → (Joined s y z → i ≡ j) × (i ≡ j → Joined s y z)
+        one : (i j : ℕ) (y z : SpacePoint) → InVolume i y → InVolume j z → (Joined s y z → i ≡ j) × (i ≡ j → Joined s y z)
         one i j y z (x, a, A) (w, b, B) = volumes-joined x w i j y z a b A B
 
-        reach : (q : Place) → FlatDim s q 3 → (i : ℕ) × (r : Place) × (i < length p.volumes) × InVolume i r × Joined s q r
+        reach : (q : SpacePoint) → FlatDim s q 3 → (i : ℕ) × (r : SpacePoint) × (i < length p.volumes) × InVolume i r × Joined s q r
         reach q f =
             let (x, r, A, J) = points-reach_sides s (complex_of c) q S f in
             let n = numbered-side (complex_of c) p.volume_of I.volume_numbers x A.label (A.vertex, A.is_vertex, A.has) in

@@ -1,11 +1,11 @@
 -- Sides of items that links join are joined on both sides.
-use Rattle.nef_volumes.proofs.Prelude.{◌≡◌, ℕ, inl, inr, refl, sym, subst, Chained, At, Item, arc_item, Side, item_pos, item_neg, pos_item, neg_item, at-arc, chain-link, chain-map, Place, Form, Vector, Vertex, Complex, Corner, IsCorner, meets_vertex, meets_edge, RayNames, VertexSide, LinkAlong, FacetLink, IsSideOf, pos_arcs, neg_arcs, VolumeLink, pos_of, neg_of, HasItem}
+use Rattle.nef_volumes.proofs.Prelude.{◌≡◌, ℕ, inl, inr, refl, sym, subst, Chained, IsAt, Item, arc_item, Side, item_pos, item_neg, pos_item, neg_item, at-arc, chain-link, chain-map, SpacePoint, Form, Vector, Vertex, Complex, Corner, IsCorner, meets_vertex, meets_edge, RayNames, VertexSide, LinkAlong, FacetLink, IsSideOf, pos_arcs, neg_arcs, VolumeLink, pos_of, neg_of, HasItem}
 
 module _ (C : Complex) where
   -- ---- there are items at linked corners
-  named-item : (h : Form) (p : Place) (d : Vector) (k : Corner) → RayNames C h p d k → HasItem C k
+  named-item : (h : Form) (p : SpacePoint) (d : Vector) (k : Corner) → RayNames C h p d k → HasItem C k
   named-item h p d k (meets_vertex i, I, (v, x, e, K, r, o)) = (v, x, K)
-  named-item h p d k (meets_edge i, I, (e, v, a, l, f, b, t, r, o)) = (v, arc_item a, record { vertex = subst (λ (n : ℕ). At C.vertices n v) (sym f) b; item = at-arc v.map.arcs v.map.sloop k.item a t })
+  named-item h p d k (meets_edge i, I, (e, v, a, l, f, b, t, r, o)) = (v, arc_item a, record { vertex = subst (λ (n : ℕ). IsAt C.vertices n v) (sym f) b; item = at-arc v.map.arcs v.map.sloop k.item a t })
 
   side-pos : (k : Corner) (v : Vertex) (x : Item) → IsCorner C k v x → IsSideOf C (pos_of k) k.vertex (pos_item k.item)
   side-pos k v x K = (item_pos x, refl, refl, (v, K.vertex, (x, K.item, refl)))
@@ -19,12 +19,12 @@ module _ (C : Complex) where
   low-corner : (j k : Corner) (A : LinkAlong C j k) → HasItem C j
   low-corner j k A =
       let B = A.along in let E = B.ends in
-      (B.low_vertex, arc_item B.low_arc, record { vertex = subst (λ (n : ℕ). At C.vertices n B.low_vertex) (sym A.from_low) E.low; item = at-arc B.low_vertex.map.arcs B.low_vertex.map.sloop j.item B.low_arc B.is_low })
+      (B.low_vertex, arc_item B.low_arc, record { vertex = subst (λ (n : ℕ). IsAt C.vertices n B.low_vertex) (sym A.from_low) E.low; item = at-arc B.low_vertex.map.arcs B.low_vertex.map.sloop j.item B.low_arc B.is_low })
 
   high-corner : (j k : Corner) (A : LinkAlong C j k) → HasItem C k
   high-corner j k A =
       let B = A.along in let E = B.ends in
-      (B.high_vertex, arc_item B.high_arc, record { vertex = subst (λ (n : ℕ). At C.vertices n B.high_vertex) (sym A.to_high) E.high; item = at-arc B.high_vertex.map.arcs B.high_vertex.map.sloop k.item B.high_arc B.is_high })
+      (B.high_vertex, arc_item B.high_arc, record { vertex = subst (λ (n : ℕ). IsAt C.vertices n B.high_vertex) (sym A.to_high) E.high; item = at-arc B.high_vertex.map.arcs B.high_vertex.map.sloop k.item B.high_arc B.is_high })
 
   link-pos : (j k : Corner) → FacetLink C j k → VolumeLink C (pos_of j) (pos_of k)
   link-pos j k (inl A) =

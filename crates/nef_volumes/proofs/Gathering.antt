@@ -1,5 +1,5 @@
 -- Sides put into the lists of their shells, one after the other.
-use Rattle.nef_volumes.proofs.Prelude.{◌≡◌, ◌≢◌, ℕ, suc, ◌+◌, ◌<◌, ◌≤◌, pos, ◌⊎◌, inl, inr, ⊎_elim, List, [], ◌∷◌, ◌++◌, length, set, arith, refl, ap, sym, ◌∙◌, subst, cases_order, ints, IsAt, Either, earlier, last, is-at_either, is-at_one, is-at_within, less-or-last, set-same, set-at, IsNameBelow, AreHeld, IsShellOf, AreNumberedNames, IsNamedBefore, AreGathered, IsPut}
+use Rattle.nef_volumes.proofs.Prelude.{◌≡◌, ◌≢◌, ℕ, suc, ◌+◌, ◌<◌, ◌≤◌, pos, ◌⊎◌, inl, inr, ⊎_elim, List, [], ◌∷◌, ◌++◌, length, set, arith, refl, ap, sym, ◌∙◌, subst, cases_order, ints, IsAt, Either, earlier, last, is-at_either, is-at_one, is-at_within, less-or-last, set-same, set-at, IsNameBelow, AreRowsByNumber, IsShellOf, AreNumberedNames, IsNamedBefore, AreGathered, IsPut}
 use Rattle.nef_complex.specs.declared.parts.Side.{Side}
 use Rattle.nef_volumes.proofs.Held.{held-none, held-as, held-opened, held-more}
 
@@ -62,12 +62,12 @@ module _ (rows : List (List ℕ)) (A : AreNumberedNames rows) (i k : ℕ) (hs : 
   one-more s (inr (e, h)) = ⊎_elim (λ l. inl (inr (e, l))) (λ f. inr (same-name s.vertex i s.side k e f)) (less-or-last s.side k h)
 
   module _ (new : List (List Side)) (P : IsPut n x hs new) where
-    opened-held : AreHeld (IsShellOf rows) (IsNamedBefore i k) IsNameBelow P.rows
+    opened-held : AreRowsByNumber (IsShellOf rows) (IsNamedBefore i k) IsNameBelow P.rows
     opened-held = by P.opened
       where
-        by : ((P.rows ≡ hs) × (n < length hs)) ⊎ ((P.rows ≡ hs ++ [] ∷ []) × (n ≡ length hs)) → AreHeld (IsShellOf rows) (IsNamedBefore i k) IsNameBelow P.rows
-        by (inl e) = subst (AreHeld (IsShellOf rows) (IsNamedBefore i k) IsNameBelow) (sym e.0) G.held
-        by (inr e) = subst (AreHeld (IsShellOf rows) (IsNamedBefore i k) IsNameBelow) (sym e.0) (held-opened (IsShellOf rows) (IsNamedBefore i k) IsNameBelow hs G.held)
+        by : ((P.rows ≡ hs) × (n < length hs)) ⊎ ((P.rows ≡ hs ++ [] ∷ []) × (n ≡ length hs)) → AreRowsByNumber (IsShellOf rows) (IsNamedBefore i k) IsNameBelow P.rows
+        by (inl e) = subst (AreRowsByNumber (IsShellOf rows) (IsNamedBefore i k) IsNameBelow) (sym e.0) G.held
+        by (inr e) = subst (AreRowsByNumber (IsShellOf rows) (IsNamedBefore i k) IsNameBelow) (sym e.0) (held-opened (IsShellOf rows) (IsNamedBefore i k) IsNameBelow hs G.held)
 
     now : IsNamedBefore i (k + 1) x
     now = inr (refl, omega arith)

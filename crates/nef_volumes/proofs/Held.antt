@@ -1,12 +1,12 @@
 -- Things in rows by their numbers: one thing more.
-use Rattle.nef_volumes.proofs.Prelude.{◌≡◌, ℕ, ◌<◌, ◌⊎◌, inl, inr, ⊎_elim, List, [], ◌∷◌, ◌++◌, length, set, arith, sym, subst, cases_order, IsAt, Either, earlier, last, is-at_either, is-at_one, is-at_within, is-at_left, is-at_last, set-same, set-other, set-at, AreHeld}
+use Rattle.nef_volumes.proofs.Prelude.{◌≡◌, ℕ, ◌<◌, ◌⊎◌, inl, inr, ⊎_elim, List, [], ◌∷◌, ◌++◌, length, set, arith, sym, subst, cases_order, IsAt, Either, earlier, last, is-at_either, is-at_one, is-at_within, is-at_left, is-at_last, set-same, set-other, set-at, AreRowsByNumber}
 
 module _ {X : Type 0} (Number : X → ℕ → Type 0) where
   no-thing : (q : ℕ) (x : X) → IsAt {X = X} [] q x → ⊥
   no-thing q x a = let w = is-at_within {X = X} [] q x a in omega (arith, w)
 
   -- empty rows hold nothing
-  pub held-none : (In : X → Type 0) (Below : X → X → Type 0) (rows : List (List X)) → ((m : ℕ) (row : List X) → IsAt rows m row → row ≡ []) → ((x : X) → In x → ⊥) → AreHeld Number In Below rows
+  pub held-none : (In : X → Type 0) (Below : X → X → Type 0) (rows : List (List X)) → ((m : ℕ) (row : List X) → IsAt rows m row → row ≡ []) → ((x : X) → In x → ⊥) → AreRowsByNumber Number In Below rows
   held-none In Below rows none out = record {
     each = λ m q row x a b. absurd (no-thing q x (subst (λ (r : List X). IsAt r q x) (none m row a) b));
     all = λ x m n i. absurd (out x i);
@@ -15,16 +15,16 @@ module _ {X : Type 0} (Number : X → ℕ → Type 0) where
 
   -- what is in, and the order, said otherwise
   pub held-as : (In Other : X → Type 0) (Below Over : X → X → Type 0) (rows : List (List X)) → ((x : X) (m : ℕ) → Number x m → In x → Other x) → ((x : X) (m : ℕ) → Number x m → Other x → In x) → ((x y : X) → Below x y → Over x y)
-      → AreHeld Number In Below rows → AreHeld Number Other Over rows
+      → AreRowsByNumber Number In Below rows → AreRowsByNumber Number Other Over rows
   held-as In Other Below Over rows to from over H = record {
     each = λ m q row x a b. let r = H.each m q row x a b in (r.0, to x m r.0 r.1);
     all = λ x m n i. H.all x m n (from x m n i);
     ordered = λ m q r row x y l a b c. over x y (H.ordered m q r row x y l a b c);
   }
 
-  module _ (In : X → Type 0) (Below : X → X → Type 0) (rows : List (List X)) (H : AreHeld Number In Below rows) where
+  module _ (In : X → Type 0) (Below : X → X → Type 0) (rows : List (List X)) (H : AreRowsByNumber Number In Below rows) where
     -- one more row, an empty one
-    pub held-opened : AreHeld Number In Below (rows ++ [] ∷ [])
+    pub held-opened : AreRowsByNumber Number In Below (rows ++ [] ∷ [])
     held-opened = record {
       each = λ m q row x a b. each-in m q row x b (is-at_either rows m row [] a);
       all = λ x m n i. let r = H.all x m n i in (r.0, r.1, is-at_left rows ([] ∷ []) m r.0 r.2, r.3);
@@ -78,7 +78,7 @@ module _ {X : Type 0} (Number : X → ℕ → Type 0) where
           let s = one m (subst (λ (z : X). Number z m) e a) in
           (longer, length row, subst (λ (p : ℕ). IsAt (set rows n longer) p longer) (sym s) here, subst (λ (z : X). IsAt longer (length row) z) (sym e) (is-at_last row x))
 
-      pub held-more : AreHeld Number Now Below (set rows n longer)
+      pub held-more : AreRowsByNumber Number Now Below (set rows n longer)
       held-more = record {
         each = λ m q w y a b. each-row m q w y (set-at rows n m longer w a) b;
         all = λ y m a i. found y m a (cases y i);

@@ -1,17 +1,17 @@
 -- The ties of the sides of tied items, and of the sides round the ends of edges.
-use Rattle.nef_volumes.proofs.Prelude.{◌≡◌, ℕ, ◌⊎◌, inl, inr, List, [], map, Bool, true, false, cond, arith, refl, ap, sym, ◌∙◌, subst, Contains, IsAt, Label, At, Item, items, item_pos, item_neg, Side, around_svertex, pos_item, neg_item, HasSide, at-one, number_of, at-map, at-from_get, at-some, Vertex, Edge, Complex, Corner, VertexSide, HasSideLabel, IsCellIn, AreTied, AreTiedWithin, Cell, Tie, IsSideOf, count_items, cell_of, corner_at, Adds, Any, adds-both, side_cell, IsCellOf, AreTiedSides, AreTiesOf, side_at, IsItemSide, IsSideTie, IsTieOfItems, LinkOfItems, LinkOfEnds, IsAroundCell, IsTieOfEnds}
+use Rattle.nef_volumes.proofs.Prelude.{◌≡◌, ℕ, ◌⊎◌, inl, inr, List, [], map, Bool, true, false, cond, arith, refl, ap, sym, ◌∙◌, subst, Contains, IsAt, Label, Item, items, item_pos, item_neg, Side, around_svertex, pos_item, neg_item, HasSide, at-one, side_number, at-map, at-from_get, at-some, Vertex, Edge, Complex, Corner, VertexSide, HasSideLabel, IsCellIn, AreTied, AreTiedWithin, Cell, Tie, IsSideOf, count_items, cell_of, corner_at, Adds, Any, adds-both, side_cell, IsCellOf, AreTiedSides, AreTiesOf, side_at, IsItemSide, IsSideTie, IsTieOfItems, LinkOfItems, LinkOfEnds, IsAroundCell, IsTieOfEnds}
 use Rattle.nef_volumes.proofs.SideCells.{tie-chain, cell-is}
 use Rattle.nef_volumes.proofs.OutsideTies.{only-added}
 
 -- there is an item at each element of the table of items
-pub item-there : (C : Complex) (a : Cell) → IsCellIn (map count_items C.vertices) a → (v : Vertex) × (x : Item) × At C.vertices a.row v × At (items v.map) a.column x
+pub item-there : (C : Complex) (a : Cell) → IsCellIn (map count_items C.vertices) a → (v : Vertex) × (x : Item) × IsAt C.vertices a.row v × IsAt (items v.map) a.column x
 item-there C a w =
     let r = at-map count_items C.vertices a.row w.count (at-from_get (map count_items C.vertices) a.row w.count w.is_row) in
     let n = r.2 in let l = w.within in
     let x = at-some (items r.0.map) a.column (omega (arith, n, l)) in
     (r.0, x.0, r.1, x.1)
 
-has-side : (v : Vertex) (k : ℕ) (x : Item) (b : Bool) → At (items v.map) k x → HasSide v.map (side_at b k) (cond b (item_pos x) (item_neg x))
+has-side : (v : Vertex) (k : ℕ) (x : Item) (b : Bool) → IsAt (items v.map) k x → HasSide v.map (side_at b k) (cond b (item_pos x) (item_neg x))
 has-side v k x true i = (x, i, refl)
 has-side v k x false i = (x, i, refl)
 
@@ -19,7 +19,7 @@ one-tie : (a b c d : Cell) → a ≡ c → b ≡ d → ◌≡◌ {A = Tie} (reco
 one-tie a b c d e f = cc
 
 item_side-one : (C : Complex) (b : Bool) (i a c : Cell) → IsItemSide C b i a → IsItemSide C b i c → a ≡ c
-item_side-one C b i a c (v, f, e) (w, g, h) = e ∙ ap (λ (u : Vertex). side_cell i.row (number_of u.map (side_at b i.column))) (at-one C.vertices i.row v w f g) ∙ sym h
+item_side-one C b i a c (v, f, e) (w, g, h) = e ∙ ap (λ (u : Vertex). side_cell i.row (side_number u.map (side_at b i.column))) (at-one C.vertices i.row v w f g) ∙ sym h
 
 pub side_tie-one : (C : Complex) (b : Bool) (t u w : Tie) → IsSideTie C b t u → IsSideTie C b t w → u ≡ w
 side_tie-one C b t u w (f, g) (h, i) = one-tie u.first u.second w.first w.second (item_side-one C b t.first u.first w.first f h) (item_side-one C b t.second u.second w.second g i)
@@ -50,7 +50,7 @@ module _ (C : Complex) (items : List Tie) (W : AreTiedWithin (map count_items C.
     end-there =
         let h = side-there in
         let k = cell-is C (side_of b i) h.1.0 h.0 h.1.1 h.1.2 in
-        subst (IsCellOf C (side_of b i)) (ap (λ (u : Vertex). side_cell i.row (number_of u.map (side_at b i.column))) (at-one C.vertices i.row h.1.0 s.0 h.1.1 s.1) ∙ sym s.2) k
+        subst (IsCellOf C (side_of b i)) (ap (λ (u : Vertex). side_cell i.row (side_number u.map (side_at b i.column))) (at-one C.vertices i.row h.1.0 s.0 h.1.1 s.1) ∙ sym s.2) k
 
   of-sides : (b : Bool) (k : ℕ) (t u : Tie) → IsAt items k t → IsSideTie C b t u
       → ((x y : VertexSide) (j l : Corner) → x ≡ side_of b t.first → y ≡ side_of b t.second → j ≡ corner_at t.first → l ≡ corner_at t.second → (m : Label) × HasSideLabel C x m → (n : Label) × HasSideLabel C y n
@@ -83,9 +83,9 @@ module _ (C : Complex) (items : List Tie) (W : AreTiedWithin (map count_items C.
   -- the element of a side of an item
   cell-there : (b : Bool) (i : Cell) (j : Corner) (x : VertexSide) → i ≡ cell_of j → IsSideOf C x j.vertex (side_at b j.item) → (a : Cell) × IsCellOf C x a × IsItemSide C b i a
   cell-there b i j x e (l, f, g, (v, a, h)) =
-      let s = side_cell x.vertex (number_of v.map x.side) in
-      let p : s ≡ side_cell j.vertex (number_of v.map (side_at b j.item)) = ap (λ (n : ℕ). side_cell n (number_of v.map x.side)) f ∙ ap (λ (o : Side). side_cell j.vertex (number_of v.map o)) g in
-      (s, cell-is C x v l a h, subst (λ (r : Cell). IsItemSide C b r s) (sym e) (v, subst (λ (n : ℕ). At C.vertices n v) f a, p))
+      let s = side_cell x.vertex (side_number v.map x.side) in
+      let p : s ≡ side_cell j.vertex (side_number v.map (side_at b j.item)) = ap (λ (n : ℕ). side_cell n (side_number v.map x.side)) f ∙ ap (λ (o : Side). side_cell j.vertex (side_number v.map o)) g in
+      (s, cell-is C x v l a h, subst (λ (r : Cell). IsItemSide C b r s) (sym e) (v, subst (λ (n : ℕ). IsAt C.vertices n v) f a, p))
 
   tied : (b : Bool) (x y : VertexSide) (j k : Corner) → Link j k → ((t u : Tie) → IsSideTie C b t u → IsSideTie C true t u ⊎ IsSideTie C false t u) → IsSideOf C x j.vertex (side_at b j.item) → IsSideOf C y k.vertex (side_at b k.item) → AreTiedSides C ts x y
   tied b x y j k L either f g =
@@ -106,7 +106,7 @@ module _ (C : Complex) (items : List Tie) (W : AreTiedWithin (map count_items C.
 
 -- ---- the sides round the ends of edges
 around-one : (C : Complex) (i k : ℕ) (a b : Cell) → IsAroundCell C i k a → IsAroundCell C i k b → a ≡ b
-around-one C i k a b (v, u, l, f, g, h, e) (w, x, m, p, q, r, s) = e ∙ ap (λ (z : Vertex). side_cell i (number_of z.map (around_svertex k))) (at-one C.vertices i v w f p) ∙ sym s
+around-one C i k a b (v, u, l, f, g, h, e) (w, x, m, p, q, r, s) = e ∙ ap (λ (z : Vertex). side_cell i (side_number z.map (around_svertex k))) (at-one C.vertices i v w f p) ∙ sym s
 
 pub ends-one : (C : Complex) (k : ℕ) (t u : Tie) → IsTieOfEnds C k t → IsTieOfEnds C k u → t ≡ u
 ends-one C k t u (e, a, f, g) (d, b, h, i) =
@@ -131,9 +131,9 @@ module _ (C : Complex) (ts : List Tie) (A : Adds (Any (IsTieOfEnds C)) [] ts) wh
 
   round-there : (i k : ℕ) (x : VertexSide) → IsSideOf C x i (around_svertex k) → (a : Cell) × IsCellOf C x a × IsAroundCell C i k a
   round-there i k x (l, f, g, (v, a, h)) =
-      let s = side_cell x.vertex (number_of v.map x.side) in
+      let s = side_cell x.vertex (side_number v.map x.side) in
       let u = subst (λ (o : Side). HasSide v.map o l) g h in
-      (s, cell-is C x v l a h, (v, u.0, l, subst (λ (n : ℕ). At C.vertices n v) f a, u.1, u.2, ap (λ (n : ℕ). side_cell n (number_of v.map x.side)) f ∙ ap (λ (o : Side). side_cell i (number_of v.map o)) g))
+      (s, cell-is C x v l a h, (v, u.0, l, subst (λ (n : ℕ). IsAt C.vertices n v) f a, u.1, u.2, ap (λ (n : ℕ). side_cell n (side_number v.map x.side)) f ∙ ap (λ (o : Side). side_cell i (side_number v.map o)) g))
 
   ends-all : (x y : VertexSide) → LinkOfEnds C x y → AreTiedSides C ts x y
   ends-all x y (k, e, a, f, g) =

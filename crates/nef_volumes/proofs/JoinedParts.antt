@@ -1,5 +1,5 @@
 -- Points are joined exactly where they lie in one part.
-use Rattle.nef_volumes.proofs.Prelude.{Bool, ◌≡◌, ℕ, arith, refl, ap, subst, ◌↔◌, Decides-like, Decides-eqb, FlatDim, Joined, Place, Set, FlatDim-one, joined-both, joined-turned, Complex as PlainComplex, edge-points, facet-of, facet-point, dim-same, free-flat, facet-at, complex_of, ShowsSet, IsParts, Parts, IsPartAt, Volume}
+use Rattle.nef_volumes.proofs.Prelude.{Bool, ◌≡◌, ℕ, arith, refl, ap, subst, ◌↔◌, Decides-like, Decides-eqb, FlatDim, Joined, SpacePoint, Set, FlatDim-one, joined-both, joined-turned, Complex as PlainComplex, edge-points, facet-of, facet-point, dim-same, free-flat, facet-at, complex_of, ShowsSet, IsParts, Parts, IsPartAt, Volume}
 use Rattle.std.specs.Bool.{Decides}
 use Rattle.nef_conn.proofs.Reaching.{corners-reached, sides-reached}
 use Rattle.nef_conn.proofs.OnEdges.{joined-as_flat, joined-vertices, joined-edges}
@@ -21,14 +21,14 @@ module _ (s : Set) (c : Complex) (p : Parts) (S : ShowsSet s c) (I : IsParts (co
   flatness (Volume n) = 3
 
   -- the number of flat directions of a point in a part
-  part-flat : (y : Place) (a : Part) → IsPartAt (complex_of c) p y a → FlatDim s y (flatness a)
+  part-flat : (y : SpacePoint) (a : Part) → IsPartAt (complex_of c) p y a → FlatDim s y (flatness a)
   unfolding flatness
   part-flat y (Vertex n) (v, h, e) = let S' = S.shows in dim-same s v.point y 0 e (S'.vertices n v h)
   part-flat y (Edge n) (e, v, w, a, H, b) = (edge-points s (complex_of c) n e v w y S.shows a H b).0
   part-flat y (Facet n) (k, H, h) = (facet-point s (complex_of c) S.shows H.beside H.vertex H.item y H.is_beside H.facet_point).dim
   part-flat y (Volume n) (x, (off, R), h) = free-flat s (complex_of c) S.shows (facet-at s (complex_of c) S.shows) (facet-of s (complex_of c) S.shows) y off
 
-  module _ (y z : Place) where
+  module _ (y z : SpacePoint) where
     -- where points are joined, their parts are of one kind
     one-kind : (a b : Part) → IsPartAt (complex_of c) p y a → IsPartAt (complex_of c) p z b → Joined s y z → flatness a ≡ flatness b
     one-kind a b A B J = FlatDim-one s z (flatness a) (flatness b) (joined-as_flat s y z (flatness a) J (part-flat y a A)) (part-flat z b B)

@@ -1,5 +1,5 @@
 -- The classes that ties join, and further ties besides, by links between the numbers of the former.
-use Rattle.nef_volumes.proofs.Prelude.{◌≡◌, ℕ, ◌<◌, ◌⊎◌, inl, inr, List, ◌++◌, arith, refl, ◌∙◌, subst, ◌↔◌, Result, Ok, Err, IfOk, Contains, Contains-append_left, Contains-append_right, Contains-append_cases, IsAt, Chained, NumbersClasses, AreLinked, AreWithin, AreClasses, AreNumbered, IsCellIn, AreTiedWithin, AreTied, HasCounts, IsCellNumber, AreNumbers, Link, Cell, Tie, chain-here, chain-link, is-at_one, is-at_within, is-at_some, HasCellNumber, AreNumbersBelow, HaveNumbers, AreNumberLinks, AreRenumbered}
+use Rattle.nef_volumes.proofs.Prelude.{◌≡◌, ℕ, ◌<◌, ◌⊎◌, inl, inr, List, ◌++◌, arith, refl, ◌∙◌, subst, ◌↔◌, Result, Ok, Err, IfOk, Contains, Contains-append_left, Contains-append_right, Contains-append_cases, IsAt, Chained, NumbersClasses, AreLinked, LinksAreBelow, AreClasses, AreNumbered, IsCellIn, AreTiedWithin, AreTied, HasCounts, IsCellNumber, AreNumbers, Link, Cell, Tie, chain-here, chain-link, is-at_one, is-at_within, is-at_some, HasCellNumber, TableIsBelow, HaveNumbers, AreNumberLinks, AreRenumbered}
 use Rattle.nef_classes.proofs.ByAppearance.{numbers-classes}
 use Rattle.nef_volumes.proofs.Agree.{chains-agree}
 use Rattle.nef_volumes.proofs.SideCells.{contains-at, at-contained, tie-chain, more-tied}
@@ -22,7 +22,7 @@ pub numbers-there : (counts : List ℕ) (rows : List (List ℕ)) (ts : List Tie)
 numbers-there counts rows ts H W k t a = let w = W k t a in (cell-number_there counts rows H t.first w.0, cell-number_there counts rows H t.second w.1)
 
 -- links of numbers below a count
-pub links-below : (rows : List (List ℕ)) (ts : List Tie) (ls : List Link) (count : ℕ) → AreNumberLinks rows ts ls → AreNumbersBelow rows count → AreWithin count ls
+pub links-below : (rows : List (List ℕ)) (ts : List Tie) (ls : List Link) (count : ℕ) → AreNumberLinks rows ts ls → TableIsBelow rows count → LinksAreBelow count ls
 links-below rows ts ls count L below k l a =
     let w = is-at_within ls k l a in
     let e = L.as_many in

@@ -1,5 +1,5 @@
 -- The ties of the outside.
-use Rattle.nef_volumes.proofs.Prelude.{◌≡◌, ℕ, ◌<◌, inl, inr, ⊎_elim, List, [], ◌∷◌, ◌++◌, length, Some, slice_get, arith, refl, ap, sym, ◌∙◌, subst, Contains, Chained, Out, Side, map_of, sides_of, IsSide, is-at_within, number_of, side-has, side-number, number-one, chain-trans, chain-turned, Vertex, Complex, vertex_of, complex_of, adds-one, adds-none, VertexSide, HasSideLabel, AreTied, Cell, Tie, LinkOutside, Adds, Any, outside_cell, side_cell, IsCellOf, IsEndOf, AreTiedSides, AreTiesWithOutside, AreTiedOutside, IsTieOutside}
+use Rattle.nef_volumes.proofs.Prelude.{◌≡◌, ℕ, ◌<◌, inl, inr, ⊎_elim, List, [], ◌∷◌, ◌++◌, length, Some, slice_get, arith, refl, ap, sym, ◌∙◌, subst, Contains, Chained, Out, Side, map_of, sides_of, IsSide, is-at_within, side_number, side-has, side-number, number-one, chain-trans, chain-turned, Vertex, Complex, vertex_of, complex_of, adds-one, adds-none, VertexSide, HasSideLabel, AreTied, Cell, Tie, LinkOutside, Adds, Any, outside_cell, side_cell, IsCellOf, IsEndOf, AreTiedSides, AreTiesWithOutside, AreTiedOutside, IsTieOutside}
 use Rattle.nef_complex.specs.declared.complex.Complex.{Complex as ProgramComplex}
 use Rattle.nef_complex.specs.declared.complex.Vertex.{Vertex as ProgramVertex}
 use Rattle.nef_volumes.proofs.ReadVertex.{vertex-there, vertex-read}
@@ -24,7 +24,7 @@ module _ (C : Complex) (ts : List Tie) (A : Adds (Any (λ i. Any (IsTieOutside C
 
   from-outside : (x : VertexSide) (h : HasSideLabel C x Out) → (a : Cell) × IsCellOf C x a × Chained (AreTied ts) outside_cell a
   from-outside x (v, a, h) =
-      let s = number_of v.map x.side in
+      let s = side_number v.map x.side in
       let b = side_cell x.vertex s in
       let t : Tie = record { first = outside_cell; second = b } in
       let c = A.all t (x.vertex, (s, ((v, x.side, a, side-number v.map x.side Out h), refl))) in

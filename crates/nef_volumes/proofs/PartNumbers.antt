@@ -1,10 +1,10 @@
 -- The numbers of the part in which a point lies are those of its place in the complex.
-use Rattle.nef_volumes.proofs.Prelude.{ℕ, arith, IsInTable, Place, InFrame, InClosedFrame, is-at_within, is-at_some, at-within, sides_of, Complex as PlainComplex, Corner, IsPlaceIn, IsPlaceAt, IsParts, IsFacetOf, Parts, IsPartAt, HasItem, Volume}
+use Rattle.nef_volumes.proofs.Prelude.{ℕ, arith, IsInTable, SpacePoint, InFrame, InClosedFrame, is-at_within, is-at_some, at-within, sides_of, Complex as PlainComplex, Corner, IsPlaceIn, IsPlaceAt, IsParts, IsFacetOf, Parts, IsPartAt, HasItem, Volume}
 use Rattle.nef_locate.specs.declared.point.Place.TheVariants as place
 use Rattle.nef_volumes.proofs.Components.{item-numbered}
 
 -- the frame lies in the closed frame
-pub frame-closed : (p : Place) → InFrame p → InClosedFrame p
+pub frame-closed : (p : SpacePoint) → InFrame p → InClosedFrame p
 frame-closed p h = let x = h.along_x in let y = h.along_y in let z = h.along_z in record { along_x = omega arith; along_y = omega arith; along_z = omega arith }
 
 module _ (C : PlainComplex) (p : Parts) (I : IsParts C p) where
@@ -22,5 +22,5 @@ module _ (C : PlainComplex) (p : Parts) (I : IsParts C p) where
       let q = is-at_some r.0 j (omega (arith, h, e)) in
       (q.0, (r.0, r.1, q.1))
 
-  pub volume-part : (y : Place) (i j n : ℕ) → IsPlaceAt C y (place.InVolume i j) → IsInTable p.volume_of i j n → IsPartAt C p y (Volume n)
+  pub volume-part : (y : SpacePoint) (i j n : ℕ) → IsPlaceAt C y (place.InVolume i j) → IsInTable p.volume_of i j n → IsPartAt C p y (Volume n)
   volume-part y i j n (o, l, (v, a, s), H) X = (record { vertex = i; side = o }, H, (j, record { vertex = v; is_vertex = a; label = l; is_side = s }, X))

@@ -1,5 +1,5 @@
 -- The ties between sides of one sface.
-use Rattle.nef_volumes.proofs.Prelude.{◌≡◌, ◌≢◌, ℕ, zero, suc, ◌+◌, ◌<◌, ◌==◌, true, false, ◌⊎◌, inl, inr, ⊎_elim, arith, refl, ap, sym, ◌∙◌, subst, List, [], ◌∷◌, ◌++◌, length, length-append, take, Some, cases_order, eqb_tells, length-take, Contains, IsAt, IsChain, Chained, Vector, Label, At, Map, Side, HasSide, Sees, InOneSface, here, link, LabelledSide, sides_of, IsSide, SideSees, SeeOneWay, AreSfaces, number_of, side-has, side-number, number-one, Either, earlier, last, is-at_either, is-at_one, is-at_within, is-at_some, is-at_take, less-or-last, chain-here, chain-link, chain-trans, chain-turned, Vertex, Complex, VertexSide, AreTied, Cell, Tie, LinkInSface, Adds, Any, side_cell, IsCellOf, AreTiedSides, AreTiesOf, tie_within, IsFirstPlace, IsTieNumbered, AreInOneSface, IsTieInSface, AddsInSfaces, at-one, adds-one, adds-none}
+use Rattle.nef_volumes.proofs.Prelude.{◌≡◌, ◌≢◌, ℕ, zero, suc, ◌+◌, ◌<◌, ◌==◌, true, false, ◌⊎◌, inl, inr, ⊎_elim, arith, refl, ap, sym, ◌∙◌, subst, List, [], ◌∷◌, ◌++◌, length, length-append, take, Some, cases_order, eqb_tells, length-take, Contains, IsAt, IsChain, Chained, Vector, Label, Map, Side, HasSide, Sees, InOneSface, here, link, LabelledSide, sides_of, IsSide, SideSees, SeeOneWay, AreSfaces, side_number, side-has, side-number, number-one, Either, earlier, last, is-at_either, is-at_one, is-at_within, is-at_some, is-at_take, less-or-last, chain-here, chain-link, chain-trans, chain-turned, Vertex, Complex, VertexSide, AreTied, Cell, Tie, LinkInSface, Adds, Any, side_cell, IsCellOf, AreTiedSides, AreTiesOf, tie_within, IsFirstNumber, IsTieNumbered, AreInOneSface, IsTieInSface, AddsInSfaces, at-one, adds-one, adds-none}
 use Rattle.nef_classes.proofs.Cutting.{take-at}
 use Rattle.nef_volumes.proofs.SideCells.{tie-chain, more-tied, cell-is, cell-numbered}
 
@@ -27,11 +27,11 @@ module _ (M : Map) where
       let t = side-at u d b in
       link o t.0 p t.1 (side-has M u t.0 t.1 t.2) (d, sees-by r o k d g a, sees-by u t.0 t.1 d t.2 b) (sface-from_numbers us u s t.0 p t.1 l t.2 h c)
 
-  pub numbers-from_sface : (o p : Side) (k l : Label) → HasSide M o k → HasSide M p l → InOneSface M o p → Chained (SeeOneWay M) (number_of M o) (number_of M p)
-  numbers-from_sface o p k l g h (here _) = chain-here (SeeOneWay M) (number_of M o)
+  pub numbers-from_sface : (o p : Side) (k l : Label) → HasSide M o k → HasSide M p l → InOneSface M o p → Chained (SeeOneWay M) (side_number M o) (side_number M p)
+  numbers-from_sface o p k l g h (here _) = chain-here (SeeOneWay M) (side_number M o)
   numbers-from_sface o p k l g h (link _ q _ m i (d, a, b) c) =
-      chain-trans (SeeOneWay M) (number_of M o) (number_of M q) (number_of M p)
-      (chain-link (SeeOneWay M) (number_of M o) (number_of M q) (d, (o, k, side-number M o k g, a), (q, m, side-number M q m i, b)))
+      chain-trans (SeeOneWay M) (side_number M o) (side_number M q) (side_number M p)
+      (chain-link (SeeOneWay M) (side_number M o) (side_number M q) (d, (o, k, side-number M o k g, a), (q, m, side-number M q m i, b)))
       (numbers-from_sface q p m l i h c)
 
 -- the ties of the first n vertices' sfaces
@@ -54,7 +54,7 @@ below-more C n ts us B A = record {
       (less-or-last i n l);
 }
 
-module _ (C : Complex) (n : ℕ) (ts : List Tie) (B : AreTiedBelow C n ts) (whole : (i : ℕ) (v : Vertex) → At C.vertices i v → i < n) where
+module _ (C : Complex) (n : ℕ) (ts : List Tie) (B : AreTiedBelow C n ts) (whole : (i : ℕ) (v : Vertex) → IsAt C.vertices i v → i < n) where
   only : (t : Tie) → Contains ts t → (x : VertexSide) × (y : VertexSide) × IsCellOf C x t.first × IsCellOf C y t.second × LinkInSface C x y
   only t c =
       let (i, (r, s, (v, a, l, m, ch), e)) = B.only t c in
@@ -81,18 +81,18 @@ module _ (C : Complex) (n : ℕ) (ts : List Tie) (B : AreTiedBelow C n ts) (whol
         },
       )
 
-  within : (M : Map) (o : Side) (k : Label) → HasSide M o k → number_of M o < length (sides_of M)
-  within M o k h = is-at_within (sides_of M) (number_of M o) (o, k) (side-number M o k h)
+  within : (M : Map) (o : Side) (k : Label) → HasSide M o k → side_number M o < length (sides_of M)
+  within M o k h = is-at_within (sides_of M) (side_number M o) (o, k) (side-number M o k h)
 
   all : (x y : VertexSide) → LinkInSface C x y → AreTiedSides C ts x y
   all x y L =
       let v = L.vertex in
       let M = v.map in
-      let r = number_of M x.side in
-      let s = number_of M y.side in
+      let r = side_number M x.side in
+      let s = side_number M y.side in
       let c = numbers-from_sface M x.side y.side L.one L.other L.has L.has_other L.one_sface in
       let e = L.one_vertex in
-      let b = subst (λ (k : ℕ). At C.vertices k v) (sym e) L.is_vertex in
+      let b = subst (λ (k : ℕ). IsAt C.vertices k v) (sym e) L.is_vertex in
       let d = B.tied x.vertex r s (whole x.vertex v L.is_vertex) (v, L.is_vertex, within M x.side L.one L.has, within M y.side L.other L.has_other, c) in (
         side_cell x.vertex r,
         side_cell y.vertex s,
@@ -106,7 +106,7 @@ module _ (C : Complex) (n : ℕ) (ts : List Tie) (B : AreTiedBelow C n ts) (whol
   sface-tied = record { only = only; all = all }
 
 -- ---- first places
-first-one : (ns : List ℕ) (n r k : ℕ) → IsFirstPlace ns n r → IsFirstPlace ns n k → r ≡ k
+first-one : (ns : List ℕ) (n r k : ℕ) → IsFirstNumber ns n r → IsFirstNumber ns n k → r ≡ k
 first-one ns n r k f g = by (cases_order r k)
   where
     by : (r ≡ k) ⊎ ((r < k) ⊎ (k < r)) → r ≡ k
@@ -114,21 +114,21 @@ first-one ns n r k f g = by (cases_order r k)
     by (inr (inl l)) = absurd (g.1 r l f.0)
     by (inr (inr l)) = absurd (f.1 k l g.0)
 
-first-place : (ns : List ℕ) (n k : ℕ) → IsAt ns k n → (r : ℕ) × IsFirstPlace ns n r
+first-place : (ns : List ℕ) (n k : ℕ) → IsAt ns k n → (r : ℕ) × IsFirstNumber ns n r
 first-place [] n k a = cc
 first-place (m ∷ ns) n zero a = (zero, (a, λ j l. absurd (omega (arith, l))))
 first-place (m ∷ ns) n (suc k) a = by (eqb_tells m n) (first-place ns n k a)
   where
-    later : (r : ℕ) → IsFirstPlace ns n r → m ≢ n → (j : ℕ) → j < suc r → IsAt (m ∷ ns) j n → ⊥
+    later : (r : ℕ) → IsFirstNumber ns n r → m ≢ n → (j : ℕ) → j < suc r → IsAt (m ∷ ns) j n → ⊥
     later r f d zero l b = d (is-at_one (m ∷ ns) zero m n refl b)
     later r f d (suc j) l b = f.1 j (omega (arith, l)) b
 
-    by : ((m == n ≡ true) × (m ≡ n)) ⊎ ((m == n ≡ false) × (m ≢ n)) → (r : ℕ) × IsFirstPlace ns n r → (r : ℕ) × IsFirstPlace (m ∷ ns) n r
+    by : ((m == n ≡ true) × (m ≡ n)) ⊎ ((m == n ≡ false) × (m ≢ n)) → (r : ℕ) × IsFirstNumber ns n r → (r : ℕ) × IsFirstNumber (m ∷ ns) n r
     by (inl h) f = (zero, (ap Some h.1, λ j l. absurd (omega (arith, l))))
     by (inr h) f = (suc f.0, (f.1.0, later f.0 f.1 h.1))
 
 -- a first place before s, found among the first s
-first-taken : (ns : List ℕ) (s n r : ℕ) → IsFirstPlace (take s ns) n r → (r < s) × IsFirstPlace ns n r
+first-taken : (ns : List ℕ) (s n r : ℕ) → IsFirstNumber (take s ns) n r → (r < s) × IsFirstNumber ns n r
 first-taken ns s n r f =
     let w = is-at_within (take s ns) r n f.0 in
     let l = length-take s ns in
@@ -137,14 +137,14 @@ first-taken ns s n r f =
 
 -- ---- the ties of a side
 module _ (i s : ℕ) (ns : List ℕ) (n : ℕ) (at_s : IsAt ns s n) (ts : List Tie) where
-  pub numbered-added : (r : ℕ) → IsFirstPlace (take s ns) n r → (a b : Cell) → a ≡ side_cell i r → b ≡ side_cell i s
+  pub numbered-added : (r : ℕ) → IsFirstNumber (take s ns) n r → (a b : Cell) → a ≡ side_cell i r → b ≡ side_cell i s
       → Adds (Any (IsTieNumbered i ns s)) ts (ts ++ record { first = a; second = b } ∷ [])
   numbered-added r f a b e g =
       let t : Tie = record { first = a; second = b } in
       let is : t ≡ tie_within i r s = cc in
       let h = first-taken ns s n r f in
       adds-one (Any (IsTieNumbered i ns s)) ts t (r, (h.0, n, h.1, at_s, is)) (λ y (k, (l, m, p, q, w)).
-      let one = first-one ns n r k h.1 (subst (λ (x : ℕ). IsFirstPlace ns x k) (is-at_one ns s m n q at_s) p) in
+      let one = first-one ns n r k h.1 (subst (λ (x : ℕ). IsFirstNumber ns x k) (is-at_one ns s m n q at_s) p) in
       is ∙ ap (λ (x : ℕ). tie_within i x s) one ∙ sym w)
 
   pub numbered-none : ((k : ℕ) → IsAt (take s ns) k n → ⊥) → Adds (Any (IsTieNumbered i ns s)) ts ts
@@ -152,7 +152,7 @@ module _ (i s : ℕ) (ns : List ℕ) (n : ℕ) (at_s : IsAt ns s n) (ts : List T
       none k (take-at s ns k n l (subst (IsAt ns k) (is-at_one ns s m n q at_s) p.0)))
 
 -- ---- the ties of a vertex: equal numbers are those of one sface
-module _ (C : Complex) (i : ℕ) (u : Vertex) (e : At C.vertices i u) (ns : List ℕ) (F : AreSfaces u.map ns)
+module _ (C : Complex) (i : ℕ) (u : Vertex) (e : IsAt C.vertices i u) (ns : List ℕ) (F : AreSfaces u.map ns)
     (xs ys : List Tie) (A : Adds (Any (λ s. Any (IsTieNumbered i ns s))) xs ys) where
   to-sface : (t : Tie) → Any (λ s. Any (IsTieNumbered i ns s)) t → IsTieInSface C i t
   to-sface t (s, (r, (l, n, f, h, w))) =
@@ -161,7 +161,7 @@ module _ (C : Complex) (i : ℕ) (u : Vertex) (e : At C.vertices i u) (ns : List
       let q = is-at_within ns s n h in
       (r, s, (u, e, omega (arith, m, p), omega (arith, m, q), (F.numbered.by_class r s n n f.0 h).0 refl), w)
 
-  to-first : (n f k : ℕ) → IsFirstPlace ns n f → IsAt ns k n → Chained (AreTied ys) (side_cell i f) (side_cell i k)
+  to-first : (n f k : ℕ) → IsFirstNumber ns n f → IsAt ns k n → Chained (AreTied ys) (side_cell i f) (side_cell i k)
   to-first n f k p a = by (cases_order f k)
     where
       by : (f ≡ k) ⊎ ((f < k) ⊎ (k < f)) → Chained (AreTied ys) (side_cell i f) (side_cell i k)
@@ -192,19 +192,19 @@ numbered-below i ns s t (r, (l, n, f, h, w)) = is-at_within ns s n h
 -- ---- the numbers of the first n vertices' sides
 pub record AreSfacesTo (C : Complex) (n : ℕ) (rows : List (List ℕ)) : Type 0 where
   pub as_many : length rows ≡ n
-  pub row : (i : ℕ) (v : Vertex) (ns : List ℕ) → At C.vertices i v → IsAt rows i ns → AreSfaces v.map ns
+  pub row : (i : ℕ) (v : Vertex) (ns : List ℕ) → IsAt C.vertices i v → IsAt rows i ns → AreSfaces v.map ns
 
 pub sfaces-none : (C : Complex) → AreSfacesTo C 0 []
 sfaces-none C = record { as_many = refl; row = λ i v ns a b. absurd (let w = is-at_within {X = List ℕ} [] i ns b in omega (arith, w)) }
 
-pub sfaces-more : (C : Complex) (n : ℕ) (rows : List (List ℕ)) (v : Vertex) (ns : List ℕ) → At C.vertices n v → AreSfaces v.map ns → AreSfacesTo C n rows → AreSfacesTo C (n + 1) (rows ++ ns ∷ [])
+pub sfaces-more : (C : Complex) (n : ℕ) (rows : List (List ℕ)) (v : Vertex) (ns : List ℕ) → IsAt C.vertices n v → AreSfaces v.map ns → AreSfacesTo C n rows → AreSfacesTo C (n + 1) (rows ++ ns ∷ [])
 sfaces-more C n rows v ns a F S = record {
   as_many = let e = S.as_many in let f = length-append rows (ns ∷ []) in omega (arith, e, f);
   row = λ i w ms b c. by i w ms b (is-at_either rows i ms ns c);
 }
   where
-    by : (i : ℕ) (w : Vertex) (ms : List ℕ) → At C.vertices i w → Either rows i ms ns → AreSfaces w.map ms
+    by : (i : ℕ) (w : Vertex) (ms : List ℕ) → IsAt C.vertices i w → Either rows i ms ns → AreSfaces w.map ms
     by i w ms b (earlier c) = S.row i w ms b c
     by i w ms b (last e f) =
         subst (λ (ks : List ℕ). AreSfaces w.map ks) (sym f)
-        (subst (λ (u : Vertex). AreSfaces u.map ns) (at-one C.vertices n v w a (subst (λ (k : ℕ). At C.vertices k w) (e ∙ S.as_many) b)) F)
+        (subst (λ (u : Vertex). AreSfaces u.map ns) (at-one C.vertices n v w a (subst (λ (k : ℕ). IsAt C.vertices k w) (e ∙ S.as_many) b)) F)

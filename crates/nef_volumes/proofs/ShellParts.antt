@@ -1,5 +1,5 @@
 -- The gathered lists are the shells, and the rows those of each volume.
-use Rattle.nef_volumes.proofs.Prelude.{◌≡◌, ℕ, zero, suc, ◌+◌, ◌<◌, inl, inr, List, length, arith, refl, ap, sym, ◌∙◌, subst, ints, IsAt, Chained, IsInTable, Label, InOrder, At, Complex, VertexSide, VolumeLink, side-has, at-from_get, get-from_at, at-map, map-at, chain-link, chain-map, is-at_one, is-at_within, IsSideNumber, IsVolumeOf, VolumeNumbers, shell_sides, ShellLink, IsNamed, IsNameBelow, IsListed, IsShell, IsShellBelow, Shells, Shell, AreVolumeLabels, side_cell, AreShellRows, IsShellOf, AreGathered, AreShellsOf, HaveVolumes, Cell}
+use Rattle.nef_volumes.proofs.Prelude.{◌≡◌, ℕ, zero, suc, ◌+◌, ◌<◌, inl, inr, List, length, arith, refl, ap, sym, ◌∙◌, subst, ints, IsAt, Chained, IsInTable, Label, InOrder, Complex, VertexSide, VolumeLink, side-has, at-from_get, get-from_at, at-map, map-at, chain-link, chain-map, is-at_one, is-at_within, IsSideNumber, IsVolumeOf, VolumeNumbers, shell_sides, ShellLink, IsSideNamed, IsNameBelow, IsSideListed, IsShell, IsShellBelow, Shells, Shell, AreVolumeLabels, side_cell, AreShellRows, IsShellOf, AreGathered, AreShellsOf, HaveVolumes, Cell}
 use Rattle.nef_complex.specs.declared.parts.Side.{Side}
 use Rattle.nef_volumes.proofs.AllTies.{shell-volume}
 use Rattle.nef_volumes.proofs.RowNumbers.{number-cell}
@@ -24,12 +24,12 @@ module _ (C : Complex) (rows : List (List ℕ)) (R : AreShellRows C rows) (hs : 
   in-list : (s : Side) (m : ℕ) → IsShellOf rows s m → (h : List Side) × (q : ℕ) × IsAt hs m h × IsAt h q s
   in-list s m (r, a, b) = let w = is-at_within rows (s.vertex + 1) r a in G.held.all s m (r, a, b) (inl (omega (arith, w)))
 
-  in-this : (m : ℕ) (h : List Side) (s : Side) → IsAt hs m h → IsShellOf rows s m → IsListed h s
+  in-this : (m : ℕ) (h : List Side) (s : Side) → IsAt hs m h → IsShellOf rows s m → IsSideListed h s
   in-this m h s a n =
       let r = in-list s m n in
       (r.1, at-from_get h r.1 s (subst (λ (g : List Side). IsAt g r.1 s) (is-at_one hs m r.0 h r.2 a) r.3))
 
-  number-listed : (m : ℕ) (h : List Side) (s : Side) → IsAt hs m h → IsListed h s → IsShellOf rows s m
+  number-listed : (m : ℕ) (h : List Side) (s : Side) → IsAt hs m h → IsSideListed h s → IsShellOf rows s m
   number-listed m h s a (k, b) = (G.held.each m k h s a (get-from_at h k s b)).0
 
   -- EACH LIST IS A SHELL
@@ -69,10 +69,10 @@ module _ (C : Complex) (rows : List (List ℕ)) (R : AreShellRows C rows) (hs : 
         subst (λ (m : ℕ). IsVolumeOf C volume_of y m) (sym ((N.numbered.by_class x y n r.0 X r.1).1 d)) r.1
 
     -- the number of a named side
-    name-volume : (s : Side) (x : VertexSide) (n : ℕ) → IsNamed C s x → IsVolumeOf C volume_of x n → IsInTable volume_of s.vertex s.side n
+    name-volume : (s : Side) (x : VertexSide) (n : ℕ) → IsSideNamed C s x → IsVolumeOf C volume_of x n → IsInTable volume_of s.vertex s.side n
     name-volume s x n (e, J) (j, I, h) = subst (λ (i : ℕ). IsInTable volume_of i s.side n) e (subst (λ (k : ℕ). IsInTable volume_of x.vertex k n) (side-number_one C x j s.side I J) h)
 
-    volume-name : (s : Side) (x : VertexSide) (n : ℕ) → IsNamed C s x → IsInTable volume_of s.vertex s.side n → IsVolumeOf C volume_of x n
+    volume-name : (s : Side) (x : VertexSide) (n : ℕ) → IsSideNamed C s x → IsInTable volume_of s.vertex s.side n → IsVolumeOf C volume_of x n
     volume-name s x n (e, J) h = (s.side, J, subst (λ (i : ℕ). IsInTable volume_of i s.side n) (sym e) h)
 
     pub have-volumes : (ls : List Label) → AreVolumeLabels C volume_of ls → HaveVolumes volume_of (length ls) hs
@@ -87,34 +87,34 @@ module _ (C : Complex) (rows : List (List ℕ)) (R : AreShellRows C rows) (hs : 
       abbrev sides_in : Shell → List Side
       sides_in h = h.sides
 
-      shell-at : (i : ℕ) (h : List Side) → At (shell_sides row) i h → (g : Shell) × IsAt row i g × (g.sides ≡ h)
+      shell-at : (i : ℕ) (h : List Side) → IsAt (shell_sides row) i h → (g : Shell) × IsAt row i g × (g.sides ≡ h)
       shell-at i h a = let r = at-map sides_in row i h a in (r.0, get-from_at row i r.0 r.1, r.2)
 
-      list-of : (i : ℕ) (h : List Side) → At (shell_sides row) i h → (k : ℕ) × IsAt hs k h
+      list-of : (i : ℕ) (h : List Side) → IsAt (shell_sides row) i h → (k : ℕ) × IsAt hs k h
       list-of i h a = let (g, b, e) = shell-at i h a in let o = (A.each n i row g at b).1 in (o.0, subst (λ (l : List Side). IsAt hs o.0 l) e o.1)
 
-      first-volume : (i : ℕ) (h : List Side) → At (shell_sides row) i h → (s : Side) × IsAt h 0 s × IsInTable volume_of s.vertex s.side n
+      first-volume : (i : ℕ) (h : List Side) → IsAt (shell_sides row) i h → (s : Side) × IsAt h 0 s × IsInTable volume_of s.vertex s.side n
       first-volume i h a = let (g, b, e) = shell-at i h a in subst (λ (l : List Side). (s : Side) × IsAt l 0 s × IsInTable volume_of s.vertex s.side n) e (A.each n i row g at b).0
 
-      within : (i : ℕ) (h : List Side) (s : Side) (x : VertexSide) → At (shell_sides row) i h → IsListed h s → IsNamed C s x → IsVolumeOf C volume_of x n
+      within : (i : ℕ) (h : List Side) (s : Side) (x : VertexSide) → IsAt (shell_sides row) i h → IsSideListed h s → IsSideNamed C s x → IsVolumeOf C volume_of x n
       within i h s x a l X =
           let o = list-of i h a in
           let H = list-shell o.0 h o.1 in
           let (f, b, t) = first-volume i h a in
-          let k : IsListed h f = (0, at-from_get h 0 f b) in
+          let k : IsSideListed h f = (0, at-from_get h 0 f b) in
           let (y, Y) = H.sides f k in
           one-volume y x s.side n ((H.class f s y x k Y X).0 l) (volume-name f y n Y t) X.1
 
-      complete : (x : VertexSide) → IsVolumeOf C volume_of x n → (i : ℕ) × (h : List Side) × (s : Side) × At (shell_sides row) i h × IsListed h s × IsNamed C s x
+      complete : (x : VertexSide) → IsVolumeOf C volume_of x n → (i : ℕ) × (h : List Side) × (s : Side) × IsAt (shell_sides row) i h × IsSideListed h s × IsSideNamed C s x
       complete x (j, J, t) =
           let s : Side = record { vertex = x.vertex; side = j } in
-          let X : IsNamed C s x = (refl, J) in
+          let X : IsSideNamed C s x = (refl, J) in
           let m = shell-number C rows R s x X in
           let (h, q, a, b) = in-list s m.0 m.1 in
           let H = list-shell m.0 h a in
-          let l : IsListed h s = (q, at-from_get h q s b) in
+          let l : IsSideListed h s = (q, at-from_get h q s b) in
           let (f, c) = G.some m.0 h a in
-          let k : IsListed h f = (0, at-from_get h 0 f c) in
+          let k : IsSideListed h f = (0, at-from_get h 0 f c) in
           let (y, Y) = H.sides f k in
           let v = one-volume x y f.side n ((H.class s f x y l X Y).0 k) (j, J, t) Y.1 in
           let g : Shell = record { sides = h } in

@@ -1,12 +1,12 @@
 -- The table of the numbers of shells.
-use Rattle.nef_volumes.proofs.Prelude.{◌≡◌, ℕ, zero, suc, ◌+◌, ◌<◌, ◌≤◌, inl, inr, List, [], ◌∷◌, length, arith, refl, ap, subst, ◌↔◌, ints, IsAt, IsChain, Chained, IsInTable, Complex, VertexSide, is-at_within, AreTied, IsCellBelow, IsCellNumber, Cell, ShellLink, IsNamed, IsNameBelow, AreNumbersBelow, AreShellRows, IsShellOf, AreNumberedNames, AreGathered, outside_cell, side_cell, row_counts, IsCellOf}
+use Rattle.nef_volumes.proofs.Prelude.{◌≡◌, ℕ, zero, suc, ◌+◌, ◌<◌, ◌≤◌, inl, inr, List, [], ◌∷◌, length, arith, refl, ap, subst, ◌↔◌, ints, IsAt, IsChain, Chained, IsInTable, Complex, VertexSide, is-at_within, AreTied, IsCellBelow, IsCellNumber, Cell, ShellLink, IsSideNamed, IsNameBelow, TableIsBelow, AreShellRows, IsShellOf, AreNumberedNames, AreGathered, outside_cell, side_cell, row_counts, IsCellOf}
 use Rattle.nef_complex.specs.declared.parts.Side.{Side}
 use Rattle.nef_volumes.proofs.Joining.{cell-number_there}
 use Rattle.nef_volumes.proofs.RowNumbers.{number-cell, in-first, side-at, outside-number}
 use Rattle.nef_volumes.proofs.SideCells.{contains-at, not-outside, end-within, shell-chains}
 
 -- the element of a named side
-name-cell : (C : Complex) (s : Side) (x : VertexSide) → IsNamed C s x → IsCellOf C x (side_cell s.vertex s.side)
+name-cell : (C : Complex) (s : Side) (x : VertexSide) → IsSideNamed C s x → IsCellOf C x (side_cell s.vertex s.side)
 name-cell C s x (e, J) = subst (λ (i : ℕ). IsCellOf C x (side_cell i s.side)) e (number-cell C x s.side J)
 
 -- the row after the first
@@ -52,12 +52,12 @@ module _ (C : Complex) (first : List ℕ) (rest : List (List ℕ)) (R : AreShell
   }
 
   -- the side of a name with a number, and the number of a named side
-  side-of : (s : Side) (m : ℕ) → IsShellOf rows s m → (x : VertexSide) × IsNamed C s x
+  side-of : (s : Side) (m : ℕ) → IsShellOf rows s m → (x : VertexSide) × IsSideNamed C s x
   side-of s m h =
       let r = side-at C (ShellLink C) R.ties chains first rest R.counts R.numbers s.vertex s.side (suc m) (next-row first rest s.vertex s.side (suc m) h) in
       (r.0, (r.1, r.2))
 
-  number-of : (s : Side) (x : VertexSide) → IsNamed C s x → (m : ℕ) × IsShellOf rows s m
+  number-of : (s : Side) (x : VertexSide) → IsSideNamed C s x → (m : ℕ) × IsShellOf rows s m
   number-of s x X =
       let r = cell-number_there (row_counts C) rows R.counts (side_cell s.vertex s.side) (end-within C x (side_cell s.vertex s.side) (inl (name-cell C s x X))) in
       by r.0 r.1
@@ -67,13 +67,13 @@ module _ (C : Complex) (first : List ℕ) (rest : List (List ℕ)) (R : AreShell
       by (suc m) h = (m, h)
 
   -- two sides have one number where links chain them
-  numbers-chain : (s t : Side) (x y : VertexSide) (m n : ℕ) → IsShellOf rows s m → IsShellOf rows t n → IsNamed C s x → IsNamed C t y → (m ≡ n) ↔ Chained (ShellLink C) x y
+  numbers-chain : (s t : Side) (x y : VertexSide) (m n : ℕ) → IsShellOf rows s m → IsShellOf rows t n → IsSideNamed C s x → IsSideNamed C t y → (m ≡ n) ↔ Chained (ShellLink C) x y
   numbers-chain s t x y m n a b X Y =
       let f = R.numbers.by_class (side_cell s.vertex s.side) (side_cell t.vertex t.side) (suc m) (suc n) a b in
       let g = chains x y (side_cell s.vertex s.side) (side_cell t.vertex t.side) (name-cell C s x X) (name-cell C t y Y) in
       (λ e. g.0 (f.0 (ap suc e)), λ c. let h = f.1 (g.1 c) in omega (arith, h))
 
-  numbers-below : (hs : List (List Side)) → AreGathered rows (length rows) 0 hs → AreNumbersBelow rows (length hs + 1)
+  numbers-below : (hs : List (List Side)) → AreGathered rows (length rows) 0 hs → TableIsBelow rows (length hs + 1)
   numbers-below hs G x n h = by x.row x.column n h
     where
       by : (i k n : ℕ) → IsInTable rows i k n → n < length hs + 1
@@ -99,18 +99,18 @@ module _ (C : Complex) where
   rows-named [] R = absurd (no-rows R)
   rows-named (first ∷ rest) R = named-numbers C first rest R
 
-  pub shell-side : (rows : List (List ℕ)) → AreShellRows C rows → (s : Side) (m : ℕ) → IsShellOf rows s m → (x : VertexSide) × IsNamed C s x
+  pub shell-side : (rows : List (List ℕ)) → AreShellRows C rows → (s : Side) (m : ℕ) → IsShellOf rows s m → (x : VertexSide) × IsSideNamed C s x
   shell-side [] R = absurd (no-rows R)
   shell-side (first ∷ rest) R = side-of C first rest R
 
-  pub shell-number : (rows : List (List ℕ)) → AreShellRows C rows → (s : Side) (x : VertexSide) → IsNamed C s x → (m : ℕ) × IsShellOf rows s m
+  pub shell-number : (rows : List (List ℕ)) → AreShellRows C rows → (s : Side) (x : VertexSide) → IsSideNamed C s x → (m : ℕ) × IsShellOf rows s m
   shell-number [] R = absurd (no-rows R)
   shell-number (first ∷ rest) R = number-of C first rest R
 
-  pub shell-chain : (rows : List (List ℕ)) → AreShellRows C rows → (s t : Side) (x y : VertexSide) (m n : ℕ) → IsShellOf rows s m → IsShellOf rows t n → IsNamed C s x → IsNamed C t y → (m ≡ n) ↔ Chained (ShellLink C) x y
+  pub shell-chain : (rows : List (List ℕ)) → AreShellRows C rows → (s t : Side) (x y : VertexSide) (m n : ℕ) → IsShellOf rows s m → IsShellOf rows t n → IsSideNamed C s x → IsSideNamed C t y → (m ≡ n) ↔ Chained (ShellLink C) x y
   shell-chain [] R = absurd (no-rows R)
   shell-chain (first ∷ rest) R = numbers-chain C first rest R
 
-  pub shells-below : (rows : List (List ℕ)) → AreShellRows C rows → (hs : List (List Side)) → AreGathered rows (length rows) 0 hs → AreNumbersBelow rows (length hs + 1)
+  pub shells-below : (rows : List (List ℕ)) → AreShellRows C rows → (hs : List (List Side)) → AreGathered rows (length rows) 0 hs → TableIsBelow rows (length hs + 1)
   shells-below [] R = absurd (no-rows R)
   shells-below (first ∷ rest) R = numbers-below C first rest R

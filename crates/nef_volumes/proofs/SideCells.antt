@@ -1,5 +1,5 @@
 -- Sides and their elements; lists of ties put together.
-use Rattle.nef_volumes.proofs.Prelude.{◌≡◌, ℕ, suc, ◌+◌, inl, inr, ⊎_elim, List, ◌++◌, map, arith, refl, ap, sym, ◌∙◌, subst, ◌↔◌, Contains, Contains-append_cases, IsAt, Chained, Label, At, Side, HasSide, at-one, LabelledSide, sides_of, IsSide, number_of, map-at, get-from_at, side-number, is-at_one, is-at_within, is-at_get, is-at_is, chain-here, chain-link, chain-map, Vertex, Complex, VertexSide, IsCellIn, AreTied, AreTiedWithin, Cell, Tie, VolumeLink, count_sides, ShellLink, outside_cell, side_cell, row_counts, IsCellOf, IsEndOf, AreLinks, AreTiedSides, AreTiesTo, AreTiesOf, AreTiesWithOutside}
+use Rattle.nef_volumes.proofs.Prelude.{◌≡◌, ℕ, suc, ◌+◌, inl, inr, ⊎_elim, List, ◌++◌, map, arith, refl, ap, sym, ◌∙◌, subst, ◌↔◌, Contains, Contains-append_cases, IsAt, Chained, Label, Side, HasSide, at-one, LabelledSide, sides_of, IsSide, side_number, map-at, get-from_at, side-number, is-at_one, is-at_within, is-at_get, is-at_is, chain-here, chain-link, chain-map, Vertex, Complex, VertexSide, IsCellIn, AreTied, AreTiedWithin, Cell, Tie, VolumeLink, count_sides, ShellLink, outside_cell, side_cell, row_counts, IsCellOf, IsEndOf, AreLinks, AreTiedSides, AreTiesTo, AreTiesOf, AreTiesWithOutside}
 use Rattle.nef_volumes.proofs.Agree.{chains-agree}
 
 -- ---- ties of a list
@@ -27,15 +27,15 @@ module _ (C : Complex) where
   links-as End Last Link Other ts e f g t c = let r = g t c in (r.0, r.1, e r.0 t.first r.2, e r.1 t.second r.3, f r.0 r.1 r.4)
 
   -- ---- the element of a side
-  pub cell-is : (x : VertexSide) (v : Vertex) (l : Label) → At C.vertices x.vertex v → HasSide v.map x.side l → IsCellOf C x (side_cell x.vertex (number_of v.map x.side))
+  pub cell-is : (x : VertexSide) (v : Vertex) (l : Label) → IsAt C.vertices x.vertex v → HasSide v.map x.side l → IsCellOf C x (side_cell x.vertex (side_number v.map x.side))
   cell-is x v l a h = record { vertex = v; is_vertex = a; label = l; has = h; is_cell = refl }
 
   -- that with this number
-  pub cell-numbered : (i s : ℕ) (v : Vertex) (o : Side) (l : Label) → At C.vertices i v → HasSide v.map o l → s ≡ number_of v.map o → IsCellOf C (record { vertex = i; side = o }) (side_cell i s)
+  pub cell-numbered : (i s : ℕ) (v : Vertex) (o : Side) (l : Label) → IsAt C.vertices i v → HasSide v.map o l → s ≡ side_number v.map o → IsCellOf C (record { vertex = i; side = o }) (side_cell i s)
   cell-numbered i s v o l a h e = record { vertex = v; is_vertex = a; label = l; has = h; is_cell = ap (side_cell i) e }
 
   pub one-cell : (x : VertexSide) (a b : Cell) → IsCellOf C x a → IsCellOf C x b → a ≡ b
-  one-cell x a b A B = A.is_cell ∙ ap (λ (v : Vertex). side_cell x.vertex (number_of v.map x.side)) (at-one C.vertices x.vertex A.vertex B.vertex A.is_vertex B.is_vertex) ∙ sym B.is_cell
+  one-cell x a b A B = A.is_cell ∙ ap (λ (v : Vertex). side_cell x.vertex (side_number v.map x.side)) (at-one C.vertices x.vertex A.vertex B.vertex A.is_vertex B.is_vertex) ∙ sym B.is_cell
 
   same-side : (i j : ℕ) (o p : Side) → i ≡ j → o ≡ p → ◌≡◌ {A = VertexSide} (record { vertex = i; side = o }) (record { vertex = j; side = p })
   same-side i j o p e f = cc
@@ -45,12 +45,12 @@ module _ (C : Complex) where
       let e = sym A.is_cell ∙ B.is_cell in
       let r : x.vertex + 1 ≡ y.vertex + 1 = ap (λ (s : Cell). s.row) e in
       let i : x.vertex ≡ y.vertex = omega (arith, r) in
-      let n : number_of A.vertex.map x.side ≡ number_of B.vertex.map y.side = ap (λ (s : Cell). s.column) e in
-      let v = at-one C.vertices y.vertex A.vertex B.vertex (subst (λ (k : ℕ). At C.vertices k A.vertex) i A.is_vertex) B.is_vertex in
+      let n : side_number A.vertex.map x.side ≡ side_number B.vertex.map y.side = ap (λ (s : Cell). s.column) e in
+      let v = at-one C.vertices y.vertex A.vertex B.vertex (subst (λ (k : ℕ). IsAt C.vertices k A.vertex) i A.is_vertex) B.is_vertex in
       let g = side-number A.vertex.map x.side A.label A.has in
       let h = side-number A.vertex.map y.side B.label (subst (λ (w : Vertex). HasSide w.map y.side B.label) (sym v) B.has) in
-      let m = ap (λ (w : Vertex). number_of w.map y.side) v ∙ sym n in
-      let p = is-at_one (sides_of A.vertex.map) (number_of A.vertex.map x.side) (x.side, A.label) (y.side, B.label) g (subst (λ (k : ℕ). IsSide A.vertex.map k y.side B.label) m h) in
+      let m = ap (λ (w : Vertex). side_number w.map y.side) v ∙ sym n in
+      let p = is-at_one (sides_of A.vertex.map) (side_number A.vertex.map x.side) (x.side, A.label) (y.side, B.label) g (subst (λ (k : ℕ). IsSide A.vertex.map k y.side B.label) m h) in
       same-side x.vertex y.vertex x.side y.side i (ap (λ (q : LabelledSide). q.0) p)
 
   pub not-outside : (x : VertexSide) (a : Cell) → IsCellOf C x a → a ≡ outside_cell → ⊥
@@ -97,7 +97,7 @@ module _ (C : Complex) where
   end-within x a (inl f) =
       let i = get-from_at (map count_sides C.vertices) x.vertex (count_sides f.vertex) (map-at count_sides C.vertices x.vertex f.vertex f.is_vertex) in
       let n = side-number f.vertex.map x.side f.label f.has in
-      subst (IsCellIn (row_counts C)) (sym f.is_cell) (record { count = count_sides f.vertex; is_row = next x.vertex (count_sides f.vertex) i; within = is-at_within (sides_of f.vertex.map) (number_of f.vertex.map x.side) (x.side, f.label) n })
+      subst (IsCellIn (row_counts C)) (sym f.is_cell) (record { count = count_sides f.vertex; is_row = next x.vertex (count_sides f.vertex) i; within = is-at_within (sides_of f.vertex.map) (side_number f.vertex.map x.side) (x.side, f.label) n })
     where
       next : (k n : ℕ) → IsAt (map count_sides C.vertices) k n → IsAt (row_counts C) (k + 1) n
       next k n i = let e : k + 1 ≡ suc k = omega arith in rw e i

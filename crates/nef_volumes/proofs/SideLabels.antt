@@ -1,5 +1,5 @@
 -- The sides of a volume have one label.
-use Rattle.nef_volumes.proofs.Prelude.{◌≡◌, ℕ, refl, subst, Chained, IsAt, HasLabel, Place, Set, zero_vector, Label, ahead, near-ahead, label-one, Germ-zero, near-germ_zero, joined-germs, labels-by_germs, At, item_normal, seen, IsSmall, IsLeastMap, at-map, get-from_at, label-germ, Vertex, Complex, Shows, VertexSide, HasSideLabel, vertex_of, complex_of, ShowsSet, VolumeLink, IsAtSide, IsUpright, side-sees, at-side, sides-joined}
+use Rattle.nef_volumes.proofs.Prelude.{◌≡◌, ℕ, refl, subst, Chained, IsAt, HasLabel, SpacePoint, Set, zero_vector, Label, ahead, near-ahead, label-one, Germ-zero, near-germ_zero, joined-germs, labels-by_germs, item_normal, seen, IsSmall, IsLeastMap, at-map, get-from_at, label-germ, Vertex, Complex, Shows, VertexSide, HasSideLabel, vertex_of, complex_of, ShowsSet, VolumeLink, IsAtSide, IsUpright, side-sees, at-side, sides-joined}
 use Rattle.nef_complex.specs.declared.complex.Complex.{Complex as ProgramComplex}
 use Rattle.nef_complex.specs.declared.complex.Vertex.{Vertex as ProgramVertex}
 use Rattle.nef_smap.proofs.Upward.{normal-ahead}
@@ -14,7 +14,7 @@ upright-by_maps s c S maps k v x K =
     let M = S.cones k.vertex v K.vertex in
     normal-ahead (item_normal x) (M.valid.shaped.normals k.item x K.item) ((small k.vertex v K.vertex).normals k.item x K.item)
   where
-    small : (i : ℕ) (v : Vertex) → At (complex_of c).vertices i v → IsSmall v.map
+    small : (i : ℕ) (v : Vertex) → IsAt (complex_of c).vertices i v → IsSmall v.map
     small i v a =
         let u = at-map vertex_of c.vertices i v a in
         subst (λ (w : Vertex). IsSmall w.map) u.2 (maps i u.0 (get-from_at c.vertices i u.0 u.1)).sphere_map.small
@@ -24,7 +24,7 @@ upright s c S = upright-by_maps s c S.shows S.maps
 
 module _ (s : Set) (C : Complex) (S : Shows s C) where
   -- a point at the side, which has its label
-  pub side-point : (x : VertexSide) (l : Label) → HasSideLabel C x l → (p : Place) × IsAtSide s C x p × HasLabel s p l
+  pub side-point : (x : VertexSide) (l : Label) → HasSideLabel C x l → (p : SpacePoint) × IsAtSide s C x p × HasLabel s p l
   side-point x l (v, a, h) =
       let K = S.cones x.vertex v a in
       let o = side-sees v.map K.valid.shaped x.side l h in

@@ -1,5 +1,5 @@
 -- The labels of volumes: one for each number, that of all sides with the number.
-use Rattle.nef_volumes.proofs.Prelude.{◌≡◌, ℕ, zero, suc, ◌+◌, ◌<◌, ◌≤◌, pos, ◌⊎◌, inl, inr, ⊎_elim, List, [], ◌∷◌, ◌++◌, length, length-append, arith, refl, ap, sym, ◌∙◌, subst, cases_order, ints, IsAt, IsInTable, IsBelow, Set, Label, Out, At, Map, Side, at-one, sides_of, IsSide, number_of, at-within, side-has, side-number, number-one as number-is, is-at_one, is-at_within, is-at_some, is-at_left, is-at_last, less-or-last, Vertex, Complex, VertexSide, HasSideLabel, complex_of, ShowsSet, IsSideNumber, IsVolumeOf, VolumeNumbers, HasAppeared, AreLabelsTo, AreLabelsOf, AreVolumeLabels}
+use Rattle.nef_volumes.proofs.Prelude.{◌≡◌, ℕ, zero, suc, ◌+◌, ◌<◌, ◌≤◌, pos, ◌⊎◌, inl, inr, ⊎_elim, List, [], ◌∷◌, ◌++◌, length, length-append, arith, refl, ap, sym, ◌∙◌, subst, cases_order, ints, IsAt, IsInTable, IsBelow, Set, Label, Out, Map, Side, at-one, sides_of, IsSide, side_number, at-within, side-has, side-number, number-one as number-is, is-at_one, is-at_within, is-at_some, is-at_left, is-at_last, less-or-last, Vertex, Complex, VertexSide, HasSideLabel, complex_of, ShowsSet, IsSideNumber, IsVolumeOf, VolumeNumbers, HasAppeared, AreLabelsTo, AreLabelsOf, AreVolumeLabels}
 use Rattle.nef_complex.specs.declared.complex.Complex.{Complex as ProgramComplex}
 use Rattle.nef_volumes.proofs.SideLabels.{upright, chain-label}
 use Rattle.nef_volumes.proofs.OutsideSide.{out-side}
@@ -63,7 +63,7 @@ module _ (M : Map) (row : List ℕ) (xs : List Label) where
 pub outside-first : (C : Complex) (rows : List (List ℕ)) → AreLabelsOf C rows 0 (Out ∷ [])
 outside-first C rows = record { outside = refl; some = λ k l a h. absurd (let w = is-at_within (Out ∷ []) k l a in omega (arith, w, h)); all = λ i s m l a. absurd (omega (arith, l)) }
 
-module _ (C : Complex) (rows : List (List ℕ)) (N : VolumeNumbers C rows) (n : ℕ) (v : Vertex) (a : At C.vertices n v) (row : List ℕ) (e : IsAt rows n row) (ys : List Label) (D : AreLabelsOf C rows n ys) where
+module _ (C : Complex) (rows : List (List ℕ)) (N : VolumeNumbers C rows) (n : ℕ) (v : Vertex) (a : IsAt C.vertices n v) (row : List ℕ) (e : IsAt rows n row) (ys : List Label) (D : AreLabelsOf C rows n ys) where
   pub as-long : length row ≡ length (sides_of v.map)
   as-long = let S = N.shape in S.row n v row a e
 
@@ -91,7 +91,7 @@ module _ (C : Complex) (rows : List (List ℕ)) (N : VolumeNumbers C rows) (n : 
       number-same : (x : VertexSide) (i k : ℕ) → IsSideNumber C x i → IsSideNumber C x k → i ≡ k
       number-same x i k I K =
           let one = at-one C.vertices x.vertex I.vertex K.vertex I.is_vertex K.is_vertex in
-          number-is I.vertex.map i x.side I.label I.is_side ∙ ap (λ (w : Vertex). number_of w.map x.side) one ∙ sym (number-is K.vertex.map k x.side K.label K.is_side)
+          number-is I.vertex.map i x.side I.label I.is_side ∙ ap (λ (w : Vertex). side_number w.map x.side) one ∙ sym (number-is K.vertex.map k x.side K.label K.is_side)
 
       by : (y x : VertexSide) (i k : ℕ) → IsSideNumber C y i → IsSideNumber C x k → IsSideNumber C x s → x.vertex ≡ n → IsBelow (pos y.vertex ∷ pos i ∷ []) (pos x.vertex ∷ pos k ∷ []) → IsVolumeOf C rows y j → (t : ℕ) × (t < s) × IsAt row t j
       by y x i k I K J q (inl o) (t, T, Y) = let w = D.all y.vertex t j (omega (arith, ints, o, q)) Y in absurd (omega (arith, w, h))
@@ -138,10 +138,10 @@ numbered-side C rows N x l (v, a, g) =
     let j = side-number v.map x.side l g in
     let w = at-within C.vertices x.vertex v a in
     let r = is-at_some rows x.vertex (let e = S.as_many in omega (arith, w, e)) in
-    let i = is-at_within (sides_of v.map) (number_of v.map x.side) (x.side, l) j in
+    let i = is-at_within (sides_of v.map) (side_number v.map x.side) (x.side, l) j in
     let e = S.row x.vertex v r.0 a r.1 in
-    let q = is-at_some r.0 (number_of v.map x.side) (omega (arith, i, e)) in
-    (q.0, (number_of v.map x.side, record { vertex = v; is_vertex = a; label = l; is_side = j }, (r.0, r.1, q.1)))
+    let q = is-at_some r.0 (side_number v.map x.side) (omega (arith, i, e)) in
+    (q.0, (side_number v.map x.side, record { vertex = v; is_vertex = a; label = l; is_side = j }, (r.0, r.1, q.1)))
 
 pub labels-of_volumes : (s : Set) (c : ProgramComplex) → ShowsSet s c → (rows : List (List ℕ)) → VolumeNumbers (complex_of c) rows → (n : ℕ) (ls : List Label) → length rows ≤ n → AreLabelsOf (complex_of c) rows n ls → AreVolumeLabels (complex_of c) rows ls
 labels-of_volumes s c S rows N n ls h D = record {

@@ -10,8 +10,8 @@ abbrev pub HasCellNumber : List (List ℕ) → Cell → Type 0
 HasCellNumber rows x = (n : ℕ) × IsCellNumber rows x n
 
 -- all numbers of the table are below the count
-abbrev pub AreNumbersBelow : List (List ℕ) → ℕ → Type 0
-AreNumbersBelow rows count = (x : Cell) (n : ℕ) → IsCellNumber rows x n → n < count
+abbrev pub TableIsBelow : List (List ℕ) → ℕ → Type 0
+TableIsBelow rows count = (x : Cell) (n : ℕ) → IsCellNumber rows x n → n < count
 
 -- the elements of the ties have numbers
 abbrev pub HaveNumbers : List (List ℕ) → List Tie → Type 0

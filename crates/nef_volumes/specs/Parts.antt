@@ -28,8 +28,8 @@ abbrev pub HasFirst : Complex → List Cycle → Type 0
 HasFirst C xs = (k : ProgramCorner) × IsFirstCorner xs k × HasItem C (corner_of k)
 
 -- the facet's volumes are those beside the first corner
-abbrev pub IsBeside : Complex → List (List ℕ) → Facet → Type 0
-IsBeside C rows f = (k : ProgramCorner) → IsFirstCorner f.cycles k → IsVolumeOf C rows (pos_of (corner_of k)) f.pos × IsVolumeOf C rows (neg_of (corner_of k)) f.neg
+abbrev pub HasVolumesBeside : Complex → List (List ℕ) → Facet → Type 0
+HasVolumesBeside C rows f = (k : ProgramCorner) → IsFirstCorner f.cycles k → IsVolumeOf C rows (pos_of (corner_of k)) f.pos × IsVolumeOf C rows (neg_of (corner_of k)) f.neg
 
 -- the facets have the planes, the marks and the cycles, and the volumes beside these
 pub record AreFacetsOf (C : Complex) (rows : List (List ℕ)) (planes : List Plane) (marks : List Label) (cycles : List (List Cycle)) (fs : List Facet) : Type 0 where
@@ -37,7 +37,7 @@ pub record AreFacetsOf (C : Complex) (rows : List (List ℕ)) (planes : List Pla
   pub plane : (n : ℕ) (f : Facet) → IsAt fs n f → IsAt planes n f.plane
   pub mark : (n : ℕ) (f : Facet) → IsAt fs n f → IsAt marks n f.mark
   pub cycles_of : (n : ℕ) (f : Facet) → IsAt fs n f → IsAt cycles n f.cycles
-  pub beside : (n : ℕ) (f : Facet) → IsAt fs n f → IsBeside C rows f
+  pub beside : (n : ℕ) (f : Facet) → IsAt fs n f → HasVolumesBeside C rows f
 
 -- the numbers of the sfaces and of the volumes of the sides, and the labels and the shells of the volumes
 pub record AreVolumesOf (C : Complex) (faces rows : List (List ℕ)) (ls : List Label) (hss : List (List Shell)) : Type 0 where

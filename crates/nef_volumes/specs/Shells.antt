@@ -7,7 +7,7 @@ use Rattle.nef_classes.specs.declared.table.Tie.{Tie}
 use Rattle.nef_complex.specs.Shells.{ShellLink, IsNameBelow}
 use Rattle.nef_complex.specs.declared.parts.Shell.{Shell}
 use Rattle.nef_complex.specs.declared.parts.Side.{Side}
-use Rattle.nef_volumes.specs.Held.{AreHeld}
+use Rattle.nef_volumes.specs.Held.{AreRowsByNumber}
 use Rattle.nef_volumes.specs.Ties.{row_counts, AreTiesOf}
 
 -- the table has the numbers of the classes of the links of shells; the row of the outside, which no link joins, comes first
@@ -32,7 +32,7 @@ IsNamedBefore i k s = (s.vertex < i) ⊎ ((s.vertex ≡ i) × (s.side < k))
 
 -- the lists hold the sides before side k of vertex i, each in order those of the shell with its number, and none is empty
 pub record AreGathered (rows : List (List ℕ)) (i k : ℕ) (hs : List (List Side)) : Type 0 where
-  pub held : AreHeld (IsShellOf rows) (IsNamedBefore i k) IsNameBelow hs
+  pub held : AreRowsByNumber (IsShellOf rows) (IsNamedBefore i k) IsNameBelow hs
   pub some : (m : ℕ) (h : List Side) → IsAt hs m h → (s : Side) × IsAt h 0 s
 
 -- the first side of the list is of the volume with this number
@@ -48,7 +48,7 @@ StandsBefore hs g h = (k : ℕ) × (l : ℕ) × (k < l) × IsAt hs k g.sides × 
 
 -- each row has the shells of the volume with its number, in the order of the list
 abbrev pub AreShellsOf : List (List ℕ) → List (List Side) → List (List Shell) → Type 0
-AreShellsOf volume_of hs rows = AreHeld (IsOfVolume volume_of) (IsOneOf hs) (StandsBefore hs) rows
+AreShellsOf volume_of hs rows = AreRowsByNumber (IsOfVolume volume_of) (IsOneOf hs) (StandsBefore hs) rows
 
 -- each list has a first side, which has a number below the count
 abbrev pub HaveVolumes : List (List ℕ) → ℕ → List (List Side) → Type 0

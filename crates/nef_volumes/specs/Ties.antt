@@ -3,9 +3,9 @@ use Rattle.std.specs.Prelude.{◌≡◌, ◌+◌, ◌<◌, ◌≤◌, ◌∷◌,
 use Rattle.std.specs.List.{Contains}
 use Rattle.nef_geo.specs.Prelude.{IsAt, Chained, Label}
 use Rattle.nef_space.specs.declared.label.Label.TheVariants.{Out}
-use Rattle.law_sphere.specs.Maps.{At, MapVertex, Side, around_svertex, pos_item, neg_item, HasSide}
+use Rattle.law_sphere.specs.Maps.{MapVertex, Side, around_svertex, pos_item, neg_item, HasSide}
 use Rattle.nef_smap.specs.Sides.{sides_of, IsSide, SeeOneWay, AreSfaces}
-use Rattle.nef_smap.specs.SideNumbers.{number_of}
+use Rattle.nef_smap.specs.SideNumbers.{side_number}
 use Rattle.law_complex.specs.Prelude.{Vertex, Edge, Complex, Corner, VertexSide, HasSideLabel, RayDown}
 use Rattle.nef_facets.specs.Prelude.{AreTied, cell_of}
 use Rattle.nef_classes.specs.declared.table.Cell.{Cell}
@@ -33,10 +33,10 @@ row_counts C = 1 ∷ map count_sides C.vertices
 -- the element is that of the side
 pub record IsCellOf (C : Complex) (x : VertexSide) (a : Cell) : Type 0 where
   pub vertex : Vertex
-  pub is_vertex : At C.vertices x.vertex vertex
+  pub is_vertex : IsAt C.vertices x.vertex vertex
   pub label : Label
   pub has : HasSide vertex.map x.side label
-  pub is_cell : a ≡ side_cell x.vertex (number_of vertex.map x.side)
+  pub is_cell : a ≡ side_cell x.vertex (side_number vertex.map x.side)
 
 -- the element is that of the side, or the side is outside and the element is that of the outside
 abbrev pub IsEndOf : Complex → VertexSide → Cell → Type 0
@@ -65,12 +65,12 @@ AreTiesWithOutside C Link ts = AreTiesTo C (IsEndOf C) Link ts
 
 -- ---- the outside
 -- vertex i has the side with the number s, with the label
-abbrev pub HasNumber : Complex → ℕ → ℕ → Label → Type 0
-HasNumber C i s l = (v : Vertex) × (o : Side) × At C.vertices i v × IsSide v.map s o l
+abbrev pub HasSideNumber : Complex → ℕ → ℕ → Label → Type 0
+HasSideNumber C i s l = (v : Vertex) × (o : Side) × IsAt C.vertices i v × IsSide v.map s o l
 
 -- the tie joins the outside with side s of vertex i, which has the label Out
 abbrev pub IsTieOutside : Complex → ℕ → ℕ → Tie → Type 0
-IsTieOutside C i s t = HasNumber C i s Out × (t ≡ record { first = outside_cell; second = side_cell i s })
+IsTieOutside C i s t = HasSideNumber C i s Out × (t ≡ record { first = outside_cell; second = side_cell i s })
 
 -- ---- sfaces
 -- the tie of sides r and s of vertex i
@@ -79,19 +79,19 @@ tie_within i r s = record { first = side_cell i r; second = side_cell i s }
 
 -- the numbers are those of the sfaces of vertex i's sides
 abbrev pub HasSfaces : Complex → ℕ → List ℕ → Type 0
-HasSfaces C i ns = (v : Vertex) × At C.vertices i v × AreSfaces v.map ns
+HasSfaces C i ns = (v : Vertex) × IsAt C.vertices i v × AreSfaces v.map ns
 
 -- the number first stands in the list under r
-abbrev pub IsFirstPlace : List ℕ → ℕ → ℕ → Type 0
-IsFirstPlace ns n r = IsAt ns r n × ((k : ℕ) → k < r → IsAt ns k n → ⊥)
+abbrev pub IsFirstNumber : List ℕ → ℕ → ℕ → Type 0
+IsFirstNumber ns n r = IsAt ns r n × ((k : ℕ) → k < r → IsAt ns k n → ⊥)
 
 -- the tie joins the first side of vertex i that has the number of side s with side s, a later one
 abbrev pub IsTieNumbered : ℕ → List ℕ → ℕ → ℕ → Tie → Type 0
-IsTieNumbered i ns s r t = (r < s) × (n : ℕ) × IsFirstPlace ns n r × IsAt ns s n × (t ≡ tie_within i r s)
+IsTieNumbered i ns s r t = (r < s) × (n : ℕ) × IsFirstNumber ns n r × IsAt ns s n × (t ≡ tie_within i r s)
 
 -- vertex i has sides with the numbers r and s, which are of one sface
 abbrev pub AreInOneSface : Complex → ℕ → ℕ → ℕ → Type 0
-AreInOneSface C i r s = (v : Vertex) × At C.vertices i v × (r < length (sides_of v.map)) × (s < length (sides_of v.map)) × Chained (SeeOneWay v.map) r s
+AreInOneSface C i r s = (v : Vertex) × IsAt C.vertices i v × (r < length (sides_of v.map)) × (s < length (sides_of v.map)) × Chained (SeeOneWay v.map) r s
 
 -- the tie joins two sides of vertex i of one sface
 abbrev pub IsTieInSface : Complex → ℕ → Tie → Type 0
@@ -109,7 +109,7 @@ side_at above k = cond above (pos_item k) (neg_item k)
 
 -- the element is that of the upper or the lower side of the item
 abbrev pub IsItemSide : Complex → Bool → Cell → Cell → Type 0
-IsItemSide C above x a = (v : Vertex) × At C.vertices x.row v × (a ≡ side_cell x.row (number_of v.map (side_at above x.column)))
+IsItemSide C above x a = (v : Vertex) × IsAt C.vertices x.row v × (a ≡ side_cell x.row (side_number v.map (side_at above x.column)))
 
 -- the tie joins the upper, or the lower, sides of the items that the other tie joins
 abbrev pub IsSideTie : Complex → Bool → Tie → Tie → Type 0
@@ -132,25 +132,25 @@ LinkOfItems C Link x y = (j : Corner) × (k : Corner) × Link j k
 -- ---- edges
 -- both are the sides round the ends of an edge
 abbrev pub LinkOfEnds : Complex → VertexSide → VertexSide → Type 0
-LinkOfEnds C x y = (k : ℕ) × (e : Edge) × At C.edges k e
+LinkOfEnds C x y = (k : ℕ) × (e : Edge) × IsAt C.edges k e
     × IsSideOf C x e.low (around_svertex e.low_svertex) × IsSideOf C y e.high (around_svertex e.high_svertex)
 
 abbrev pub HasSvertex : Complex → ℕ → ℕ → Type 0
-HasSvertex C i k = (v : Vertex) × (u : MapVertex) × At C.vertices i v × At v.map.svertices k u
+HasSvertex C i k = (v : Vertex) × (u : MapVertex) × IsAt C.vertices i v × IsAt v.map.svertices k u
 
 -- the element is that of the side round svertex k of vertex i
 abbrev pub IsAroundCell : Complex → ℕ → ℕ → Cell → Type 0
-IsAroundCell C i k a = (v : Vertex) × (u : MapVertex) × (l : Label) × At C.vertices i v × At v.map.svertices k u × (u.around ≡ Some l)
-    × (a ≡ side_cell i (number_of v.map (around_svertex k)))
+IsAroundCell C i k a = (v : Vertex) × (u : MapVertex) × (l : Label) × IsAt C.vertices i v × IsAt v.map.svertices k u × (u.around ≡ Some l)
+    × (a ≡ side_cell i (side_number v.map (around_svertex k)))
 
 -- the tie joins the sides round the ends of edge k
 abbrev pub IsTieOfEnds : Complex → ℕ → Tie → Type 0
-IsTieOfEnds C k t = (e : Edge) × At C.edges k e × IsAroundCell C e.low e.low_svertex t.first × IsAroundCell C e.high e.high_svertex t.second
+IsTieOfEnds C k t = (e : Edge) × IsAt C.edges k e × IsAroundCell C e.low e.low_svertex t.first × IsAroundCell C e.high e.high_svertex t.second
 
 -- ---- rays down
 -- the side lies above the point where the ray down from vertex i ends
-abbrev pub IsBelow : Complex → ℕ → VertexSide → Type 0
-IsBelow C i x = (v : Vertex) × At C.vertices i v × RayDown C v.point x
+abbrev pub IsSideAtRayDown : Complex → ℕ → VertexSide → Type 0
+IsSideAtRayDown C i x = (v : Vertex) × IsAt C.vertices i v × RayDown C v.point x
 
 -- the tie joins a side of vertex i with a side that the link down the ray joins with it
 abbrev pub IsTieDown : Complex → ℕ → Tie → Type 0
@@ -172,7 +172,7 @@ pub record AreDownBetween (C : Complex) (start end : ℕ) (ts : List Tie) : Type
 
 -- the element is that of a side above the point where the ray down from vertex i ends
 abbrev pub IsFloorCell : Complex → ℕ → Cell → Type 0
-IsFloorCell C i a = (x : VertexSide) × IsCellOf C x a × IsBelow C i x
+IsFloorCell C i a = (x : VertexSide) × IsCellOf C x a × IsSideAtRayDown C i x
 
 -- ---- all together
 -- the ties of the sides of items that are linked along edges or across facets

@@ -1,7 +1,7 @@
 //! All parts of a complex, and whether two points are joined.
 
 ghost use Rattle.std.specs.Prelude.{◌≡◌, ◌↔◌};
-ghost use Rattle.nef_volumes.specs.Prelude.{ℕ, List as Sequence, length, IfOk, OnOk, IsTrue, IsAt, Set, Joined, InFrame, place_of, complex_of, corner_of, ShowsSet, IsVolumeOf, VolumeNumbers, IsParts, SfaceNumbers, Cycle as PlainCycle, map_of, sides_of, HasItem, FacetsAreComponents, VolumesAreComponents, AreCounted, IsPartAt, AreItemTies, AreTiesDown, HasAppeared, AreLabelsTo, AreVolumeLabels, side_beside, HasFirst, AreFacetsOf, AreVolumesOf, ArePieces};
+ghost use Rattle.nef_volumes.specs.Prelude.{ℕ, List as Sequence, length, IfOk, OnOk, IsTrue, IsAt, Set, Joined, InFrame, point_of, complex_of, corner_of, ShowsSet, IsVolumeOf, VolumeNumbers, IsParts, SfaceNumbers, Cycle as PlainCycle, map_of, sides_of, HasItem, FacetsAreComponents, VolumesAreComponents, AreCounted, IsPartAt, AreItemTies, AreTiesDown, HasAppeared, AreLabelsTo, AreVolumeLabels, side_beside, HasFirst, AreFacetsOf, AreVolumesOf, ArePieces};
 
 use crate::OutOfMemory;
 use crate::numbers::{gathered, shell_rows, volume_numbers, volume_shells};
@@ -189,8 +189,8 @@ enum Part {
 fn part_at(c: &Complex, parts: &Parts, p: &Point) -> Part
     requires shows { (s : Set) × ShowsSet s c.now }
     requires parts { IsParts (complex_of c.now) parts.now }
-    requires framed { InFrame (place_of p.now) }
-    ensures part { IsPartAt (complex_of c.now) parts.now (place_of p.now) result }
+    requires framed { InFrame (point_of p.now) }
+    ensures part { IsPartAt (complex_of c.now) parts.now (point_of p.now) result }
 {
     match locate(c, p) {
         Place::Vertex(number) => Part::Vertex(number),
@@ -208,9 +208,9 @@ fn part_at(c: &Complex, parts: &Parts, p: &Point) -> Part
 pub fn joined(c: &Complex, parts: &Parts, p: &Point, q: &Point) -> bool
     requires shows { (s : Set) × ShowsSet s c.now }
     requires parts { IsParts (complex_of c.now) parts.now }
-    requires first { InFrame (place_of p.now) }
-    requires second { InFrame (place_of q.now) }
-    ensures joined { (s : Set) → ShowsSet s c.now → IsTrue result ↔ Joined s (place_of p.now) (place_of q.now) }
+    requires first { InFrame (point_of p.now) }
+    requires second { InFrame (point_of q.now) }
+    ensures joined { (s : Set) → ShowsSet s c.now → IsTrue result ↔ Joined s (point_of p.now) (point_of q.now) }
 {
     part_at(c, parts, p) == part_at(c, parts, q)
 }

@@ -1,7 +1,7 @@
 //! The numbers of shells and of volumes, and the shells of each volume.
 
 ghost use Rattle.std.specs.Prelude.{◌≡◌, ◌++◌, ◌<◌, ◌+◌, ◌≤◌};
-ghost use Rattle.nef_volumes.specs.Prelude.{ℕ, List as Sequence, IfOk, length, OnOk, IsAt, Set, complex_of, ShowsSet, VolumeNumbers, SfaceNumbers, AreTiedWithin, HasCounts, AreNumbers, Tie as PlainTie, AreNumbersBelow, HaveNumbers, AreNumberLinks, IsRenumbered, AreRenumbered, AreShellRows, AreNumberedNames, AreGathered, AreShellsOf, HaveVolumes, IsPut, row_counts, AreItemTies, AreTiesDown, AreTiesOf, Finds, HasSvertex, IsAroundCell, IsTieOfEnds, LinkOfEnds};
+ghost use Rattle.nef_volumes.specs.Prelude.{ℕ, List as Sequence, IfOk, length, OnOk, IsAt, Set, complex_of, ShowsSet, VolumeNumbers, SfaceNumbers, AreTiedWithin, HasCounts, AreNumbers, Tie as PlainTie, TableIsBelow, HaveNumbers, AreNumberLinks, IsRenumbered, AreRenumbered, AreShellRows, AreNumberedNames, AreGathered, AreShellsOf, HaveVolumes, IsPut, row_counts, AreItemTies, AreTiesDown, AreTiesOf, Finds, HasSvertex, IsAroundCell, IsTieOfEnds, LinkOfEnds};
 
 use crate::OutOfMemory;
 use crate::ties::{cell, outside_ties, sface_ties};
@@ -127,7 +127,7 @@ fn renumbered(
     rows: &[List<usize>],
     numbers: &[usize],
 ) -> Result<List<List<usize>>, OutOfMemory>
-    requires below { AreNumbersBelow rows.now (length numbers.now) }
+    requires below { TableIsBelow rows.now (length numbers.now) }
     ensures rows { IfOk result (λ new. AreRenumbered numbers.now new rows.now) }
 {
     let mut renumbered = List::from_vec(Vec::with_capacity(alloc, rows.len())?);
@@ -147,7 +147,7 @@ fn join_numbers(
     ties: &[Tie],
 ) -> Result<List<List<usize>>, OutOfMemory>
     requires numbered { HaveNumbers rows.now ties.now }
-    requires below { AreNumbersBelow rows.now count }
+    requires below { TableIsBelow rows.now count }
     ensures counts { IfOk result (λ new. (counts : Sequence ℕ) → HasCounts counts rows.now → HasCounts counts new) }
     ensures numbers { IfOk result (λ new. (counts : Sequence ℕ) (ts : Sequence PlainTie) → HasCounts counts rows.now → AreTiedWithin counts ts → AreNumbers ts rows.now → AreNumbers (ts ++ ties.now) new) }
 {
@@ -170,7 +170,7 @@ pub(crate) fn volume_numbers(
 ) -> Result<List<List<usize>>, OutOfMemory>
     requires shows { (s : Set) × ShowsSet s c.now }
     requires rows { AreShellRows (complex_of c.now) rows.now }
-    requires below { AreNumbersBelow rows.now count }
+    requires below { TableIsBelow rows.now count }
     requires down { AreTiesDown (complex_of c.now) down.now }
     ensures numbers { IfOk result (λ rows. VolumeNumbers (complex_of c.now) rows) }
 {

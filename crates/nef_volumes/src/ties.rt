@@ -1,7 +1,7 @@
 //! The ties of sides: of one sface, of linked items, of the outside, and down the rays from vertices; with the numbers of
 //! sfaces, and the facets from whose ties those of items come.
 
-ghost use Rattle.nef_volumes.specs.Prelude.{length, IsTrue, IfOk, OnOk, ℕ, map, Out, Set, IsAt, Side, Corner, complex_of, ShowsSet, SfaceNumbers, count_items, MatchOption, LinkOutside, LinkInSface, FacetLink, IsCellIn, AreTied, AreTiedWithin, map_of, IsSide, sides_of, Adds, Any, cell_of, side_cell, AreTiesWithOutside, AreTiedOutside, IsTieOutside, HasNoLinkDown, IsTieDown, AreDownBetween, AreTiesOf, HasSfaces, IsFirstPlace, AddsInSfaces, AreItemTies, IsItemSide, IsSideTie, AreFacetPieces};
+ghost use Rattle.nef_volumes.specs.Prelude.{length, IsTrue, IfOk, OnOk, ℕ, map, Out, Set, IsAt, Side, Corner, complex_of, ShowsSet, SfaceNumbers, count_items, MatchOption, LinkOutside, LinkInSface, FacetLink, IsCellIn, AreTied, AreTiedWithin, map_of, IsSide, sides_of, Adds, Any, cell_of, side_cell, AreTiesWithOutside, AreTiedOutside, IsTieOutside, HasNoLinkDown, IsTieDown, AreDownBetween, AreTiesOf, HasSfaces, IsFirstNumber, AddsInSfaces, AreItemTies, IsItemSide, IsSideTie, AreFacetPieces};
 ghost use Rattle.std.specs.Prelude.{◌≡◌, ◌<◌, ◌↔◌, ◌≤◌};
 
 use crate::OutOfMemory;
@@ -106,7 +106,7 @@ pub(crate) fn down_ties(
 
 // Where the number first stands in the list.
 fn first_place(numbers: &[usize], number: usize) -> Option<usize>
-    ensures place { MatchOption result ((k : ℕ) → IsAt numbers.now k number → ⊥) (IsFirstPlace numbers.now number) }
+    ensures place { MatchOption result ((k : ℕ) → IsAt numbers.now k number → ⊥) (IsFirstNumber numbers.now number) }
 {
     numbers.iter().position(|n| *n == number)
 }

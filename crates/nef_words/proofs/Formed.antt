@@ -1,5 +1,5 @@
 -- A value of `--stairs` that words choose is within its limit.
-use Rattle.nef_words.proofs.Prelude.{◌≡◌, ℕ, ◌≤◌, refl, sym, ap, ◌∙◌, List, [], Option, Some, None, Bool, true, false, ◌&&◌, nat_le, option_map, option_and_then, most_stairs, BoardKind, TextVersion, is_digits, decimal_value, number_to, stairs_of, value_of, read, all_formed, choice, Given, Options}
+use Rattle.nef_words.proofs.Prelude.{◌≡◌, ℕ, ◌≤◌, refl, sym, ap, ◌∙◌, List, [], Option, Some, None, Bool, true, false, ◌&&◌, nat_le, option_map, option_and_then, most_stairs, BoardKind, TextVersion, is_digits, decimal_value, number_to, stairs_of, option_value, read, all_formed, choice, GivenOptions, Options}
 use Rattle.std.proofs.Common.{if◌then◌else◌}
 use Rattle.std.specs.Prelude.{codes}
 use Rattle.std.proofs.lemmas.Bool.{and_parts, leb-true}
@@ -42,8 +42,8 @@ pub stairs-within : (words : List (List ℕ)) (o : Options) (n : ℕ) → option
 unfolding options_in
 stairs-within words o n is stairs = by (read None [] words) refl
   where
-    by : (g : Option Given) → read None [] words ≡ g → (1 ≤ n) × (n ≤ most_stairs)
+    by : (g : Option GivenOptions) → read None [] words ≡ g → (1 ≤ n) × (n ≤ most_stairs)
     by None f = let odd : None ≡ Some o = sym (ap (option_and_then choice) f) ∙ is in cc
     by (Some given) f =
         let chosen : choice given ≡ Some o = sym (ap (option_and_then choice) f) ∙ is in
-        value-within (value_of (codes "stairs") given) n (formed-stairs _ _ _ _ _ o chosen ∙ ap (λ (s : Option ℕ). Some s) stairs)
+        value-within (option_value (codes "stairs") given) n (formed-stairs _ _ _ _ _ o chosen ∙ ap (λ (s : Option ℕ). Some s) stairs)

@@ -1,14 +1,14 @@
 -- Clap's definitions and the grammar choose the same options.
-use Rattle.nef_words.proofs.Prelude.{◌≡◌, ◌∙◌, ◌==◌, ◌+◌, suc, ℕ, Bool, take, drop, not, true, false, List, [], ◌∷◌, ◌++◌, Option, Some, None, refl, sym, ap, subst, codes, inl, inr, arith, fold, find, bytes_eq, option_and_then, unwrap_or, if◌then◌else◌, list_any, before_first, after_first, prefix_len, bytes_eq-Decides, long_of, Row, Text, idle, option, has_row, first_of, used, with_default, more_values, reading_by, check_fault, use_fault, DefaultValue, BoardKind, TextVersion, most_stairs, Options, options_of, options_from, number_to, board_named, version_named, Given, options_of_values, value_of, once, option_in, all_formed, choice}
+use Rattle.nef_words.proofs.Prelude.{◌≡◌, ◌∙◌, ◌==◌, ◌+◌, suc, ℕ, Bool, take, drop, not, true, false, List, [], ◌∷◌, ◌++◌, Option, Some, None, refl, sym, ap, subst, codes, inl, inr, arith, fold, find, bytes_eq, option_and_then, unwrap_or, if◌then◌else◌, list_any, before_first, after_first, prefix_len, bytes_eq-Decides, long_of, Row, Text, idle, option, has_row, first_of, used, with_default, more_values, reading_by, check_fault, use_fault, DefaultValue, BoardKind, TextVersion, most_stairs, Options, options_of, options_from, number_to, board_named, version_named, GivenOptions, options_of_values, option_value, once, option_in, all_formed, choice}
 use Rattle.std.proofs.lemmas.Bool.Decides.{Decides-eqb, nat_tests}
 use Rattle.nef_words.specs.Grammar.{read, options_in}
 use Rattle.nef_words.proofs.Walked.{at, clear, answer, rules, top, valued_rule, ahead_rule, at_end, after_end, end_word, chosen, last_fault, options_answer}
 use Rattle.nef_words.proofs.Turns.{Opt, workers, board, stairs, text, name, Arm, unknown, valued, ahead, help, arm, by_id, long_unknown, long_value, long_waits, long_ahead, long_ahead_value, long_help, other_refused}
 use Rattle.nef_words.proofs.Waits.{is_dashed, no_value, waiting_word, settle}
-use Rattle.nef_words.proofs.Rows.{find_append, find_none, append_nil, absent_row, row_of, used_first, ahead_first, Holds, holds_nothing, holds_more, all_defaults, no_default_fault}
+use Rattle.nef_words.proofs.Rows.{find_append, find_none, append_nil, absent_row, row_of, used_first, ahead_first, HoldsGiven, holds_nothing, holds_more, all_defaults, no_default_fault}
 
-abbrev pick : Given → Option Options
-pick given = options_of_values (value_of (codes "workers") given) (value_of (codes "board") given) (value_of (codes "stairs") given) (value_of (codes "text") given) (value_of (codes "ahead") given)
+abbrev pick : GivenOptions → Option Options
+pick given = options_of_values (option_value (codes "workers") given) (option_value (codes "board") given) (option_value (codes "stairs") given) (option_value (codes "text") given) (option_value (codes "ahead") given)
 
 -- ---- the end of the words
 
@@ -38,7 +38,7 @@ with_flag rows e = rw e (absent_row (codes "ahead") (more_values DefaultValue (c
 with_no_flag : (rows : List Row) → has_row (codes "ahead") rows ≡ true → with_default rows ahead_rule ≡ rows
 with_no_flag rows e = rw e refl
 
-end_chosen : (rows : List Row) (given : Given) → Holds rows given → chosen (last_fault top rows) (fold with_default rows rules) ≡ pick given
+end_chosen : (rows : List Row) (given : GivenOptions) → HoldsGiven rows given → chosen (last_fault top rows) (fold with_default rows rules) ≡ pick given
 end_chosen rows given h = ends ∙ go (has_row (codes "ahead") rows) refl
   where
     ends : chosen (last_fault top rows) (fold with_default rows rules) ≡ chosen [] (with_default rows ahead_rule)
@@ -61,10 +61,10 @@ end_chosen rows given h = ends ∙ go (has_row (codes "ahead") rows) refl
         ) refl
 
 -- what is given where `--` is the last word
-abbrev if_last : Given → List Text → Option Given
+abbrev if_last : GivenOptions → List Text → Option GivenOptions
 if_last given rest = if list_any (λ (next : Text). true) rest then None else Some given
 
-end_then : (rest : List Text) (rows : List Row) (given : Given) → Holds rows given → answer top (at rows None idle true) rest ≡ option_and_then pick (if_last given rest)
+end_then : (rest : List Text) (rows : List Row) (given : GivenOptions) → HoldsGiven rows given → answer top (at rows None idle true) rest ≡ option_and_then pick (if_last given rest)
 end_then [] rows given h = at_end rows None idle true ∙ end_chosen rows given h
 end_then (word ∷ rest) rows given h = after_end rows None idle word rest
 
@@ -97,8 +97,8 @@ no_text (Some w) None s a = refl
 no_text (Some w) (Some b) None a = refl
 no_text (Some w) (Some b) (Some s) a = refl
 
-abbrev Spoilt : Given → Type 0
-Spoilt given = (more : Given) → pick (given ++ more) ≡ None
+abbrev Spoilt : GivenOptions → Type 0
+Spoilt given = (more : GivenOptions) → pick (given ++ more) ≡ None
 
 assoc : {X : Type 0} (xs ys zs : List X) → (xs ++ ys) ++ zs ≡ xs ++ (ys ++ zs)
 assoc [] ys zs = refl
@@ -110,33 +110,33 @@ same_name board = refl
 same_name stairs = refl
 same_name text = refl
 
-value_there : (o : Opt) (v : Text) (given more : Given) → list_any (λ (g : Text × Text). bytes_eq g.0 (name o)) given ≡ false → value_of (name o) ((given ++ (name o, v) ∷ []) ++ more) ≡ Some v
+value_there : (o : Opt) (v : Text) (given more : GivenOptions) → list_any (λ (g : Text × Text). bytes_eq g.0 (name o)) given ≡ false → option_value (name o) ((given ++ (name o, v) ∷ []) ++ more) ≡ Some v
 value_there o v given more e = rw (assoc given ((name o, v) ∷ []) more, find_append (λ (g : Text × Text). bytes_eq g.0 (name o)) given ((name o, v) ∷ more), e, same_name o) refl
 
-spoilt_dash : (o : Opt) (v : Text) (given : Given) → is_dashed v ≡ true → list_any (λ (g : Text × Text). bytes_eq g.0 (name o)) given ≡ false → Spoilt (given ++ (name o, v) ∷ [])
+spoilt_dash : (o : Opt) (v : Text) (given : GivenOptions) → is_dashed v ≡ true → list_any (λ (g : Text × Text). bytes_eq g.0 (name o)) given ≡ false → Spoilt (given ++ (name o, v) ∷ [])
 spoilt_dash workers v given d e more = rw (value_there workers v given more e, dash_number 64 v d) refl
 spoilt_dash board v given d e more = rw (value_there board v given more e, dash_board v d) (no_board _ _ _ _)
 spoilt_dash stairs v given d e more = rw (value_there stairs v given more e, dash_number most_stairs v d) (no_stairs _ _ _ _)
 spoilt_dash text v given d e more = rw (value_there text v given more e, dash_version v d) (no_text _ _ _ _)
 
-spoilt_more : (given : Given) (g : Text × Text) → Spoilt given → Spoilt (given ++ g ∷ [])
+spoilt_more : (given : GivenOptions) (g : Text × Text) → Spoilt given → Spoilt (given ++ g ∷ [])
 spoilt_more given g s more = rw (assoc given (g ∷ []) more) (s (g ∷ more))
 
-spoilt_once : (rest : List Text) (n v : Text) (given : Given) → ((given : Given) → Spoilt given → option_and_then pick (read None given rest) ≡ None) → Spoilt given → option_and_then pick (option_and_then (λ more. read None more rest) (once n v given)) ≡ None
+spoilt_once : (rest : List Text) (n v : Text) (given : GivenOptions) → ((given : GivenOptions) → Spoilt given → option_and_then pick (read None given rest) ≡ None) → Spoilt given → option_and_then pick (option_and_then (λ more. read None more rest) (once n v given)) ≡ None
 spoilt_once rest n v given f s = go (list_any (λ (g : Text × Text). bytes_eq g.0 n) given) refl
   where
     go : (b : Bool) → list_any (λ (g : Text × Text). bytes_eq g.0 n) given ≡ b → option_and_then pick (option_and_then (λ more. read None more rest) (once n v given)) ≡ None
     go true e = rw e refl
     go false e = rw e (f (given ++ (n, v) ∷ []) (spoilt_more given (n, v) s))
 
-spoilt_end : (given : Given) → Spoilt given → pick given ≡ None
+spoilt_end : (given : GivenOptions) → Spoilt given → pick given ≡ None
 spoilt_end given s = sym (ap pick (append_nil given)) ∙ s []
 
-spoilt_last : (rest : List Text) (given : Given) → Spoilt given → option_and_then pick (if_last given rest) ≡ None
+spoilt_last : (rest : List Text) (given : GivenOptions) → Spoilt given → option_and_then pick (if_last given rest) ≡ None
 spoilt_last [] given s = spoilt_end given s
 spoilt_last (word ∷ rest) given s = refl
 
-spoilt_word : (word : Text) (rest : List Text) → ((w : Option Text) (given : Given) → Spoilt given → option_and_then pick (read w given rest) ≡ None) → (given : Given) → Spoilt given → option_and_then pick (read None given (word ∷ rest)) ≡ None
+spoilt_word : (word : Text) (rest : List Text) → ((w : Option Text) (given : GivenOptions) → Spoilt given → option_and_then pick (read w given rest) ≡ None) → (given : GivenOptions) → Spoilt given → option_and_then pick (read None given (word ∷ rest)) ≡ None
 unfolding read
 spoilt_word word rest f given s = go (bytes_eq word (codes "--")) (bytes_eq (codes "--ahead") word) (option_in word) (list_any (λ b. b == 61) word) refl refl refl refl
   where
@@ -147,7 +147,7 @@ spoilt_word word rest f given s = go (bytes_eq word (codes "--")) (bytes_eq (cod
     go false false (Some n) true p q r t = rw (p, q, r, t) (spoilt_once rest n (after_first (λ b. b == 61) word) given (f None) s)
     go false false (Some n) false p q r t = rw (p, q, r, t) (f (Some n) given s)
 
-spoilt_read : (words : List Text) (w : Option Text) (given : Given) → Spoilt given → option_and_then pick (read w given words) ≡ None
+spoilt_read : (words : List Text) (w : Option Text) (given : GivenOptions) → Spoilt given → option_and_then pick (read w given words) ≡ None
 unfolding read
 spoilt_read [] None given s = spoilt_end given s
 spoilt_read [] (Some n) given s = refl
@@ -157,12 +157,12 @@ spoilt_read (word ∷ rest) (Some n) given s = spoilt_once rest n word given (sp
 -- ---- a use
 
 abbrev Reads : List Text → Type 0
-Reads rest = (rows : List Row) (given : Given) → Holds rows given → answer top (at rows None idle false) rest ≡ option_and_then pick (read None given rest)
+Reads rest = (rows : List Row) (given : GivenOptions) → HoldsGiven rows given → answer top (at rows None idle false) rest ≡ option_and_then pick (read None given rest)
 
 abbrev ReadsWaiting : List Text → Type 0
-ReadsWaiting rest = (o : Opt) (rows : List Row) (given : Given) → Holds rows given → answer top (at rows (Some (name o, [])) (option (name o)) false) rest ≡ option_and_then pick (read (Some (name o)) given rest)
+ReadsWaiting rest = (o : Opt) (rows : List Row) (given : GivenOptions) → HoldsGiven rows given → answer top (at rows (Some (name o, [])) (option (name o)) false) rest ≡ option_and_then pick (read (Some (name o)) given rest)
 
-use_valued : (o : Opt) (v : Text) (rest : List Text) (rows : List Row) (given : Given) → Holds rows given → Reads rest
+use_valued : (o : Opt) (v : Text) (rest : List Text) (rows : List Row) (given : GivenOptions) → HoldsGiven rows given → Reads rest
     → clear (use_fault false (valued_rule (name o)) (v ∷ []) rows) (answer top (at (used (valued_rule (name o)) (v ∷ []) rows) None idle false) rest) ≡ option_and_then pick (option_and_then (λ more. read None more rest) (once (name o) v given))
 use_valued o v rest rows given h f = go (has_row (name o) rows) refl
   where
@@ -170,7 +170,7 @@ use_valued o v rest rows given h f = go (has_row (name o) rows) refl
     go true e = rw (e, sym (h.has (name o)) ∙ e) refl
     go false e = rw (used_first (name o) v rows e, e, sym (h.has (name o)) ∙ e) (f (rows ++ row_of (valued_rule (name o)) (name o) v ∷ []) (given ++ (name o, v) ∷ []) (holds_more rows given (valued_rule (name o)) (name o) v h))
 
-use_ahead : (rest : List Text) (rows : List Row) (given : Given) → Holds rows given → Reads rest
+use_ahead : (rest : List Text) (rows : List Row) (given : GivenOptions) → HoldsGiven rows given → Reads rest
     → clear (use_fault false ahead_rule [] rows) (answer top (at (used ahead_rule [] rows) None idle false) rest) ≡ option_and_then pick (option_and_then (λ more. read None more rest) (once (codes "ahead") (codes "true") given))
 use_ahead rest rows given h f = go (has_row (codes "ahead") rows) refl
   where
@@ -180,7 +180,7 @@ use_ahead rest rows given h f = go (has_row (codes "ahead") rows) refl
 
 -- ---- a word after an option that waits
 
-dash_refused : (o : Opt) (word : Text) (rest : List Text) (given : Given) → is_dashed word ≡ true → option_and_then pick (option_and_then (λ more. read None more rest) (once (name o) word given)) ≡ None
+dash_refused : (o : Opt) (word : Text) (rest : List Text) (given : GivenOptions) → is_dashed word ≡ true → option_and_then pick (option_and_then (λ more. read None more rest) (once (name o) word given)) ≡ None
 dash_refused o word rest given d = go (list_any (λ (g : Text × Text). bytes_eq g.0 (name o)) given) refl
   where
     go : (b : Bool) → list_any (λ (g : Text × Text). bytes_eq g.0 (name o)) given ≡ b → option_and_then pick (option_and_then (λ more. read None more rest) (once (name o) word given)) ≡ None
@@ -265,7 +265,7 @@ with_equals t e = go (bytes_eq (codes "ahead") t) refl
     go false q = q
 
 -- a word that begins with two dashes, and has more
-module _ (y : ℕ) (ys : Text) (rest : List Text) (rows : List Row) (given : Given) (h : Holds rows given) (f : Reads rest) (g : ReadsWaiting rest) where
+module _ (y : ℕ) (ys : Text) (rest : List Text) (rows : List Row) (given : GivenOptions) (h : HoldsGiven rows given) (f : Reads rest) (g : ReadsWaiting rest) where
   abbrev tail : Text
   tail = y ∷ ys
 
@@ -349,7 +349,7 @@ second_byte_other x xs e = record { long = rw e refl; flag = rw (other_byte x e)
     go false t = ap named_by (before_more 45 (x ∷ xs) refl ∙ ap (λ r. 45 ∷ r) (before_more x xs t)) ∙ rw (other_byte x e) refl
 
 abbrev IdleCase : List Text → Text → Type 0
-IdleCase rest word = (rows : List Row) (given : Given) → Holds rows given → answer top (at rows None idle false) (word ∷ rest) ≡ option_and_then pick (read None given (word ∷ rest))
+IdleCase rest word = (rows : List Row) (given : GivenOptions) → HoldsGiven rows given → answer top (at rows None idle false) (word ∷ rest) ≡ option_and_then pick (read None given (word ∷ rest))
 
 other_case : (word : Text) (rest : List Text) → bytes_eq word (codes "--") ≡ false → IsOther word → IdleCase rest word
 unfolding read
@@ -399,10 +399,10 @@ same_formed (Some w) (Some b) None t a = refl
 same_formed (Some w) (Some b) (Some s) None a = refl
 same_formed (Some w) (Some b) (Some s) (Some t) a = refl
 
-same_choice : (given : Given) → pick given ≡ choice given
-same_choice given = rw (same_flag (value_of (codes "ahead") given)) (same_formed _ _ _ _ _)
+same_choice : (given : GivenOptions) → pick given ≡ choice given
+same_choice given = rw (same_flag (option_value (codes "ahead") given)) (same_formed _ _ _ _ _)
 
-same_choices : (given : Option Given) → option_and_then pick given ≡ option_and_then choice given
+same_choices : (given : Option GivenOptions) → option_and_then pick given ≡ option_and_then choice given
 same_choices None = refl
 same_choices (Some given) = same_choice given
 

@@ -17,7 +17,7 @@ pub use Rattle.nef_space.specs.Limits.{most_stairs}
 pub use Rattle.nef_core.specs.declared.work.BoardKind.{BoardKind}
 pub use Rattle.nef_core.specs.declared.work.TextVersion.{TextVersion}
 pub use Rattle.nef_words.specs.Chosen.{board_named, number_to, options_from, options_of, stairs_of, version_named}
-pub use Rattle.nef_words.specs.Grammar.{all_formed, choice, once, option_in, read, value_of}
+pub use Rattle.nef_words.specs.Grammar.{all_formed, choice, once, option_in, option_value, read}
 pub use Rattle.nef_words.specs.Usage.{given, option_named, usage, without_name}
-pub use Rattle.nef_words.specs.Values.{Given, board_of, is_given, options_of_values, text_of, workers_of}
+pub use Rattle.nef_words.specs.Values.{GivenOptions, board_of, is_given, options_of_values, text_of, workers_of}
 pub use Rattle.nef_words.specs.declared.words.Options.{Options}

@@ -1,5 +1,5 @@
 -- The rows of clap's matches, as the list of what was given.
-use Rattle.nef_words.proofs.Prelude.{◌≡◌, ◌∙◌, ◌||◌, Bool, true, false, List, [], ◌∷◌, ◌++◌, Option, Some, None, refl, sym, ap, codes, fold, find, bytes_eq, slice_get, option_and_then, option_map, if◌then◌else◌, list_any, Row, Rule, Text, at_row, more_values, without, has_row, first_of, used, reading_by, with_default, default_fault, CommandLine, value_of, Given}
+use Rattle.nef_words.proofs.Prelude.{◌≡◌, ◌∙◌, ◌||◌, Bool, true, false, List, [], ◌∷◌, ◌++◌, Option, Some, None, refl, sym, ap, codes, fold, find, bytes_eq, slice_get, option_and_then, option_map, if◌then◌else◌, list_any, Row, Rule, Text, at_row, more_values, without, has_row, first_of, used, reading_by, with_default, default_fault, CommandLine, option_value, GivenOptions}
 use Rattle.clap.specs.Faults.{defaults_fault}
 use Rattle.nef_words.proofs.Walked.{rules, valued_rule, ahead_rule, last_rule}
 
@@ -63,11 +63,11 @@ ahead_first rows e =
     rw gone (absent_row (codes "ahead") (more_values CommandLine (codes "true" ∷ [])) (row_of ahead_rule (codes "ahead") (codes "true") ∷ []) rows e)
 
 -- the rows hold what was given
-pub record Holds (rows : List Row) (given : Given) : Type 0 where
+pub record HoldsGiven (rows : List Row) (given : GivenOptions) : Type 0 where
   pub has : (n : Text) → has_row n rows ≡ list_any (λ g. bytes_eq g.0 n) given
-  pub first : (n : Text) → first_of n rows ≡ value_of n given
+  pub first : (n : Text) → first_of n rows ≡ option_value n given
 
-pub holds_nothing : Holds [] []
+pub holds_nothing : HoldsGiven [] []
 holds_nothing = record { has = λ n. refl; first = λ n. refl }
 
 join : (b c : Bool) (x : Option Row) (y : Option (Text × Text)) (r : Row) (g : Text × Text) → option_and_then (λ (z : Row). slice_get z.values 0) x ≡ option_map (λ (z : Text × Text). z.1) y → slice_get r.values 0 ≡ Some g.1
@@ -76,7 +76,7 @@ join true c x y r g e f = e
 join false true x y r g e f = f
 join false false x y r g e f = refl
 
-pub holds_more : (rows : List Row) (given : Given) (a : Rule) (id v : Text) → Holds rows given → Holds (rows ++ row_of a id v ∷ []) (given ++ (id, v) ∷ [])
+pub holds_more : (rows : List Row) (given : GivenOptions) (a : Rule) (id v : Text) → HoldsGiven rows given → HoldsGiven (rows ++ row_of a id v ∷ []) (given ++ (id, v) ∷ [])
 holds_more rows given a id v h = record {
   has = λ n. any_last (λ (r : Row). bytes_eq r.id n) rows (row_of a id v) ∙ ap (λ b. b || bytes_eq id n) (h.has n) ∙ sym (any_last (λ (g : Text × Text). bytes_eq g.0 n) given (id, v));
   first = λ n. rw (find_append (λ (r : Row). bytes_eq r.id n) rows (row_of a id v ∷ []), find_append (λ (g : Text × Text). bytes_eq g.0 n) given ((id, v) ∷ []), h.has n)

@@ -3,7 +3,7 @@ use Rattle.nef_words.proofs.Prelude.{◌≡◌, ◌∙◌, ◌==◌, ℕ, zero, 
 use Rattle.clap.specs.declared.error.kind.ErrorKind.{ErrorKind}
 use Rattle.clap.specs.Walk.{walked, bundle_met}
 use Rattle.clap.specs.Faults.{flags_fault}
-use Rattle.nef_words.proofs.Walked.{at, clear, answer, step, rules, top, valued_rule, ahead_rule, last_rule}
+use Rattle.nef_words.proofs.Walked.{at, clear, answer, walk_step, rules, top, valued_rule, ahead_rule, last_rule}
 
 pub data Opt : Type 0 where
   workers : Opt
@@ -82,34 +82,34 @@ clear_fails_twice (l ∷ ks) k ls ms ns x = refl
 -- ---- a word that begins with `--`, where nothing waits
 module _ (rows : List Row) (p : Option (Text × List Text)) (word n : Text) (rest : List Text) (b : bytes_eq word (codes "--") ≡ false) where
   pub long_unknown : (v : Option Text) → long_of word ≡ Some (n, v) → arg_by_long rules n ≡ None → answer top (at rows p idle false) (word ∷ rest) ≡ None
-  long_unknown v l a = step top (at rows p idle false) word rest ∙ rw (b, l, a) refl
+  long_unknown v l a = walk_step top (at rows p idle false) word rest ∙ rw (b, l, a) refl
 
   pub long_value : (o : Opt) (v : Text) → long_of word ≡ Some (n, Some v) → arg_by_long rules n ≡ Some (valued_rule (name o))
       → answer top (at rows p idle false) (word ∷ rest) ≡ clear (react_fault rules false (valued_rule (name o)) (v ∷ []) (held rows p)) (answer top (at (used (valued_rule (name o)) (v ∷ []) (settled_rows rules p rows)) None idle false) rest)
   unfolding walked
-  long_value o v l a = step top (at rows p idle false) word rest ∙ rw (b, l, a) (clear_nil (react_fault rules false (valued_rule (name o)) (v ∷ []) (held rows p)) (answer top (at (used (valued_rule (name o)) (v ∷ []) (settled_rows rules p rows)) None idle false) rest))
+  long_value o v l a = walk_step top (at rows p idle false) word rest ∙ rw (b, l, a) (clear_nil (react_fault rules false (valued_rule (name o)) (v ∷ []) (held rows p)) (answer top (at (used (valued_rule (name o)) (v ∷ []) (settled_rows rules p rows)) None idle false) rest))
 
   pub long_waits : (o : Opt) → long_of word ≡ Some (n, None) → arg_by_long rules n ≡ Some (valued_rule (name o))
       → answer top (at rows p idle false) (word ∷ rest) ≡ clear (settling rows p) (answer top (at (settled_rows rules p rows) (Some (name o, [])) (option (name o)) false) rest)
   unfolding walked
-  long_waits o l a = step top (at rows p idle false) word rest ∙ rw (b, l, a) (clear_nil (settling rows p) (answer top (at (settled_rows rules p rows) (Some (name o, [])) (option (name o)) false) rest))
+  long_waits o l a = walk_step top (at rows p idle false) word rest ∙ rw (b, l, a) (clear_nil (settling rows p) (answer top (at (settled_rows rules p rows) (Some (name o, [])) (option (name o)) false) rest))
 
   pub long_ahead : long_of word ≡ Some (n, None) → arg_by_long rules n ≡ Some ahead_rule
       → answer top (at rows p idle false) (word ∷ rest) ≡ clear (react_fault rules false ahead_rule [] (held rows p)) (answer top (at (used ahead_rule [] (settled_rows rules p rows)) None idle false) rest)
   unfolding walked
-  long_ahead l a = step top (at rows p idle false) word rest ∙ rw (b, l, a) (clear_nil (react_fault rules false ahead_rule [] (held rows p)) (answer top (at (used ahead_rule [] (settled_rows rules p rows)) None idle false) rest))
+  long_ahead l a = walk_step top (at rows p idle false) word rest ∙ rw (b, l, a) (clear_nil (react_fault rules false ahead_rule [] (held rows p)) (answer top (at (used ahead_rule [] (settled_rows rules p rows)) None idle false) rest))
 
   pub long_ahead_value : (v : Text) → long_of word ≡ Some (n, Some v) → arg_by_long rules n ≡ Some ahead_rule → answer top (at rows p idle false) (word ∷ rest) ≡ None
-  long_ahead_value v l a = step top (at rows p idle false) word rest ∙ rw (b, l, a) refl
+  long_ahead_value v l a = walk_step top (at rows p idle false) word rest ∙ rw (b, l, a) refl
 
   pub long_help : (v : Option Text) → long_of word ≡ Some (n, v) → arg_by_long rules n ≡ Some last_rule → answer top (at rows p idle false) (word ∷ rest) ≡ None
-  long_help None l a = step top (at rows p idle false) word rest ∙ rw (b, l, a) (clear_fails (settling rows p) _ _ _ _)
-  long_help (Some v) l a = step top (at rows p idle false) word rest ∙ rw (b, l, a) refl
+  long_help None l a = walk_step top (at rows p idle false) word rest ∙ rw (b, l, a) (clear_fails (settling rows p) _ _ _ _)
+  long_help (Some v) l a = walk_step top (at rows p idle false) word rest ∙ rw (b, l, a) refl
 
 -- any other word, where nothing waits
 pub other_refused : (rows : List Row) (p : Option (Text × List Text)) (word : Text) (rest : List Text) → bytes_eq word (codes "--") ≡ false → long_of word ≡ None → answer top (at rows p idle false) (word ∷ rest) ≡ None
 unfolding flags_fault bundle_met
-other_refused rows p word rest b l = step top (at rows p idle false) word rest ∙ go (short_of word) refl
+other_refused rows p word rest b l = walk_step top (at rows p idle false) word rest ∙ go (short_of word) refl
   where
     arms : (flags : Text) (k x : ℕ) → short_of word ≡ Some flags → length flags ≡ suc k → slice_get (chars flags) 0 ≡ Some x → (arg_by_short rules x ≡ None) ⊎ (arg_by_short rules x ≡ Some last_rule)
         → clear (turn_fault top [] (at rows p idle false) word) (answer top (walked rules [] (at rows p idle false) word) rest) ≡ None

@@ -3,7 +3,7 @@ use Rattle.nef_words.proofs.Prelude.{◌≡◌, ◌∙◌, ◌==◌, ℕ, zero, 
 use Rattle.clap.specs.declared.error.kind.ErrorKind.TheVariants.{InvalidValue}
 use Rattle.clap.specs.Walk.{walked, bundle_met}
 use Rattle.clap.specs.Faults.{flags_fault}
-use Rattle.nef_words.proofs.Walked.{at, clear, clear_None, answer, step, rules, top, last_rule, at_end, after_end, end_word}
+use Rattle.nef_words.proofs.Walked.{at, clear, clear_None, answer, walk_step, rules, top, last_rule, at_end, after_end, end_word}
 use Rattle.nef_words.proofs.Turns.{Opt, workers, board, stairs, text, name, held, settling, Arm, unknown, valued, ahead, help, arm, short_arm, clear_or, long_unknown, long_value, long_waits, long_ahead, long_ahead_value, long_help, other_refused}
 
 pub plain_value : (o : Opt) (rows : List Row) (word : Text) → option_word (arg_by_id rules (name o)) (name o) word (held rows (Some (name o, []))) ≡ (held rows (Some (name o, word ∷ [])), idle)
@@ -102,7 +102,7 @@ module _ (o : Opt) (rows : List Row) (word : Text) (rest : List Text) where
   by_end false b = word_taken b (long_of word) refl
 
   pub waiting_word : ((answer top before (word ∷ rest) ≡ None) × (is_dashed word ≡ true)) ⊎ (answer top before (word ∷ rest) ≡ taken)
-  waiting_word = elim (by_end (bytes_eq word (codes "--")) refl) [ inl h ↦ inl (step top before word rest ∙ h.0, h.1) | inr h ↦ inr (step top before word rest ∙ h) ]
+  waiting_word = elim (by_end (bytes_eq word (codes "--")) refl) [ inl h ↦ inl (walk_step top before word rest ∙ h.0, h.1) | inr h ↦ inr (walk_step top before word rest ∙ h) ]
 
 -- where nothing waits, what is pending counts as used
 module _ (rows : List Row) (p : Option (Text × List Text)) where

@@ -40,9 +40,9 @@ clear_step : (ks ls ms : Kinds) (a : Option ℕ) (b : Option BoardKind) (c : Opt
 clear_step [] ls ms a b c d e = refl
 clear_step (k ∷ ks) ls ms a b c d e = refl
 
-pub step : (s : Shape) (w : Walk) (word : Text) (rest : List Text) → answer s w (word ∷ rest) ≡ clear (turn_fault s [] w word) (answer s (walked s.rules [] w word) rest)
+pub walk_step : (s : Shape) (w : Walk) (word : Text) (rest : List Text) → answer s w (word ∷ rest) ≡ clear (turn_fault s [] w word) (answer s (walked s.rules [] w word) rest)
 unfolding answer walk_fault
-step s w word rest = clear_step (turn_fault s [] w word) _ _ _ _ _ _ _
+walk_step s w word rest = clear_step (turn_fault s [] w word) _ _ _ _ _ _ _
 
 clear_both : (ks ls : Kinds) (a : Option ℕ) (b : Option BoardKind) (c : Option (Option ℕ)) (d : Option TextVersion) (e : Bool)
     → options_from (or_else ks ls) a b c d e ≡ clear ks (options_from ls a b c d e)
@@ -83,9 +83,9 @@ at_end rows p w t = clear_both (settle_fault rules false (record { rows = rows; 
 -- no word may follow `--`
 pub after_end : (rows : List Row) (p : Option (Text × List Text)) (w : Waiting) (word : Text) (rest : List Text) → answer top (at rows p w true) (word ∷ rest) ≡ None
 unfolding rules
-after_end rows p w word rest = step top (at rows p w true) word rest
+after_end rows p w word rest = walk_step top (at rows p w true) word rest
 
 -- `--`
 pub end_word : (rows : List Row) (p : Option (Text × List Text)) (word : Text) (rest : List Text) → bytes_eq word (codes "--") ≡ true → answer top (at rows p idle false) (word ∷ rest) ≡ answer top (at rows p idle true) rest
 unfolding walked
-end_word rows p word rest e = step top (at rows p idle false) word rest ∙ rw e refl
+end_word rows p word rest e = walk_step top (at rows p idle false) word rest ∙ rw e refl

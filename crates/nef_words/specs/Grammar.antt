@@ -9,8 +9,8 @@ use Rattle.nef_words.specs.declared.words.Options.{Options}
 use Rattle.nef_words.specs.Chosen.{number_to, board_named, version_named, stairs_of}
 
 -- the value of an option, among the options that were given, each with its value
-abbrev pub value_of : List ℕ → List (List ℕ × List ℕ) → Option (List ℕ)
-value_of name given = option_map (λ g. g.1) (find (λ g. bytes_eq g.0 name) given)
+abbrev pub option_value : List ℕ → List (List ℕ × List ℕ) → Option (List ℕ)
+option_value name given = option_map (λ g. g.1) (find (λ g. bytes_eq g.0 name) given)
 
 -- the given options with one more, which wasn't given before
 abbrev pub once : List ℕ → List ℕ → List (List ℕ × List ℕ) → Option (List (List ℕ × List ℕ))
@@ -38,8 +38,8 @@ all_formed (Some workers) (Some board) (Some stairs) (Some text) ahead = Some (r
 all_formed workers board stairs text ahead = None
 
 abbrev pub choice : List (List ℕ × List ℕ) → Option Options
-choice given = all_formed (number_to 64 (unwrap_or (value_of (codes "workers") given) (codes "1"))) (board_named (unwrap_or (value_of (codes "board") given) (codes "lock")))
-    (stairs_of (value_of (codes "stairs") given)) (version_named (unwrap_or (value_of (codes "text") given) (codes "1"))) (bytes_eq (unwrap_or (value_of (codes "ahead") given) (codes "false")) (codes "true"))
+choice given = all_formed (number_to 64 (unwrap_or (option_value (codes "workers") given) (codes "1"))) (board_named (unwrap_or (option_value (codes "board") given) (codes "lock")))
+    (stairs_of (option_value (codes "stairs") given)) (version_named (unwrap_or (option_value (codes "text") given) (codes "1"))) (bytes_eq (unwrap_or (option_value (codes "ahead") given) (codes "false")) (codes "true"))
 
 -- the options that the words choose
 unfoldable pub options_in : List (List ℕ) → Option Options

@@ -8,8 +8,8 @@ use Rattle.nef_words.specs.declared.words.Options.{Options}
 use Rattle.nef_words.specs.Chosen.{number_to, board_named, version_named, stairs_of, options_from}
 
 -- the options that were given, each with its value
-abbrev pub Given : Type 0
-Given = List (List ℕ × List ℕ)
+abbrev pub GivenOptions : Type 0
+GivenOptions = List (List ℕ × List ℕ)
 
 -- the number of workers, the board and the version of the text that a value chooses
 abbrev pub workers_of : Option Text → Option ℕ

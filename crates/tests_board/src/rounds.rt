@@ -1,6 +1,6 @@
 //! Rounds of the numbers 4 and 7, a stage of five numbers, and stages that tell how many are worked side by side.
 ghost use Rattle.std.specs.Prelude.{◌≡◌, ◌≤◌, ◌==◌, if◌then◌else◌, nat_lt, Some, None};
-ghost use Rattle.nef_sched.specs.Rounds.{Belongs};
+ghost use Rattle.nef_sched.specs.Rounds.{IsPassInRound};
 
 use crate::rows::{TURNS, check, number};
 use nef_sched::{Needs, OutOfMemory, Results, Round, RoundPass, Stage, Taken, run_ahead};
@@ -14,7 +14,7 @@ const NUMBERS: [usize; 2] = [4, 7];
 
 // Whether the pass takes both numbers, in any order, and then finds none.
 fn takes_both<R: Wait>(rt: &R, round: &Round, pass: &mut RoundPass) -> bool
-    requires { Belongs round.now pass.old }
+    requires { IsPassInRound round.now pass.old }
 {
     let (first, second) = (round.take(rt, pass), round.take(rt, pass));
     let are_both = matches!((first, second), (Some(4), Some(7)) | (Some(7), Some(4)));

@@ -1,7 +1,7 @@
 //! Hits of rays from points, and hits of rays from such hits: answers that no clause gives.
 
 ghost use Rattle.std.specs.Prelude.{◌↔◌};
-ghost use Rattle.nef_geo.specs.Prelude.{IsTrue, IsAtMost, vector, IsPlaceAtMost, hit_place, upright_limit, upright_weight_limit};
+ghost use Rattle.nef_geo.specs.Prelude.{IsTrue, IsAtMost, vector, IsPointAtMost, hit_point, upright_limit, upright_weight_limit};
 
 use crate::geometry::{is_order, plane, point};
 use crate::words::{check, is_at_most, numbers, parted, way};
@@ -36,7 +36,7 @@ fn are_at_most(x: i128, y: i128, z: i128) -> bool
 }
 
 fn is_upright(p: &Hit) -> bool
-    ensures small { IsTrue result → IsPlaceAtMost upright_limit upright_weight_limit (hit_place p.now) }
+    ensures small { IsTrue result → IsPointAtMost upright_limit upright_weight_limit (hit_point p.now) }
 {
     are_at_most(p.x(), p.y(), p.z()) && p.w().unsigned_abs() <= 1 << 73
 }

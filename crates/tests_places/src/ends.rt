@@ -2,7 +2,7 @@
 //! the point; this point; and the label from there on. It is `frame` where the ray begins on the border of the frame.
 
 ghost use Rattle.std.specs.Prelude.{◌≤◌};
-ghost use Rattle.nef_complex.specs.Prelude.{IsTrue, IfSome, ray_direction_limit, ray_point_limit, ray_weight_limit, Set, IsAtMost, IsPlaceAtMost, vector_of, place_of, ShowsSet};
+ghost use Rattle.nef_complex.specs.Prelude.{IsTrue, IfSome, ray_direction_limit, ray_point_limit, ray_weight_limit, Set, IsAtMost, IsPointAtMost, vector_of, point_of, ShowsSet};
 
 use crate::tables::check_table;
 use crate::words::{is_within, label_word, numbers, point};
@@ -19,7 +19,7 @@ const GREATEST_WEIGHT: u64 = 1 << 10;
 const GREATEST_WAY: u64 = 1 << 10;
 
 fn is_start(p: &Point) -> bool
-    ensures small { IsTrue result → IsPlaceAtMost ray_point_limit ray_weight_limit (place_of p.now) }
+    ensures small { IsTrue result → IsPointAtMost ray_point_limit ray_weight_limit (point_of p.now) }
 {
     is_within(p.x(), GREATEST_NUMBER)
         && is_within(p.y(), GREATEST_NUMBER)

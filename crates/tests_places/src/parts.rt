@@ -9,7 +9,7 @@
 //! - `tie_along CORNER CORNER`, `tie_across CORNER CORNER`: whether a tie leads from the first corner, by its vertex
 //! and its item, to the second corner.
 
-ghost use Rattle.nef_complex.specs.Prelude.{InFrame, Set, place_of, ShowsSet};
+ghost use Rattle.nef_complex.specs.Prelude.{InFrame, Set, point_of, ShowsSet};
 
 use crate::items::{add_planes, letter};
 use crate::words::{add_truth, inner_point, numbers};
@@ -147,8 +147,8 @@ pub(crate) fn add_tie(
 
 fn are_joined(alloc: Global, c: &Complex, p: &Point, q: &Point) -> Result<bool, OutOfMemory>
     requires shows { (s : Set) × ShowsSet s c.now }
-    requires first { InFrame (place_of p.now) }
-    requires second { InFrame (place_of q.now) }
+    requires first { InFrame (point_of p.now) }
+    requires second { InFrame (point_of q.now) }
 {
     let all = parts(alloc, c)?;
     Ok(joined(c, &all, p, q))

@@ -9,7 +9,7 @@
 //! - `rising POINT`, `falling POINT`: the place that a ray meets first which comes to the point exactly.
 
 ghost use Rattle.std.specs.Prelude.{◌≡◌, ◌⊎◌};
-ghost use Rattle.nef_complex.specs.Prelude.{IfSome, InClosedFrame, Set, opposite, up, vector_of, place_of, complex_of, ShowsSet};
+ghost use Rattle.nef_complex.specs.Prelude.{IfSome, InClosedFrame, Set, opposite, up, vector_of, point_of, complex_of, ShowsSet};
 ghost use Rattle.nef_locate.specs.Places.{IsPlaceIn};
 
 use crate::words::{add_dir, framed_point, label_word, point};
@@ -29,7 +29,7 @@ fn moved(x: i64, w: i64, number: i64) -> Option<i64> {
 
 // The point p - d/PART, from which the ray along d comes to p exactly, if the weight of p divides PART.
 fn start(d: &Dir, p: &Point) -> Option<Point>
-    ensures framed { IfSome result (λ q. InClosedFrame (place_of q)) }
+    ensures framed { IfSome result (λ q. InClosedFrame (point_of q)) }
 {
     let w = p.w();
     if w < 1 || PART % w != 0 {
@@ -96,7 +96,7 @@ fn add_vertex(text: &mut String, c: &Complex, p: &Point) -> Result<(), OutOfMemo
 // Adds the place that the ray up or down from the point meets first.
 fn add_hit(text: &mut String, c: &Complex, p: &Point, d: &Dir) -> Option<()>
     requires shows { (s : Set) × ShowsSet s c.now }
-    requires framed { InClosedFrame (place_of p.now) }
+    requires framed { InClosedFrame (point_of p.now) }
     requires upright { (vector_of d.now ≡ up) ⊎ (vector_of d.now ≡ opposite up) }
 {
     match first_hit(c, p, d) {
@@ -117,7 +117,7 @@ fn add_exact(text: &mut String, c: &Complex, p: &Point, d: &Dir) -> Option<()>
 // The kind of the least map at the point.
 fn kind_at(alloc: Global, c: &Complex, p: &Point) -> Result<Kind, OutOfMemory>
     requires shows { (s : Set) × ShowsSet s c.now }
-    requires framed { InClosedFrame (place_of p.now) }
+    requires framed { InClosedFrame (point_of p.now) }
 {
     let map = local_map(alloc, c, p)?;
     Ok(kind(&map))

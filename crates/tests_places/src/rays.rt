@@ -9,7 +9,7 @@
 //! - `against PLANE NUMBER`: what the ray against the plane's second direction meets, by the call that gets the vertex.
 
 ghost use Rattle.std.specs.Prelude.{◌≡◌, ◌<◌};
-ghost use Rattle.nef_complex.specs.Prelude.{ℕ, pos, length, false, IsTrue, IfSome, normal_limit, InClosedFrame, form_at, Set, IsAtMost, IsPlaceAtMost, form_of, vector_of, place_of, hit_place, upright_limit, upright_weight_limit, At, IsOnEdges, IsEdgePoint, complex_of, ShowsSet};
+ghost use Rattle.nef_complex.specs.Prelude.{ℕ, pos, length, false, IsTrue, IfSome, normal_limit, InClosedFrame, form_at, Set, IsAtMost, IsPointAtMost, form_of, vector_of, point_of, hit_point, upright_limit, upright_weight_limit, IsAt, IsOnEdges, IsEdgePoint, complex_of, ShowsSet};
 ghost use Rattle.nef_smap.specs.declared.map.SVertex.{SVertex};
 ghost use Rattle.nef_plane.specs.Meets.{HasNoSvertex, IsAlongAxis};
 ghost use Rattle.tests_places.specs.Clear.{IsClearVertex};
@@ -25,7 +25,7 @@ use nef_smap::SphereMap;
 // Whether the point lies strictly on no edge.
 fn is_off_edges(c: &Complex, p: &Hit) -> bool
     requires shows { (s : Set) × ShowsSet s c.now }
-    ensures off { IsTrue result → (k : ℕ) → IsEdgePoint (complex_of c.now) k (hit_place p.now) → ⊥ }
+    ensures off { IsTrue result → (k : ℕ) → IsEdgePoint (complex_of c.now) k (hit_point p.now) → ⊥ }
 {
     for number in 0..c.edges.len() {
         if is_on_edge(c, number, p) {
@@ -42,7 +42,7 @@ fn is_same(a: &Dir, d: &Dir) -> bool
 }
 
 fn has_svertex(map: &SphereMap, d: &Dir) -> bool
-    ensures none { result ≡ false → (j : ℕ) (u : SVertex) → At map.now.svertices j u → u.dir ≡ d.now → ⊥ }
+    ensures none { result ≡ false → (j : ℕ) (u : SVertex) → IsAt map.now.svertices j u → u.dir ≡ d.now → ⊥ }
 {
     for svertex in map.svertices.as_slice() {
         if is_same(&svertex.dir, d) {
@@ -55,14 +55,14 @@ fn has_svertex(map: &SphereMap, d: &Dir) -> bool
 fn is_clear_vertex(c: &Complex, number: usize, p: &Hit, d: &Dir) -> bool
     requires shows { (s : Set) × ShowsSet s c.now }
     requires within { number < length c.now.vertices }
-    ensures clear { IsTrue result → IsClearVertex c.now (hit_place p.now) d.now number }
+    ensures clear { IsTrue result → IsClearVertex c.now (hit_point p.now) d.now number }
 {
     !is_at_vertex(c, number, p) || !has_svertex(&c.vertices.at(number).map, d)
 }
 
 fn has_no_svertex(c: &Complex, p: &Hit, d: &Dir) -> bool
     requires shows { (s : Set) × ShowsSet s c.now }
-    ensures none { IsTrue result → HasNoSvertex (complex_of c.now) (hit_place p.now) (vector_of d.now) }
+    ensures none { IsTrue result → HasNoSvertex (complex_of c.now) (hit_point p.now) (vector_of d.now) }
 {
     for number in 0..c.vertices.len() {
         if !is_clear_vertex(c, number, p, d) {
@@ -87,7 +87,7 @@ fn axis(h: &Plane, back: bool) -> Dir
 // What the ray along the plane's axis, or back along the axis, meets first, if the ray may be asked.
 fn met_along_axis(c: &Complex, h: &Plane, p: &Hit, back: bool) -> Option<Option<PlaneMeet>>
     requires shows { (s : Set) × ShowsSet s c.now }
-    requires numbers { IsPlaceAtMost upright_limit upright_weight_limit (hit_place p.now) }
+    requires numbers { IsPointAtMost upright_limit upright_weight_limit (hit_point p.now) }
 {
     let d = axis(h, back);
     if hit_side(h, p) == Sign::Zero && is_off_edges(c, p) && has_no_svertex(c, p, &d) {
@@ -141,8 +141,8 @@ fn met_against(c: &Complex, h: &Plane, vertex: usize) -> Option<Option<PlaneMeet
 // Whether the point is no vertex and lies on no edge.
 fn is_off_skeleton(c: &Complex, p: &Point) -> bool
     requires shows { (s : Set) × ShowsSet s c.now }
-    requires framed { InClosedFrame (place_of p.now) }
-    ensures off { IsTrue result → IsOnEdges (complex_of c.now) (place_of p.now) → ⊥ }
+    requires framed { InClosedFrame (point_of p.now) }
+    ensures off { IsTrue result → IsOnEdges (complex_of c.now) (point_of p.now) → ⊥ }
 {
     match locate(c, p) {
         Place::Vertex(_) => false,
@@ -155,11 +155,11 @@ fn is_off_skeleton(c: &Complex, p: &Point) -> bool
 // The point, if it lies on the plane, but on no vertex and on no edge, so that a facet of the plane may hold the point.
 fn inside(c: &Complex, h: &Plane, p: &Point) -> Option<Hit>
     requires shows { (s : Set) × ShowsSet s c.now }
-    requires framed { InClosedFrame (place_of p.now) }
-    ensures on { IfSome result (λ q. form_at (form_of h.now) (hit_place q) ≡ pos 0) }
-    ensures framed { IfSome result (λ q. InClosedFrame (hit_place q)) }
-    ensures off { IfSome result (λ q. IsOnEdges (complex_of c.now) (hit_place q) → ⊥) }
-    ensures numbers { IfSome result (λ q. IsPlaceAtMost upright_limit upright_weight_limit (hit_place q)) }
+    requires framed { InClosedFrame (point_of p.now) }
+    ensures on { IfSome result (λ q. form_at (form_of h.now) (hit_point q) ≡ pos 0) }
+    ensures framed { IfSome result (λ q. InClosedFrame (hit_point q)) }
+    ensures off { IfSome result (λ q. IsOnEdges (complex_of c.now) (hit_point q) → ⊥) }
+    ensures numbers { IfSome result (λ q. IsPointAtMost upright_limit upright_weight_limit (hit_point q)) }
 {
     let q = hit_at(p);
     if hit_side(h, &q) == Sign::Zero && is_off_skeleton(c, p) {
@@ -172,7 +172,7 @@ fn inside(c: &Complex, h: &Plane, p: &Point) -> Option<Hit>
 // Adds the facet of the plane in which the point lies.
 fn add_corner(text: &mut String, c: &Complex, h: &Plane, p: &Point) -> Option<()>
     requires shows { (s : Set) × ShowsSet s c.now }
-    requires framed { InClosedFrame (place_of p.now) }
+    requires framed { InClosedFrame (point_of p.now) }
 {
     let Some(q) = inside(c, h, p) else {
         return None;

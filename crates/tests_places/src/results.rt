@@ -1,7 +1,7 @@
 //! Maps of halves at the origin, merged carriers, and classes that links join.
 
 ghost use Rattle.std.specs.Prelude.{◌<◌};
-ghost use Rattle.nef_complex.specs.Prelude.{IfSome, Set, place_of, Cone};
+ghost use Rattle.nef_complex.specs.Prelude.{IfSome, Set, point_of, Cone};
 ghost use Rattle.nef_smap.specs.Maps.{map_of, IsLeastMap};
 
 use crate::items::{add_planes, letter};
@@ -25,7 +25,7 @@ closed 1 0 0 5 => nn # the origin lies outside";
 // The whole frame's map at a point inside the frame.
 fn whole_map(alloc: Global, p: &Point) -> Option<SphereMap>
     ensures least { IfSome result (λ m. IsLeastMap m) }
-    ensures cone { IfSome result (λ m. Cone (map_of m) Set.full (place_of p.now)) }
+    ensures cone { IfSome result (λ m. Cone (map_of m) Set.full (point_of p.now)) }
 {
     let is_inside = p.in_frame();
     if is_inside {

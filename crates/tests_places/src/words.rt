@@ -4,7 +4,7 @@
 //! each answer is added to one text: failures with texts of their own would make the tests dear to prove.
 
 ghost use Rattle.std.specs.Prelude.{◌≤◌};
-ghost use Rattle.nef_complex.specs.Prelude.{nat_abs, IsTrue, IfSome, InClosedFrame, InFrame, place_of};
+ghost use Rattle.nef_complex.specs.Prelude.{nat_abs, IsTrue, IfSome, InClosedFrame, InFrame, point_of};
 
 use nef_geo::{Dir, HALF_SIDE, Label, Oriented, Plane, Point};
 use std::alloc::AllocError;
@@ -48,7 +48,7 @@ pub(crate) fn is_within(number: i64, limit: u64) -> bool
 }
 
 fn is_framed(p: &Point) -> bool
-    ensures framed { IsTrue result → InClosedFrame (place_of p.now) }
+    ensures framed { IsTrue result → InClosedFrame (point_of p.now) }
 {
     let limit = HALF_SIDE.unsigned_abs() * p.w().unsigned_abs();
     is_within(p.x(), limit) && is_within(p.y(), limit) && is_within(p.z(), limit)
@@ -56,7 +56,7 @@ fn is_framed(p: &Point) -> bool
 
 /// The point (x/w, y/w, z/w), if it lies in the closed frame.
 pub(crate) fn framed_point(x: i64, y: i64, z: i64, w: i64) -> Option<Point>
-    ensures framed { IfSome result (λ p. InClosedFrame (place_of p)) }
+    ensures framed { IfSome result (λ p. InClosedFrame (point_of p)) }
 {
     let (is_x, is_y) = (is_within(x, GREATEST_NUMBER), is_within(y, GREATEST_NUMBER));
     if !is_x || !is_y || !is_within(z, GREATEST_NUMBER) || w < 1 || w > GREATEST_WEIGHT {
@@ -68,7 +68,7 @@ pub(crate) fn framed_point(x: i64, y: i64, z: i64, w: i64) -> Option<Point>
 
 /// The point of the four numbers from number `first` on, if the point lies in the closed frame.
 pub(crate) fn point(words: &str, first: usize) -> Option<Point>
-    ensures framed { IfSome result (λ p. InClosedFrame (place_of p)) }
+    ensures framed { IfSome result (λ p. InClosedFrame (point_of p)) }
 {
     let [x, y, z, w] = numbers(words, first)?;
     framed_point(x, y, z, w)
@@ -76,7 +76,7 @@ pub(crate) fn point(words: &str, first: usize) -> Option<Point>
 
 /// The point of the four numbers from number `first` on, if the point lies inside the frame.
 pub(crate) fn inner_point(words: &str, first: usize) -> Option<Point>
-    ensures framed { IfSome result (λ p. InFrame (place_of p)) }
+    ensures framed { IfSome result (λ p. InFrame (point_of p)) }
 {
     let p = point(words, first)?;
     if p.in_frame() { Some(p) } else { None }

@@ -3,7 +3,7 @@
 ghost use Rattle.std.specs.Prelude.{◌≡◌, ◌<◌};
 ghost use Rattle.nef_geo.specs.Prelude.{length, IfOk};
 ghost use Rattle.nef_expr.specs.Nodes.{node_set};
-ghost use Rattle.nef_expr.specs.Plain.{IsPlain};
+ghost use Rattle.nef_expr.specs.Plain.{IsPlainSet};
 
 use crate::same::check;
 use nef_expr::{Node, Nodes, OutOfMemory, plain_has};
@@ -15,7 +15,7 @@ use std::test::Fail;
 // x <= 0 and y <= 0, the closure of the first, which no other node uses, and the symmetric difference of both.
 fn quarters(alloc: Global, left: Oriented, lower: Oriented) -> Result<Nodes, OutOfMemory>
     ensures four { IfOk result (λ nodes. length nodes ≡ 4) }
-    ensures plain { IfOk result (λ nodes. IsPlain (node_set nodes 3)) }
+    ensures plain { IfOk result (λ nodes. IsPlainSet (node_set nodes 3)) }
 {
     let closed = true;
     let mut nodes = Nodes::new(alloc);
@@ -40,7 +40,7 @@ fn check_label(
     wanted: Label,
 ) -> Result<(), Fail>
     requires four { length nodes.now ≡ 4 }
-    requires plain { IsPlain (node_set nodes.now 3) }
+    requires plain { IsPlainSet (node_set nodes.now 3) }
 {
     let label = plain_has(alloc, nodes, 3, p)?;
     check(rt, &label, &wanted, "a point");
@@ -49,7 +49,7 @@ fn check_label(
 
 fn check_labels(rt: &impl Abort, alloc: Global, nodes: &Nodes) -> Result<(), Fail>
     requires four { length nodes.now ≡ 4 }
-    requires plain { IsPlain (node_set nodes.now 3) }
+    requires plain { IsPlainSet (node_set nodes.now 3) }
 {
     check_label(rt, alloc, nodes, &Point::of(-1, 1, 0, 1), Label::In)?;
     check_label(rt, alloc, nodes, &Point::of(-1, -1, 0, 1), Label::Not)?;
@@ -58,7 +58,7 @@ fn check_labels(rt: &impl Abort, alloc: Global, nodes: &Nodes) -> Result<(), Fai
 
 fn check_nodes(rt: &impl Abort, alloc: Global, nodes: &Nodes) -> Result<(), Fail>
     requires four { length nodes.now ≡ 4 }
-    requires plain { IsPlain (node_set nodes.now 3) }
+    requires plain { IsPlainSet (node_set nodes.now 3) }
 {
     check(rt, &nodes.len(), &4, "the nodes");
     assert!(rt; matches!(nodes.get(2), Node::Cl(0)));

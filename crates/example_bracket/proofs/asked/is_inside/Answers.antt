@@ -1,15 +1,15 @@
-use Rattle.example_bracket.proofs.Prelude.{Decides-at, In, place_of, label-decides}
+use Rattle.example_bracket.proofs.Prelude.{Decides-at, In, point_of, label-decides}
 use Rattle.nef_ray.proofs.Along.{frame-closed}
 use Rattle.example_bracket.proofs.Answering.{label-inside}
 use Rattle.example_bracket.proofs.asked.is_inside.Goals as goal
 
 pub locate-place-requires : goal.locate-place-requires
-locate-place-requires c = record { shows = c.requires.shows; framed = frame-closed (place_of c.args.p.now) c.requires.framed }
+locate-place-requires c = record { shows = c.requires.shows; framed = frame-closed (point_of c.args.p.now) c.requires.framed }
 
 pub returns : goal.returns
 returns c = record {
   inside = λ s S.
-      let p = place_of c.args.p.now in
+      let p = point_of c.args.p.now in
       let l = c.place_label.result in
       let D = Decides-at _ _ c.eq.ensures (label-decides l In) in
       let L = label-inside s p l c.requires.framed (c.place_label.ensures.set s p S c.locate-place.ensures.at) in

@@ -1,11 +1,11 @@
 use Rattle.law_near.proofs.Sums.{same-refl, same-sym, same-trans, sign-same, mixed-same}
 use Rattle.law_near.proofs.Directions.{same-direction}
-use Rattle.law_near.proofs.Mixed.{same-place, between-is, places-on, on-places, between-same}
+use Rattle.law_near.proofs.Mixed.{same-point, between-is, points-on, on-points, between-same}
 use Rattle.law_near.proofs.Near.{within-same}
 use Rattle.law_near.proofs.forms.factor_laws.Goals as goal
 
 pub returns-clause-same_place : goal.returns-clause-same_place
-returns-clause-same_place c = same-place
+returns-clause-same_place c = same-point
 
 pub returns-clause-same_direction : goal.returns-clause-same_direction
 returns-clause-same_direction c = same-direction
@@ -20,7 +20,7 @@ pub returns-clause-between : goal.returns-clause-between
 returns-clause-between c = between-is
 
 pub returns-clause-closed : goal.returns-clause-closed
-returns-clause-closed c = λ p r q. (places-on p r q, on-places p r q)
+returns-clause-closed c = λ p r q. (points-on p r q, on-points p r q)
 
 pub returns-clause-mixed_respects : goal.returns-clause-mixed_respects
 returns-clause-mixed_respects c = mixed-same

@@ -1,4 +1,4 @@
-use Rattle.law_near.proofs.Generic.{generic, generic-near, generic_direction, direction_bound, direction-avoids, direction-near, generic_place}
+use Rattle.law_near.proofs.Generic.{generic, generic-near, generic_direction, direction_bound, direction-avoids, direction-near, generic_point}
 use Rattle.law_near.proofs.forms.generic_laws.Goals as goal
 
 pub returns-clause-vectors : goal.returns-clause-vectors
@@ -8,4 +8,4 @@ pub returns-clause-directions : goal.returns-clause-directions
 returns-clause-directions c = λ ns. (generic_direction ns, direction_bound ns, direction-avoids ns, λ d k l. record { keeps = λ n m. (direction-near ns d k l n m).0; avoids = λ n m. (direction-near ns d k l n m).1 })
 
 pub returns-clause-points : goal.returns-clause-points
-returns-clause-points c = λ hs p n. let g = generic_place hs p n in (g.place, g.near, g.keeps, g.avoids)
+returns-clause-points c = λ hs p n. let g = generic_point hs p n in (g.place, g.near, g.keeps, g.avoids)

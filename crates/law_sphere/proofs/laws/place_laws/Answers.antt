@@ -1,5 +1,5 @@
 -- The laws of sphere maps, from the lemmas.
-use Rattle.law_sphere.proofs.Prelude.{ℕ, ◌⊎◌, inl, inr, SameDirection, At, MapVertex, Item, items, OnItem, IsFree}
+use Rattle.law_sphere.proofs.Prelude.{ℕ, ◌⊎◌, inl, inr, SameDirection, IsAt, MapVertex, Item, items, OnItem, IsFree}
 use Rattle.law_sphere.proofs.Generic.{generic}
 use Rattle.law_sphere.proofs.Forms.{PlaceOf, svertex_place, item_place, free_place, place_of, direction-by_signs, at_svertex-by_signs, on_item-by_signs, free-by_signs}
 use Rattle.law_sphere.proofs.laws.place_laws.Goals as goal
@@ -10,7 +10,7 @@ returns-clause-generic c gs v = let g = generic gs v in (g.vector, g.keeps, g.of
 pub returns-clause-places : goal.returns-clause-places
 returns-clause-places c M d f = by (place_of M d f)
   where
-    by : PlaceOf M d → ((k : ℕ) × (v : MapVertex) × At M.svertices k v × SameDirection v.dir d) ⊎ ((k : ℕ) × (x : Item) × At (items M) k x × OnItem M x d) ⊎ IsFree M d
+    by : PlaceOf M d → ((k : ℕ) × (v : MapVertex) × IsAt M.svertices k v × SameDirection v.dir d) ⊎ ((k : ℕ) × (x : Item) × IsAt (items M) k x × OnItem M x d) ⊎ IsFree M d
     by (svertex_place k v a w) = inl (k, v, a, w)
     by (item_place k x a o) = inr (inl (k, x, a, o))
     by (free_place F) = inr (inr F)

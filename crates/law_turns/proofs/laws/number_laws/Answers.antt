@@ -1,4 +1,4 @@
-use Rattle.law_turns.proofs.Numbers.{at_most-turned, primitive-turned, lowest_vector-turned, lowest_form-turned, lowest_place-turned, normal-choice}
+use Rattle.law_turns.proofs.Numbers.{at_most-turned, primitive-turned, lowest_vector-turned, lowest_form-turned, lowest_point-turned, normal-choice}
 use Rattle.law_turns.proofs.TurnedLists.{one-normal}
 use Rattle.law_turns.proofs.Exists.{turned-one, one-origin, one-plane}
 use Rattle.law_turns.proofs.laws.number_laws.Goals as goal
@@ -16,7 +16,7 @@ pub returns-clause-lowest_forms : goal.returns-clause-lowest_forms
 returns-clause-lowest_forms c = lowest_form-turned
 
 pub returns-clause-lowest_places : goal.returns-clause-lowest_places
-returns-clause-lowest_places c = lowest_place-turned
+returns-clause-lowest_places c = lowest_point-turned
 
 pub returns-clause-normal : goal.returns-clause-normal
 returns-clause-normal c = normal-choice

@@ -1,5 +1,5 @@
-use Rattle.law_turns.proofs.Prelude.{unturned_place}
-use Rattle.law_turns.proofs.Places.{form-turned, slope-turned, step-turned, toward-turned, ahead-turned, between-turned, same_place-turned, within-turned, frame-turned, place-back}
+use Rattle.law_turns.proofs.Prelude.{unturned_point}
+use Rattle.law_turns.proofs.Points.{form-turned, slope-turned, step-turned, toward-turned, ahead-turned, between-turned, same_point-turned, within-turned, frame-turned, point-back}
 use Rattle.law_turns.proofs.laws.place_laws.Goals as goal
 
 pub returns-clause-forms : goal.returns-clause-forms
@@ -21,7 +21,7 @@ pub returns-clause-between : goal.returns-clause-between
 returns-clause-between c = between-turned
 
 pub returns-clause-same_places : goal.returns-clause-same_places
-returns-clause-same_places c = same_place-turned
+returns-clause-same_places c = same_point-turned
 
 pub returns-clause-nearby : goal.returns-clause-nearby
 returns-clause-nearby c = within-turned
@@ -30,4 +30,4 @@ pub returns-clause-frame : goal.returns-clause-frame
 returns-clause-frame c = frame-turned
 
 pub returns-clause-all : goal.returns-clause-all
-returns-clause-all c = λ k q. (unturned_place k q, place-back k q)
+returns-clause-all c = λ k q. (unturned_point k q, point-back k q)

@@ -1,4 +1,4 @@
-use Rattle.nef_arc.proofs.Prelude.{refl, sym, subst, inl, inr, vector_of, IsCrossing}
+use Rattle.nef_arc.proofs.Prelude.{refl, sym, subst, inl, inr, vector_of, IsArcCrossing}
 use Rattle.nef_arc.proofs.SignNumbers.{not_true}
 use Rattle.nef_arc.proofs.Candidates.{Candidates, none_on, first_on, second_on, both_on, both_on_turned}
 use Rattle.nef_arc.proofs.passing.crossing.Goals as goal
@@ -10,8 +10,8 @@ returns-in-true-true c =
     let n = c.in-true-true.ensures.on.0 refl in let m = c.in-true-true.ensures'.on.0 refl in
     record {
       crossing = elim c.in_order.ensures.in_order [
-        | inl h ↦ subst (IsCrossing a b) (sym h.0) (both_on a b x y pair n m h.1)
-        | inr h ↦ subst (IsCrossing a b) (sym h.0) (both_on_turned a b x y pair n m h.1)
+        | inl h ↦ subst (IsArcCrossing a b) (sym h.0) (both_on a b x y pair n m h.1)
+        | inr h ↦ subst (IsArcCrossing a b) (sym h.0) (both_on_turned a b x y pair n m h.1)
       ];
     }
 

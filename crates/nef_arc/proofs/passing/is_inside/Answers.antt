@@ -1,4 +1,4 @@
-use Rattle.nef_arc.proofs.Prelude.{refl, sym, subst, ◌∙◌, inl, inr, vector_of, Sign, OnWay, IsPastSource, IsBeforeTarget}
+use Rattle.nef_arc.proofs.Prelude.{refl, sym, subst, ◌∙◌, inl, inr, vector_of, Sign, PastAndBefore, IsPastSource, IsBeforeTarget}
 use Rattle.nef_arc.proofs.SignNumbers.{not_true}
 use Rattle.nef_arc.proofs.passing.is_inside.Goals as goal
 
@@ -21,11 +21,11 @@ returns c =
       inside = (
         λ h. (
           λ e. not_true (sym c.if-is_end.false ∙ c.is_end.ensures.end.1 e),
-          inr (subst (λ (s : Sign). OnWay s (IsPastSource a d) (IsBeforeTarget a d)) turn (c.is_on_way.ensures.way.0 h)),
+          inr (subst (λ (s : Sign). PastAndBefore s (IsPastSource a d) (IsBeforeTarget a d)) turn (c.is_on_way.ensures.way.0 h)),
         ),
         λ p. elim p.1 [
           | inl s ↦ absurd (not_true (sym c.if-is_same.false ∙ c.is_same.ensures.direction.1 s))
-          | inr w ↦ c.is_on_way.ensures.way.1 (subst (λ (s : Sign). OnWay s (IsPastSource a d) (IsBeforeTarget a d)) (sym turn) w)
+          | inr w ↦ c.is_on_way.ensures.way.1 (subst (λ (s : Sign). PastAndBefore s (IsPastSource a d) (IsBeforeTarget a d)) (sym turn) w)
         ],
       );
     }

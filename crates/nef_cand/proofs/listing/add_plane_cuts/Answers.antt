@@ -1,4 +1,4 @@
-use Rattle.nef_cand.proofs.Prelude.{◌<◌, length, arith, ap, sym, ◌∙◌, subst, is-at_some, complex_of, got-at, IsNamedIn, Adds, CutsEdge}
+use Rattle.nef_cand.proofs.Prelude.{◌<◌, length, arith, ap, sym, ◌∙◌, subst, is-at_some, complex_of, got-at, IsNamedIn, AddsPoints, CutsEdge}
 use Rattle.nef_cand.proofs.Adding.{adds-none, adds-one, any-next, any-all}
 use Rattle.nef_cand.proofs.Held.{cut-named, cuts-all}
 use Rattle.nef_cand.proofs.listing.add_plane_cuts.Goals.{in-Some+in_ok-push, in_default}
@@ -18,9 +18,9 @@ loop-number-preserved c =
           (elim c.match-crossing.branch [
             | in-Some+in_ok-push w ↦
                 let near = w.in-Some.ensures.crossing e.0 e.1 in
-                subst (Adds (P e.0) N old) (sym (ap (λ v. v.items) w.listed-is ∙ w.in_ok-push.ensures.items))
+                subst (AddsPoints (P e.0) N old) (sym (ap (λ v. v.items) w.listed-is ∙ w.in_ok-push.ensures.items))
                 (adds-one (P e.0) (P e.0) N old _ near.0 (cut-named c.args.operand C h i e.0 at w.in-Some.point near.0) near.1)
-            | in_default w ↦ subst (Adds (P e.0) N old) (sym (ap (λ v. v.items) w.listed-is)) (adds-none (P e.0) (P e.0) N old (w.in_default.ensures.crossing e.0 e.1))
+            | in_default w ↦ subst (AddsPoints (P e.0) N old) (sym (ap (λ v. v.items) w.listed-is)) (adds-none (P e.0) (P e.0) N old (w.in_default.ensures.crossing e.0 e.1))
           ]);
     }
 

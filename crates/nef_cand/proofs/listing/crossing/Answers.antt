@@ -1,4 +1,4 @@
-use Rattle.nef_cand.proofs.Prelude.{◌≡◌, true, false, None, get_or, arith, sym, ◌∙◌, form_at, place_of, form_of, is-at_get, low-within, high-within, holders-within, got-at}
+use Rattle.nef_cand.proofs.Prelude.{◌≡◌, true, false, None, get_or, arith, sym, ◌∙◌, form_at, point_of, form_of, is-at_get, low-within, high-within, holders-within, got-at}
 use Rattle.nef_cand.proofs.EdgeLines.{two-listed, first-two}
 use Rattle.nef_cand.proofs.Held.{edge-held, carriers-ordered, uncrossed, crossed, crossing-same}
 use Rattle.nef_cand.proofs.listing.crossing.Goals as goal
@@ -15,7 +15,7 @@ bounds-holders-0 c =
     let e = c.at-edge.result.now in let u = c.at.result.now in let v = c.at-2.result.now in
     let l = got-at C.edges k e c.at-edge.ensures.element in
     let a = got-at C.vertices e.low u c.at.ensures.element in let b = got-at C.vertices e.high v c.at-2.ensures.element in
-    let p = place_of u.point in let q = place_of v.point in
+    let p = point_of u.point in let q = point_of v.point in
     let ns = c.edge_holders-holders.result.now in
     let H = c.edge_holders-holders.ensures.holders e c.at-edge.ensures.element u v c.at.ensures.element c.at-2.ensures.element in
     let t = two-listed C.carriers p q ns H (edge-held S.0 C S.1 k e l u v a b) in
@@ -27,7 +27,7 @@ bounds-holders-1 c =
     let e = c.at-edge.result.now in let u = c.at.result.now in let v = c.at-2.result.now in
     let l = got-at C.edges k e c.at-edge.ensures.element in
     let a = got-at C.vertices e.low u c.at.ensures.element in let b = got-at C.vertices e.high v c.at-2.ensures.element in
-    let p = place_of u.point in let q = place_of v.point in
+    let p = point_of u.point in let q = point_of v.point in
     let ns = c.edge_holders-holders.result.now in
     let H = c.edge_holders-holders.ensures.holders e c.at-edge.ensures.element u v c.at.ensures.element c.at-2.ensures.element in
     let t = two-listed C.carriers p q ns H (edge-held S.0 C S.1 k e l u v a b) in
@@ -39,7 +39,7 @@ at-first-requires c =
     let e = c.at-edge.result.now in let u = c.at.result.now in let v = c.at-2.result.now in
     let l = got-at C.edges k e c.at-edge.ensures.element in
     let a = got-at C.vertices e.low u c.at.ensures.element in let b = got-at C.vertices e.high v c.at-2.ensures.element in
-    let p = place_of u.point in let q = place_of v.point in
+    let p = point_of u.point in let q = point_of v.point in
     let ns = c.edge_holders-holders.result.now in
     let H = c.edge_holders-holders.ensures.holders e c.at-edge.ensures.element u v c.at.ensures.element c.at-2.ensures.element in
     let t = two-listed C.carriers p q ns H (edge-held S.0 C S.1 k e l u v a b) in
@@ -51,7 +51,7 @@ at-second-requires c =
     let e = c.at-edge.result.now in let u = c.at.result.now in let v = c.at-2.result.now in
     let l = got-at C.edges k e c.at-edge.ensures.element in
     let a = got-at C.vertices e.low u c.at.ensures.element in let b = got-at C.vertices e.high v c.at-2.ensures.element in
-    let p = place_of u.point in let q = place_of v.point in
+    let p = point_of u.point in let q = point_of v.point in
     let ns = c.edge_holders-holders.result.now in
     let H = c.edge_holders-holders.ensures.holders e c.at-edge.ensures.element u v c.at.ensures.element c.at-2.ensures.element in
     let t = two-listed C.carriers p q ns H (edge-held S.0 C S.1 k e l u v a b) in
@@ -63,7 +63,7 @@ returns-then-not-is_opposite_to c =
     let e = c.at-edge.result.now in let u = c.at.result.now in let v = c.at-2.result.now in
     let l = got-at C.edges k e c.at-edge.ensures.element in
     let a = got-at C.vertices e.low u c.at.ensures.element in let b = got-at C.vertices e.high v c.at-2.ensures.element in
-    let o = c.is_opposite_to.ensures.opposite (form_at (form_of h) (place_of u.point)) (form_at (form_of h) (place_of v.point)) c.side.ensures.side c.side-2.ensures.side in
+    let o = c.is_opposite_to.ensures.opposite (form_at (form_of h) (point_of u.point)) (form_at (form_of h) (point_of v.point)) c.side.ensures.side c.side-2.ensures.side in
     record { crossing = λ f i. crossing-same C h k e f None l (got-at C.edges k f i) (uncrossed C h e u v a b (λ s. (let t : false ≡ true = sym c.if-not-is_opposite_to.true ∙ o.1 s in cc))) }
 
 pub returns : goal.returns
@@ -72,7 +72,7 @@ returns c =
     let e = c.at-edge.result.now in let u = c.at.result.now in let v = c.at-2.result.now in
     let l = got-at C.edges k e c.at-edge.ensures.element in
     let a = got-at C.vertices e.low u c.at.ensures.element in let b = got-at C.vertices e.high v c.at-2.ensures.element in
-    let p = place_of u.point in let q = place_of v.point in
+    let p = point_of u.point in let q = point_of v.point in
     let ns = c.edge_holders-holders.result.now in
     let H = c.edge_holders-holders.ensures.holders e c.at-edge.ensures.element u v c.at.ensures.element c.at-2.ensures.element in
     let t = two-listed C.carriers p q ns H (edge-held S.0 C S.1 k e l u v a b) in

@@ -1,4 +1,4 @@
-use Rattle.nef_cand.proofs.Prelude.{◌∙◌, List, ◌++◌, map, ap, sym, subst, form_of, complex_of, Named, First, IsCutBy, AreCutCandidates, named_point, IsNamedIn, Adds, HasBoth}
+use Rattle.nef_cand.proofs.Prelude.{◌∙◌, List, ◌++◌, map, ap, sym, subst, form_of, complex_of, Named, First, IsCutBy, AreCutCandidates, named_point, IsNamedIn, AddsPoints, HasBoth}
 use Rattle.nef_cand.proofs.Apart.{adds-after, once-after}
 use Rattle.nef_cand.proofs.Both.{two-together}
 use Rattle.nef_cand.proofs.Halves.{cut-all, half-listed}
@@ -9,7 +9,7 @@ pub returns-clause-exactly : goal.returns-clause-exactly
 returns-clause-exactly c =
     let C = complex_of c.args.c.now in let N = IsNamedIn First C in let P = IsCutBy C (form_of c.args.h.now) in
     let us = c.in_ok-vertices.vertices.items in let vs = c.add_plane_cuts.new.listed.items in let ws = c.in_ok-listed.listed.items in let rs = c.sort_once.new.listed.items in
-    let cuts = subst (λ (zs : List Named). Adds P N zs vs) c.new-inside.ensures.items c.in_ok-add_plane_cuts.ensures.added in
+    let cuts = subst (λ (zs : List Named). AddsPoints P N zs vs) c.new-inside.ensures.items c.in_ok-add_plane_cuts.ensures.added in
     let both : HasBoth us vs ws = subst (λ (zs : List Named). HasBoth us zs ws) c.as_slice-2.ensures.value (subst (λ (zs : List Named). HasBoth zs c.as_slice-2.result.now ws) c.as_slice.ensures.value c.in_ok-listed.ensures.both) in
     let once = once-after (us ++ vs) ws rs (λ n h. (two-together us vs ws both n).0 h) (λ n h. (two-together us vs ws both n).1 h) c.in_ok-sort_once.ensures.once in
     let exactly = cut-all C (form_of c.args.h.now) N us (us ++ vs) rs c.in_ok-vertices.ensures.vertices (adds-after P P N us vs cuts) once in

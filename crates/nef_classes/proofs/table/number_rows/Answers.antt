@@ -1,4 +1,4 @@
-use Rattle.nef_classes.proofs.Prelude.{◌≡◌, ℕ, List, length, map, subst, sym, ap, ◌∙◌, IfOk, Link, AreClasses, AreNumbered, total, AreRoots, AreCut, flat_tie}
+use Rattle.nef_classes.proofs.Prelude.{◌≡◌, ℕ, List, length, map, subst, sym, ap, ◌∙◌, IfOk, Link, AreClasses, AreNumbered, cell_total, AreRoots, AreCut, flat_tie}
 use Rattle.nef_classes.proofs.Cutting.{starts-end}
 use Rattle.nef_classes.proofs.Numbers.{numbers-ok}
 use Rattle.nef_classes.proofs.table.number_rows.Goals as goal
@@ -9,7 +9,7 @@ class_numbers-requires c = record { roots = subst AreRoots (sym c.deref-3.ensure
 pub rows_of-requires : goal.rows_of-requires
 rows_of-requires c =
     let end = starts-end c.args.counts.now c.in_ok-starts.starts.items c.index.result.now c.in_ok-starts.ensures.starts in
-    let count : c.index.result.now ≡ total c.args.counts.now = c.index.ensures ∙ end in
+    let count : c.index.result.now ≡ cell_total c.args.counts.now = c.index.ensures ∙ end in
     let classes = c.in_ok-roots.ensures.classes in
     let numbered = c.in_ok-numbers.ensures.numbers in
     let a = classes.as_many in let b = numbered.as_many in
@@ -22,9 +22,9 @@ returns-clause-numbers c =
     let cs : List ℕ = c.in_ok-roots.roots.items in
     let ns : List ℕ = c.in_ok-numbers.numbers.items in
     let end = starts-end counts c.in_ok-starts.starts.items c.index.result.now c.in_ok-starts.ensures.starts in
-    let count : c.index.result.now ≡ total counts = c.index.ensures ∙ end in
+    let count : c.index.result.now ≡ cell_total counts = c.index.ensures ∙ end in
     let links : c.deref-2.result.now ≡ map (flat_tie counts) ties = c.deref-2.ensures.value ∙ c.in_ok-links.ensures.flat in
-    let classes : AreClasses (total counts) (map (flat_tie counts) ties) cs =
+    let classes : AreClasses (cell_total counts) (map (flat_tie counts) ties) cs =
     subst (λ (n : ℕ). AreClasses n (map (flat_tie counts) ties) cs) count
     (subst (λ (ls : List Link). AreClasses c.index.result.now ls cs) links c.in_ok-roots.ensures.classes) in
     let numbered : AreNumbered cs ns = subst (λ (xs : List ℕ). AreNumbered xs ns) c.deref-3.ensures.value c.in_ok-numbers.ensures.numbers in

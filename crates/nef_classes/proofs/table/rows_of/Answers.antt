@@ -1,4 +1,4 @@
-use Rattle.nef_classes.proofs.Prelude.{rules, ◌≡◌, ◌+◌, ◌-◌, ◌≤◌, ◌∷◌, [], ◌++◌, ℕ, List, length, take, drop, arith, get_or, subst, ap, sym, ◌∙◌, take_all, IsAt, total, HasCounts, AreCut}
+use Rattle.nef_classes.proofs.Prelude.{rules, ◌≡◌, ◌+◌, ◌-◌, ◌≤◌, ◌∷◌, [], ◌++◌, ℕ, List, length, take, drop, arith, get_or, subst, ap, sym, ◌∙◌, take_all, IsAt, cell_total, HasCounts, AreCut}
 use Rattle.nef_classes.proofs.ClassLists.{take-more}
 use Rattle.nef_space.proofs.Lists.{is-at_get}
 use Rattle.nef_classes.proofs.Cutting.{more-cut, more-counts, total-append, total-take}
@@ -38,7 +38,7 @@ loop-count-preserved c =
     let I = c.loop-count.invariant in
     let more = take-more counts i 0 c.loop-count-test.true in
     let t = total-append (take i counts) x in
-    let e = ap total more in
+    let e = ap cell_total more in
     let h = total-take counts i x (is-at_get counts i 0 c.loop-count-test.true) in
     let s = I.0 in
     let all = c.requires.all in
@@ -50,7 +50,7 @@ loop-count-preserved c =
     let start : List (List ℕ) = c.loop-count.rows in
     let cut = more-cut (take i counts) ns start x (I.1) (I.2) in
     let shape = more-counts (take i counts) ns start x (omega arith) (I.1) in
-    let made : List ℕ = take x (drop (total (take i counts)) ns) in
+    let made : List ℕ = take x (drop (cell_total (take i counts)) ns) in
     let same : c.push.new.self ≡ start ++ made ∷ [] = pushed ∙ ap (λ (r : List ℕ). start ++ r ∷ []) (row ∙ ap (λ (n : ℕ). take x (drop n ns)) s) in (
       omega arith,
       subst (λ (rs : List (List ℕ)). HasCounts (take (i + 1) counts) rs) (sym same) (subst (λ (cs : List ℕ). HasCounts cs (start ++ made ∷ [])) (sym more) shape),
@@ -61,4 +61,4 @@ pub returns-clause-cut : goal.returns-clause-cut
 returns-clause-cut c = λ i k n a.
     let counts = c.args.counts.now in
     let f = take_all c.loop-count.count-index counts (let h = c.loop-count-test.false in omega arith) in
-    subst (λ (xs : List ℕ). IsAt c.args.numbers.now (total (take i xs) + k) n) f (c.loop-count.invariant.2 i k n a)
+    subst (λ (xs : List ℕ). IsAt c.args.numbers.now (cell_total (take i xs) + k) n) f (c.loop-count.invariant.2 i k n a)

@@ -1,5 +1,5 @@
-use Rattle.nef_complex.proofs.Prelude.{rules, subst, length, List, always_returns_same, IsBinarySearchResult, IsSearchInRange, place_of, Vertex}
-use Rattle.nef_complex.proofs.Order.{IsOrder, one-order, place-ordered}
+use Rattle.nef_complex.proofs.Prelude.{rules, subst, length, List, always_returns_same, IsBinarySearchResult, IsSearchInRange, point_of, Vertex}
+use Rattle.nef_complex.proofs.Order.{IsOrder, one-order, space-ordered}
 use Rattle.nef_complex.proofs.Sorted.{order_to, found-at, found-before, found-after}
 use Rattle.nef_complex.proofs.complex.find_vertex.Goals as goal
 
@@ -8,8 +8,8 @@ answered c =
     let p = c.args.p.now in
     subst (λ (vs : List Vertex). IsBinarySearchResult (order_to p) vs c.binary_search_by.result) c.as_slice.ensures.all
     (c.binary_search_by.ensures.position (order_to p) (always_returns_same _ _ _ (λ a r f' k.
-    let o : IsOrder (place_of a.0.now.point) (place_of p) r = search rules in
-    (one-order (place_of a.0.now.point) (place_of p) r (order_to p a.0.now) o (place-ordered (place_of a.0.now.point) (place_of p)), search rules))))
+    let o : IsOrder (point_of a.0.now.point) (point_of p) r = search rules in
+    (one-order (point_of a.0.now.point) (point_of p) r (order_to p a.0.now) o (space-ordered (point_of a.0.now.point) (point_of p)), search rules))))
 
 pub returns-clause-found : goal.returns-clause-found
 returns-clause-found c =

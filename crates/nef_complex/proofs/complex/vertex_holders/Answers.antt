@@ -1,4 +1,4 @@
-use Rattle.nef_complex.proofs.Prelude.{◌<◌, length, sym, subst, IsAt, place_of, Point, Skeleton, AreHolders}
+use Rattle.nef_complex.proofs.Prelude.{◌<◌, length, sym, subst, IsAt, point_of, Point, Skeleton, AreHolders}
 use Rattle.nef_complex.proofs.Pointed.{as-many, point-at}
 use Rattle.nef_complex.proofs.complex.vertex_holders.Goals as goal
 
@@ -10,6 +10,6 @@ point_holders-requires c =
 pub returns : goal.returns
 returns c = record {
   holders = λ v a.
-      subst (λ (x : Skeleton). (p : Point) → IsAt x.points c.args.number p → AreHolders x.carriers (place_of p) (place_of p) c.point_holders.result.now) c.requires.indexed.is c.point_holders.ensures.holders v.point
+      subst (λ (x : Skeleton). (p : Point) → IsAt x.points c.args.number p → AreHolders x.carriers (point_of p) (point_of p) c.point_holders.result.now) c.requires.indexed.is c.point_holders.ensures.holders v.point
       (point-at c.args.c.now.vertices c.args.number v a);
 }

@@ -1,9 +1,9 @@
-use Rattle.nef_complex.proofs.Prelude.{◌+◌, length, arith, refl, sym, subst, slice_get_read, place_of, Vertex, Span, IsInSpan}
+use Rattle.nef_complex.proofs.Prelude.{◌+◌, length, arith, refl, sym, subst, slice_get_read, point_of, Vertex, Span, IsInSpan}
 use Rattle.nef_index.proofs.Numbered.{AreValuesTo, values-none, values-more}
 use Rattle.nef_complex.proofs.indexing.vertex_spans.Goals as goal
 
 abbrev HasVertex : Vertex → Span → Type 0
-HasVertex v s = IsInSpan s (place_of v.point)
+HasVertex v s = IsInSpan s (point_of v.point)
 
 pub loop-vertex-init : goal.loop-vertex-init
 loop-vertex-init c = subst (AreValuesTo HasVertex c.args.vertices.now 0) (sym c.in_ok-spans.ensures.items) (values-none HasVertex c.args.vertices.now)

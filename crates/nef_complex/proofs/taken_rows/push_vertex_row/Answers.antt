@@ -1,4 +1,4 @@
-use Rattle.nef_complex.proofs.Prelude.{◌≡◌, ◌<◌, ℕ, List, [], ◌∷◌, ◌++◌, length, arith, refl, sym, ◌∙◌, subst, vec_len, eqb-true, slice_get_read, eqb, IsAt, place_of, Plane, is-at_one, Vertex, AreWithin, AreHolders, AreRead, AreAdded, IsRowAdded}
+use Rattle.nef_complex.proofs.Prelude.{◌≡◌, ◌<◌, ℕ, List, [], ◌∷◌, ◌++◌, length, arith, refl, sym, ◌∙◌, subst, vec_len, eqb-true, slice_get_read, eqb, IsAt, point_of, Plane, is-at_one, Vertex, AreNumbersOf, AreHolders, AreRead, AreAdded, IsRowAdded}
 use Rattle.std.proofs.lemmas.List.Filters.{dedup_is}
 use Rattle.std.proofs.lemmas.Result.{on_ok_weaker}
 use Rattle.nef_complex.proofs.TakenRows.{holders-places, row-once, row-read}
@@ -9,8 +9,8 @@ read-here : (vs us : List Vertex) (k : ℕ) (v : Vertex) → us ≡ vs → IsAt 
 read-here vs us k v e a = subst (λ (xs : List Vertex). IsAt xs k v) e a
 
 -- a row that is added at the vertex is added at each with its number
-added-at : (vs : List Vertex) (k : ℕ) (v : Vertex) (hs : List Plane) (rows more : List (List ℕ)) → IsAt vs k v → IsRowAdded hs (place_of v.point) rows more → (u : Vertex) → IsAt vs k u → IsRowAdded hs (place_of u.point) rows more
-added-at vs k v hs rows more a R u b = subst (λ (r : Vertex). IsRowAdded hs (place_of r.point) rows more) (is-at_one vs k v u a b) R
+added-at : (vs : List Vertex) (k : ℕ) (v : Vertex) (hs : List Plane) (rows more : List (List ℕ)) → IsAt vs k v → IsRowAdded hs (point_of v.point) rows more → (u : Vertex) → IsAt vs k u → IsRowAdded hs (point_of u.point) rows more
+added-at vs k v hs rows more a R u b = subst (λ (r : Vertex). IsRowAdded hs (point_of r.point) rows more) (is-at_one vs k v u a b) R
 
 pub push_read-requires : goal.push_read-requires
 push_read-requires c =
@@ -23,8 +23,8 @@ push_read-requires c =
     let here = read-here t.complex.now.vertices us k v c.as_slice-vertices.ensures.all (slice_get_read us (length us) k v refl within c.index-vertices-number.is) in
     let H = c.vertex_holders-listed.ensures.holders v here in
     record {
-      within = subst (λ (xs : List ℕ). AreWithin xs listed) (sym c.as_slice-numbers.ensures.value)
-          (holders-places t.complex.now.carriers (place_of v.point) t.numbers.items listed c.requires.source.1.enough H);
+      within = subst (λ (xs : List ℕ). AreNumbersOf xs listed) (sym c.as_slice-numbers.ensures.value)
+          (holders-places t.complex.now.carriers (point_of v.point) t.numbers.items listed c.requires.source.1.enough H);
     }
 
 pub add_numbers-requires : goal.add_numbers-requires
@@ -38,8 +38,8 @@ add_numbers-requires c =
     let here = read-here t.complex.now.vertices us k v c.as_slice-vertices.ensures.all (slice_get_read us (length us) k v refl within c.index-vertices-number.is) in
     let H = c.vertex_holders-listed.ensures.holders v here in
     record {
-      within = subst (λ (xs : List ℕ). AreWithin xs listed) (sym c.as_slice-numbers.ensures.value)
-          (holders-places t.complex.now.carriers (place_of v.point) t.numbers.items listed c.requires.source.1.enough H);
+      within = subst (λ (xs : List ℕ). AreNumbersOf xs listed) (sym c.as_slice-numbers.ensures.value)
+          (holders-places t.complex.now.carriers (point_of v.point) t.numbers.items listed c.requires.source.1.enough H);
     }
 
 pub add_numbers-requires-2 : goal.add_numbers-requires-2
@@ -47,15 +47,15 @@ add_numbers-requires-2 c =
     let t = c.args.source.now in
     let found : List ℕ = c.holders.new.numbers.items in
     record {
-      within = subst (λ (xs : List ℕ). AreWithin xs c.as_slice-2.result.now) (sym c.as_slice.ensures.value)
-          (subst (λ (xs : List ℕ). AreWithin t.other_numbers.items xs) (sym c.as_slice-2.ensures.value)
-          (holders-places t.others (place_of c.index-vertices-number.result.point) t.other_numbers.items found c.requires.source.1.others_enough c.in_ok-holders.ensures.holders));
+      within = subst (λ (xs : List ℕ). AreNumbersOf xs c.as_slice-2.result.now) (sym c.as_slice.ensures.value)
+          (subst (λ (xs : List ℕ). AreNumbersOf t.other_numbers.items xs) (sym c.as_slice-2.ensures.value)
+          (holders-places t.others (point_of c.index-vertices-number.result.point) t.other_numbers.items found c.requires.source.1.others_enough c.in_ok-holders.ensures.holders));
     }
 
 -- the row that was read is that of the vertex
 read : (c : goal.After-push_read)
     → (row : List ℕ) × AreRead c.as_slice-numbers.result.now c.vertex_holders-listed.result.now (length c.vertex_holders-listed.result.now) row × (c.push_read.new.self ≡ c.args.rows.now ++ row ∷ [])
-    → (u : Vertex) → IsAt c.args.source.now.complex.now.vertices c.args.number u → IsRowAdded c.args.carriers.now (place_of u.point) c.args.rows.now c.push_read.new.self
+    → (u : Vertex) → IsAt c.args.source.now.complex.now.vertices c.args.number u → IsRowAdded c.args.carriers.now (point_of u.point) c.args.rows.now c.push_read.new.self
 read c added =
     let t = c.args.source.now in
     let us : List Vertex = c.as_slice-vertices.result.now in
@@ -66,7 +66,7 @@ read c added =
     let here = read-here t.complex.now.vertices us k v c.as_slice-vertices.ensures.all (slice_get_read us (length us) k v refl within c.index-vertices-number.is) in
     let H = c.vertex_holders-listed.ensures.holders v here in
     let hs : List Plane = c.args.carriers.now in
-    let p = place_of v.point in
+    let p = point_of v.point in
     let found : List ℕ = c.holders.new.numbers.items in
     let row : List ℕ = added.0 in
     let R : AreRead t.numbers.items listed (length listed) row = subst (λ (xs : List ℕ). AreRead xs listed (length listed) row) c.as_slice-numbers.ensures.value added.1 in
@@ -90,7 +90,7 @@ returns c =
     let H = c.vertex_holders-listed.ensures.holders v here in
     let gs : List Plane = t.complex.now.carriers in
     let hs : List Plane = c.args.carriers.now in
-    let p = place_of v.point in
+    let p = point_of v.point in
     let ns : List ℕ = t.numbers.items in
     let ks : List ℕ = t.other_numbers.items in
     let found : List ℕ = c.holders.new.numbers.items in

@@ -1,4 +1,4 @@
-use Rattle.nef_complex.proofs.Prelude.{ℕ, ◌+◌, ◌<◌, List, length, arith, rules, get_or, sym, ◌∙◌, subst, At, IsAt, not_true, is-at_get, is-at_within, at-from_get, Span, AreWithin, LiesOutside}
+use Rattle.nef_complex.proofs.Prelude.{ℕ, ◌+◌, ◌<◌, List, length, arith, rules, get_or, sym, ◌∙◌, subst, IsAt, not_true, is-at_get, is-at_within, at-from_get, Span, AreNumbersOf, LiesOutside}
 use Rattle.nef_complex.proofs.Reading.{next-all}
 use Rattle.nef_complex.proofs.Outside.{no_span, carrier-outside}
 use Rattle.nef_complex.proofs.walk.ask_group.Goals.{then-may_meet, else-may_meet}
@@ -7,14 +7,14 @@ use Rattle.nef_complex.proofs.walk.ask_group.Goals as goal
 pub bounds-spans-number : goal.bounds-spans-number
 bounds-spans-number g c =
     let ns : List ℕ = c.as_slice-number-items.result.now in let n = c.loop-number.number-index in
-    let l : get_or ns n 0 < length c.args.c.now.carriers = subst (AreWithin c.args.c.now.carriers) (sym c.as_slice-number-items.ensures.all) c.requires.within n (get_or ns n 0) (is-at_get ns n 0 c.loop-number-test.true) in
+    let l : get_or ns n 0 < length c.args.c.now.carriers = subst (AreNumbersOf c.args.c.now.carriers) (sym c.as_slice-number-items.ensures.all) c.requires.within n (get_or ns n 0) (is-at_get ns n 0 c.loop-number-test.true) in
     let m = c.carrier_spans-spans.ensures.spans.as_many in
     omega (arith, l, m)
 
 pub offset_bounds-spans-number : goal.offset_bounds-spans-number
 offset_bounds-spans-number g c =
     let ns : List ℕ = c.as_slice-number-items.result.now in let n = c.loop-number.number-index in
-    let l : get_or ns n 0 < length c.args.c.now.carriers = subst (AreWithin c.args.c.now.carriers) (sym c.as_slice-number-items.ensures.all) c.requires.within n (get_or ns n 0) (is-at_get ns n 0 c.loop-number-test.true) in
+    let l : get_or ns n 0 < length c.args.c.now.carriers = subst (AreNumbersOf c.args.c.now.carriers) (sym c.as_slice-number-items.ensures.all) c.requires.within n (get_or ns n 0) (is-at_get ns n 0 c.loop-number-test.true) in
     let m = c.carrier_spans-spans.ensures.spans.as_many in
     let i : get_or ns n 0 < length c.carrier_spans-spans.result.now = omega (arith, l, m) in
     search rules
@@ -22,7 +22,7 @@ offset_bounds-spans-number g c =
 pub ask-requires-clause-number : goal.ask-requires-clause-number
 ask-requires-clause-number g c =
     let ns : List ℕ = c.as_slice-number-items.result.now in let n = c.loop-number.number-index in
-    subst (AreWithin c.args.c.now.carriers) (sym c.as_slice-number-items.ensures.all) c.requires.within n (get_or ns n 0) (is-at_get ns n 0 c.loop-number-test.true)
+    subst (AreNumbersOf c.args.c.now.carriers) (sym c.as_slice-number-items.ensures.all) c.requires.within n (get_or ns n 0) (is-at_get ns n 0 c.loop-number-test.true)
 
 pub ask-requires-clause-right : goal.ask-requires-clause-right
 ask-requires-clause-right g c = c.loop-number.invariant.0
@@ -40,15 +40,15 @@ loop-number-preserved g c =
       | then-may_meet w ↦ let N = w.ask.ensures in let best = w.ask.new.found in (
         subst (g.S.Search.right s C) (sym w.found-is) N.right,
         λ j p. subst (λ o. g.S.Search.passed s C o j) (sym w.found-is) (N.kept j (I.1 j p)),
-        subst (λ o. (i j : ℕ) → i < n + 1 → At ns i j → g.S.Search.passed s C o j) (sym w.found-is)
+        subst (λ o. (i j : ℕ) → i < n + 1 → IsAt ns i j → g.S.Search.passed s C o j) (sym w.found-is)
             (next-all (g.S.Search.passed s C best) ns n k here (λ i j l a. N.kept j (I.2 i j l a)) N.passed),
       )
       | else-may_meet w ↦
           let A = c.carrier_spans-spans.ensures.spans in let spans : List Span = c.carrier_spans-spans.result.now in let m = A.as_many in
-          let l : k < length C.carriers = subst (AreWithin C.carriers) (sym c.as_slice-number-items.ensures.all) c.requires.within n k here in (
+          let l : k < length C.carriers = subst (AreNumbersOf C.carriers) (sym c.as_slice-number-items.ensures.all) c.requires.within n k here in (
             subst (g.S.Search.right s C) (sym w.found-is) I.0,
             λ j p. subst (λ o. g.S.Search.passed s C o j) (sym w.found-is) (I.1 j p),
-            subst (λ o. (i j : ℕ) → i < n + 1 → At ns i j → g.S.Search.passed s C o j) (sym w.found-is)
+            subst (λ o. (i j : ℕ) → i < n + 1 → IsAt ns i j → g.S.Search.passed s C o j) (sym w.found-is)
                 (next-all (g.S.Search.passed s C c.loop-number.found) ns n k here I.2
                 (g.met.S.Search.apart s C c.loop-number.found k (subst (λ (v : Span). LiesOutside C v k) c.window.ensures.window
                 (carrier-outside C (get_or spans k no_span) c.window.result.now (λ y u v. not_true (sym w.if-may_meet.false ∙ c.may_meet.ensures.meets y u v)) spans A k (is-at_get spans k no_span (omega (arith, m, l))))))),

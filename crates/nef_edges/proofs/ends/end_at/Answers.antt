@@ -1,4 +1,4 @@
-use Rattle.nef_edges.proofs.Prelude.{List, subst, At, SVertex}
+use Rattle.nef_edges.proofs.Prelude.{List, subst, IsAt, SVertex}
 use Rattle.nef_edges.proofs.Places.{read-at}
 use Rattle.nef_edges.proofs.ends.end_at.Goals as goal
 
@@ -9,5 +9,5 @@ returns-clause-end c =
     let a = c.in_ok-vertex.ensures.lookup.3 in let b = c.in_ok-svertex.ensures.lookup.3 in
     record {
       vertex = read-at vs c.args.vertex_number v a.0 (a.1 v);
-      svertex = subst (λ (ss : List SVertex). At ss c.args.svertex_number s) c.as_slice.ensures.all (read-at c.as_slice.result.now c.args.svertex_number s b.0 (b.1 s));
+      svertex = subst (λ (ss : List SVertex). IsAt ss c.args.svertex_number s) c.as_slice.ensures.all (read-at c.as_slice.result.now c.args.svertex_number s b.0 (b.1 s));
     }

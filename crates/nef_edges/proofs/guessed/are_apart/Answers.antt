@@ -1,4 +1,4 @@
-use Rattle.nef_edges.proofs.Prelude.{◌≡◌, ◌<◌, ℕ, List, length, arith, get_or, rules, sym, subst, true, IsTrue, Out, At, Edge, AreApart, slot_of}
+use Rattle.nef_edges.proofs.Prelude.{◌≡◌, ◌<◌, ℕ, List, length, arith, get_or, rules, sym, subst, true, IsTrue, Out, IsAt, Edge, ArriveApart, slot_of}
 use Rattle.nef_edges.proofs.Places.{get-at}
 use Rattle.nef_edges.proofs.Walked.{apart-none, taken-none, apart-more, taken-more}
 use Rattle.nef_edges.proofs.guessed.are_apart.Goals as goal
@@ -15,12 +15,12 @@ loop-k-preserved c =
     let place : c.slot.result ≡ slot_of starts e.high e.high_svertex = c.slot.ensures.slot in
     let was = c.loop-k.marks.items in
     record {
-      apart = apart-more starts es k e here was c.loop-k.invariant.taken (λ a. c.take.ensures.free right (subst (λ (n : ℕ). At was n true) (sym place) a)) c.loop-k.invariant.apart;
-      taken = taken-more starts es k e here was c.take.new.marks.items c.loop-k.invariant.taken c.take.ensures.kept (subst (λ (n : ℕ). At c.take.new.marks.items n true) place (c.take.ensures.taken right));
+      apart = apart-more starts es k e here was c.loop-k.invariant.taken (λ a. c.take.ensures.free right (subst (λ (n : ℕ). IsAt was n true) (sym place) a)) c.loop-k.invariant.apart;
+      taken = taken-more starts es k e here was c.take.new.marks.items c.loop-k.invariant.taken c.take.ensures.kept (subst (λ (n : ℕ). IsAt c.take.new.marks.items n true) place (c.take.ensures.taken right));
     }
 
 pub returns : goal.returns
 returns c =
     let es : List Edge = c.args.edges.now in
     let e : c.loop-k.k ≡ length es = (let t = c.loop-k-test.false in let u = c.loop-k.auto.k-end in omega arith) in
-    record { apart = λ t. subst (AreApart es) e c.loop-k.invariant.apart }
+    record { apart = λ t. subst (ArriveApart es) e c.loop-k.invariant.apart }

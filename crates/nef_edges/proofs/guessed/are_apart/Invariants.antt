@@ -1,5 +1,5 @@
-use Rattle.nef_edges.proofs.Prelude.{AreApart, AreTaken}
+use Rattle.nef_edges.proofs.Prelude.{AreMarkedArrivals, ArriveApart}
 use Rattle.nef_edges.proofs.guessed.are_apart.Given as goal
 
 abbrev pub invariant-loop-k : goal.invariant-loop-k
-invariant-loop-k l = record { apart : AreApart l.edges l.k; taken : AreTaken l.starts l.marks.items l.edges l.k }
+invariant-loop-k l = record { apart : ArriveApart l.edges l.k; taken : AreMarkedArrivals l.starts l.marks.items l.edges l.k }

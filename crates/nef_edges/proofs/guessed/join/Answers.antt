@@ -1,4 +1,4 @@
-use Rattle.nef_edges.proofs.Prelude.{List, subst, At, Edge}
+use Rattle.nef_edges.proofs.Prelude.{List, subst, IsAt, Edge}
 use Rattle.nef_edges.proofs.guessed.join.Goals as goal
 
 pub returns-in-Some : goal.returns-in-Some
@@ -8,7 +8,7 @@ returns-in-Some c =
       joined = λ t. record {
         old = o.0;
         new = c.in-Some.edge;
-        is_old = subst (λ (xs : List Edge). At xs c.args.number o.0) c.as_slice.ensures.value o.1;
+        is_old = subst (λ (xs : List Edge). IsAt xs c.args.number o.0) c.as_slice.ensures.value o.1;
         changed = c.put.ensures.put t;
         matched = c.in-Some.ensures.matched;
         low = o.2;

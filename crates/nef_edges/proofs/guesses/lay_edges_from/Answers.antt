@@ -1,4 +1,4 @@
-use Rattle.nef_edges.proofs.Prelude.{◌≡◌, ◌+◌, ◌<◌, ◌≤◌, length, List, sym, subst, get_or, Vec, Global, IsNormal, vector_of, SVertex, Edge, IsBefore, AreLaid}
+use Rattle.nef_edges.proofs.Prelude.{◌≡◌, ◌+◌, ◌<◌, ◌≤◌, length, List, sym, subst, get_or, Vec, Global, IsNormal, vector_of, SVertex, Edge, IsEarlierSvertex, AreLaid}
 use Rattle.nef_edges.specs.declared.loose.Loose.{Loose}
 use Rattle.nef_edges.proofs.Arrivals.{IsTrue-false}
 use Rattle.nef_edges.proofs.Places.{read-at}
@@ -25,12 +25,12 @@ loop-k-preserved c =
     record {
       laid = elim c.if-is_normal.branch [
         | then-is_normal+in_ok-lay_edge w ↦
-            subst (λ (x : Vec Edge Global). AreLaid vs (IsBefore i (k + 1)) x.items c.if-is_normal.loose.numbers.items 0) (sym w.edges-is)
-            (subst (λ (x : Loose). AreLaid vs (IsBefore i (k + 1)) w.lay_edge.new.edges.items x.numbers.items 0) (sym w.loose-is) w.in_ok-lay_edge.ensures.added)
+            subst (λ (x : Vec Edge Global). AreLaid vs (IsEarlierSvertex i (k + 1)) x.items c.if-is_normal.loose.numbers.items 0) (sym w.edges-is)
+            (subst (λ (x : Loose). AreLaid vs (IsEarlierSvertex i (k + 1)) w.lay_edge.new.edges.items x.numbers.items 0) (sym w.loose-is) w.in_ok-lay_edge.ensures.added)
         | else-is_normal+in_ok-add_arrival w ↦
             let none = λ (n : IsNormal (vector_of s.dir)). IsTrue-false c.is_normal.result (c.is_normal.ensures.normal.1 n) w.if-is_normal.false in
-            subst (λ (x : Vec Edge Global). AreLaid vs (IsBefore i (k + 1)) x.items c.if-is_normal.loose.numbers.items 0) (sym w.edges-is)
-            (subst (λ (x : Loose). AreLaid vs (IsBefore i (k + 1)) c.loop-k.edges.items x.numbers.items 0) (sym w.loose-is)
+            subst (λ (x : Vec Edge Global). AreLaid vs (IsEarlierSvertex i (k + 1)) x.items c.if-is_normal.loose.numbers.items 0) (sym w.edges-is)
+            (subst (λ (x : Loose). AreLaid vs (IsEarlierSvertex i (k + 1)) c.loop-k.edges.items x.numbers.items 0) (sym w.loose-is)
             (laid-pass vs i k c.loop-k.edges.items c.loop-k.loose.numbers.items v s a b none c.loop-k.invariant.laid))
       ];
     }

@@ -1,4 +1,4 @@
-use Rattle.nef_edges.proofs.Prelude.{◌≡◌, ◌+◌, ◌<◌, ◌≤◌, length, List, sym, ap, subst, ◌∙◌, get_or, Vec, Global, IsNormal, vector_of, SVertex, Edge, IsBefore, AreEdges}
+use Rattle.nef_edges.proofs.Prelude.{◌≡◌, ◌+◌, ◌<◌, ◌≤◌, length, List, sym, ap, subst, ◌∙◌, get_or, Vec, Global, IsNormal, vector_of, SVertex, Edge, IsEarlierSvertex, AreEdges}
 use Rattle.nef_edges.proofs.Added.{edges-row, edges-pass, edges-add}
 use Rattle.nef_edges.proofs.Arrivals.{IsTrue-false}
 use Rattle.nef_edges.proofs.Partners.{leading, some-after, pair-is}
@@ -30,11 +30,11 @@ loop-k-preserved c =
             let up = c.is_normal.ensures.normal.0 w.if-is_normal.true in
             let leads = leading vs i k v s f a b o.point o.dir o.vertex o.svertex up in
             let pair = pair-is vs c.requires.joined c.args.arriving.now c.requires.arriving f leads w.next_after-next.result w.next_after-next.ensures.next in
-            subst (AreEdges vs (IsBefore i (k + 1))) (sym w.in_ok-push.ensures.items ∙ ap (λ (x : Vec Edge Global). x.items) (sym w.edges-is))
+            subst (AreEdges vs (IsEarlierSvertex i (k + 1))) (sym w.in_ok-push.ensures.items ∙ ap (λ (x : Vec Edge Global). x.items) (sym w.edges-is))
             (edges-add vs c.requires.joined i k c.loop-k.edges.items v s a b c.loop-k.invariant.added f w.next_after-next.result o.vertex o.svertex pair)
         | else-is_normal w ↦
             let none = λ (n : IsNormal (vector_of s.dir)). IsTrue-false c.is_normal.result (c.is_normal.ensures.normal.1 n) w.if-is_normal.false in
-            subst (λ (x : Vec Edge Global). AreEdges vs (IsBefore i (k + 1)) x.items) (sym w.edges-is) (edges-pass vs c.requires.joined i k c.loop-k.edges.items v s a b none c.loop-k.invariant.added)
+            subst (λ (x : Vec Edge Global). AreEdges vs (IsEarlierSvertex i (k + 1)) x.items) (sym w.edges-is) (edges-pass vs c.requires.joined i k c.loop-k.edges.items v s a b none c.loop-k.invariant.added)
       ];
     }
 

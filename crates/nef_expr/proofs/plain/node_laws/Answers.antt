@@ -1,4 +1,4 @@
-use Rattle.nef_expr.proofs.Prelude.{sym, subst, Set, Holds, turned_place, node_set}
+use Rattle.nef_expr.proofs.Prelude.{sym, subst, Set, Holds, turned_point, node_set}
 use Rattle.law_turns.proofs.Meaning.{holds-turned}
 use Rattle.nef_expr.proofs.Turns.{node-turned}
 use Rattle.nef_expr.proofs.Sets.{earlier-sets_stay, new-set, each-set}
@@ -19,6 +19,6 @@ returns-clause-turned c = λ ns t k l ordered turn. node-turned ns ordered t k l
 pub returns-clause-turned_holds : goal.returns-clause-turned_holds
 returns-clause-turned_holds c = λ ns t k l p ordered turn.
     let e = node-turned ns ordered t k l turn in (
-      λ h. (holds-turned t (node_set ns k) p).0 (subst (λ (s : Set). Holds s (turned_place t p)) e h),
-      λ h. subst (λ (s : Set). Holds s (turned_place t p)) (sym e) ((holds-turned t (node_set ns k) p).1 h),
+      λ h. (holds-turned t (node_set ns k) p).0 (subst (λ (s : Set). Holds s (turned_point t p)) e h),
+      λ h. subst (λ (s : Set). Holds s (turned_point t p)) (sym e) ((holds-turned t (node_set ns k) p).1 h),
     )

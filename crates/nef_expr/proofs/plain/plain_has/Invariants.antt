@@ -1,8 +1,8 @@
-use Rattle.nef_expr.proofs.Prelude.{◌≡◌, [], length, place_of, sets_after, TellsEach}
+use Rattle.nef_expr.proofs.Prelude.{◌≡◌, [], length, point_of, sets_after, TellsEach}
 use Rattle.nef_expr.proofs.plain.plain_has.Given as goal
 
 abbrev pub invariant-loop-i : goal.invariant-loop-i
 invariant-loop-i l = record {
   count : length l.holding.items ≡ l.i;
-  told : TellsEach l.holding.items (sets_after [] l.nodes) (place_of l.p);
+  told : TellsEach l.holding.items (sets_after [] l.nodes) (point_of l.p);
 }

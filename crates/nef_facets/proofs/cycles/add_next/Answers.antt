@@ -1,6 +1,6 @@
 use Rattle.nef_facets.proofs.Prelude.{ℕ, ◌+◌, List, length, set, arith, refl, ap, sym, ◌∙◌, subst, Vec, Global, length-set, length-map, is-at_within, arc_of, read, some-at, at-map, Corner, vertex_of, complex_of, corner_of}
 use Rattle.nef_facets.proofs.CornerLists.{corner}
-use Rattle.nef_facets.proofs.Nexts.{AreAdded, from-within, to-within, into, here-item, there-item, follows, added-pass, added-next, added-all}
+use Rattle.nef_facets.proofs.Nexts.{HaveNextCorners, from-within, to-within, into, here-item, there-item, follows, added-pass, added-next, added-all}
 use Rattle.nef_facets.proofs.cycles.add_next.Goals.{then-arc-from, else-arc-from}
 use Rattle.nef_facets.proofs.cycles.add_next.Goals as goal
 
@@ -69,13 +69,13 @@ loop-number-preserved c =
           let d = w.position-place.result in
           let f = w.position-following.result in
           let items = ap (λ (x : Vec ℕ Global). x.items) w.next-is in
-          subst (λ (ns : List ℕ). AreAdded (complex_of C) ks from.vertex from.svertex (n + 1) start ns) (sym items)
+          subst (λ (ns : List ℕ). HaveNextCorners (complex_of C) ks from.vertex from.svertex (n + 1) start ns) (sym items)
           (added-next (complex_of C) ks from.vertex from.svertex n start old c.loop-number.invariant (vertex_of u) (arc_of r) (at-map vertex_of C.vertices from.vertex u p) (at-map arc_of u.map.arcs n r l) c.requires.corners.ordered
           (set old d f) d f (corner to.vertex m) w.position-place.ensures.position w.position-following.ensures.position refl (length-set old d f ∙ c.loop-number.invariant.as_many)
           (follows S.0 C S.1.shows E.0 E.1 E.2 from.vertex from.svertex to.vertex to.svertex E.3 u v p (some-at C.vertices to.vertex v w.at-then-arc-from.ensures.element) n r l w.if-arc-from.true m w.arc_into-item.ensures.arc))
       | else-arc-from w ↦
           let items = ap (λ (x : Vec ℕ Global). x.items) w.next-is in
-          subst (λ (ns : List ℕ). AreAdded (complex_of C) ks from.vertex from.svertex (n + 1) start ns) (sym items)
+          subst (λ (ns : List ℕ). HaveNextCorners (complex_of C) ks from.vertex from.svertex (n + 1) start ns) (sym items)
           (added-pass (complex_of C) ks from.vertex from.svertex n start old c.loop-number.invariant (vertex_of u) (arc_of r) (at-map vertex_of C.vertices from.vertex u p) (at-map arc_of u.map.arcs n r l) w.if-arc-from.false)
     ]
 

@@ -1,11 +1,11 @@
-use Rattle.nef_facets.proofs.Prelude.{◌≡◌, ℕ, ◌+◌, ◌<◌, List, length, arith, ap, sym, ◌∙◌, ⊎_elim, not_true, SameDirection, Vector, vector_of, Arc, At, SArc, arc_of, map, read, next-none, all-none, some-at, at-map}
+use Rattle.nef_facets.proofs.Prelude.{◌≡◌, ℕ, ◌+◌, ◌<◌, List, length, arith, ap, sym, ◌∙◌, ⊎_elim, not_true, SameDirection, Vector, vector_of, Arc, IsAt, SArc, arc_of, map, read, next-none, all-none, some-at, at-map}
 use Rattle.nef_smap.proofs.Prelude.{cases_lt}
 use Rattle.nef_facets.proofs.cycles.arc_into.Goals.{else-arc-svertex-via-then-arc-svertex+else-is_same, else-arc-svertex-via-else-arc-svertex}
 use Rattle.nef_facets.proofs.cycles.arc_into.Goals as goal
 
 -- some arc is not yet passed over
-arc-left : (xs ys : List SArc) → ys ≡ xs → (b : ℕ) (n : Vector) (number : ℕ) → (k : ℕ) × ((a : Arc) × At (map arc_of xs) k a × (a.target ≡ b) × SameDirection n a.normal)
-    → ((k : ℕ) → k < number → (a : Arc) → At (map arc_of xs) k a → (a.target ≡ b) × SameDirection n a.normal → ⊥) → number < length ys
+arc-left : (xs ys : List SArc) → ys ≡ xs → (b : ℕ) (n : Vector) (number : ℕ) → (k : ℕ) × ((a : Arc) × IsAt (map arc_of xs) k a × (a.target ≡ b) × SameDirection n a.normal)
+    → ((k : ℕ) → k < number → (a : Arc) → IsAt (map arc_of xs) k a → (a.target ≡ b) × SameDirection n a.normal → ⊥) → number < length ys
 arc-left xs ys e b n number I none = ⊎_elim (λ l. l)
     (λ f. absurd (all-none arc_of xs (λ (a : Arc). (a.target ≡ b) × SameDirection n a.normal) number (let g = ap length e in omega (arith, f, g)) none I.0 I.1.0 I.1.1 (I.1.2, I.1.3))) (cases_lt number (length ys))
 

@@ -1,4 +1,4 @@
-use Rattle.nef_facets.proofs.Prelude.{ℕ, ◌+◌, List, get_or, set, arith, refl, sym, ◌∙◌, subst, length-set, read, is-at_get, Corner, Cycle, AreCornersOf, IsCycleOf, AreGrouped}
+use Rattle.nef_facets.proofs.Prelude.{ℕ, ◌+◌, List, get_or, set, arith, refl, sym, ◌∙◌, subst, length-set, read, is-at_get, Corner, Cycle, AreCornersOf, IsCycleOf, AreCycleRows}
 use Rattle.nef_facets.proofs.Grouping.{grouped-more}
 use Rattle.nef_facets.proofs.cycles.grouped.Goals as goal
 
@@ -60,11 +60,11 @@ loop-orbit-preserved c =
     } in
     record {
       as_many = length-set ys n c.push.new.self ∙ many;
-      grouped = subst (λ (r : List Cycle). AreGrouped rows ks os (i + 1) (set ys n r)) (sym c.in_ok-push.ensures.ok)
+      grouped = subst (λ (r : List Cycle). AreCycleRows rows ks os (i + 1) (set ys n r)) (sym c.in_ok-push.ensures.ok)
           (grouped-more rows ks os i ys c.loop-orbit.invariant.grouped n row (read ys ys n row refl (omega arith) c.index_mut.ensures.value) y Y);
     }
 
 pub returns-clause-grouped : goal.returns-clause-grouped
 returns-clause-grouped c =
-    subst (λ (n : ℕ). AreGrouped c.args.rows.now c.args.corners.now c.args.orbits.now n c.from_vec.result) (let h = c.loop-orbit-test.false in let g = c.loop-orbit.auto.orbit-index-end in omega arith)
-    (subst (λ (ys : List (List Cycle)). AreGrouped c.args.rows.now c.args.corners.now c.args.orbits.now c.loop-orbit.orbit-index ys) (sym c.from_vec.ensures.all) c.loop-orbit.invariant.grouped)
+    subst (λ (n : ℕ). AreCycleRows c.args.rows.now c.args.corners.now c.args.orbits.now n c.from_vec.result) (let h = c.loop-orbit-test.false in let g = c.loop-orbit.auto.orbit-index-end in omega arith)
+    (subst (λ (ys : List (List Cycle)). AreCycleRows c.args.rows.now c.args.corners.now c.args.orbits.now c.loop-orbit.orbit-index ys) (sym c.from_vec.ensures.all) c.loop-orbit.invariant.grouped)

@@ -1,10 +1,10 @@
-use Rattle.nef_facets.proofs.Prelude.{◌≡◌, ℕ, ◌<◌, List, length, get_or, arith, refl, ap, inl, inr, subst, IsAt, Out, At, is-at_get, some-at, at-map, map-at, at-within, edge_of, complex_of}
+use Rattle.nef_facets.proofs.Prelude.{◌≡◌, ℕ, ◌<◌, List, length, get_or, arith, refl, ap, inl, inr, subst, IsAt, Out, is-at_get, some-at, at-map, map-at, at-within, edge_of, complex_of}
 use Rattle.nef_index.specs.declared.skeleton.Edge.{Edge}
 use Rattle.nef_complex.specs.declared.complex.Complex.{Complex}
 use Rattle.nef_facets.proofs.Nexts.{next-none, next-more, next-all}
 use Rattle.nef_facets.proofs.cycles.next_corners.Goals as goal
 
-edge-here : (c : Complex) (es : List Edge) (i : ℕ) (d : Edge) → es ≡ c.edges → i < length es → At (complex_of c).edges i (edge_of (get_or es i d))
+edge-here : (c : Complex) (es : List Edge) (i : ℕ) (d : Edge) → es ≡ c.edges → i < length es → IsAt (complex_of c).edges i (edge_of (get_or es i d))
 edge-here c es i d e h = at-map edge_of c.edges i (get_or es i d) (some-at c.edges i (get_or es i d) (subst (λ (xs : List Edge). IsAt xs i (get_or es i d)) e (is-at_get es i d h)))
 
 pub loop-edge-init : goal.loop-edge-init

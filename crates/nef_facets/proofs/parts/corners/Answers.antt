@@ -1,4 +1,4 @@
-use Rattle.nef_facets.proofs.Prelude.{◌≡◌, ℕ, List, [], ◌∷◌, ◌++◌, length, ◌+◌, arith, ap, sym, ◌∙◌, subst, length-append, At, read, some-at, at-map, map-at, at-within, Corner, vertex_of, complex_of, corners_at, StandFrom}
+use Rattle.nef_facets.proofs.Prelude.{◌≡◌, ℕ, List, [], ◌∷◌, ◌++◌, length, ◌+◌, arith, ap, sym, ◌∙◌, subst, length-append, IsAt, read, some-at, at-map, map-at, at-within, Corner, vertex_of, complex_of, corners_at, StandFrom}
 use Rattle.nef_facets.proofs.CornerLists.{AreCornersTo, no-corners, corners-next, starts-none, starts-next, all-corners}
 use Rattle.nef_facets.proofs.parts.corners.Goals as goal
 
@@ -17,7 +17,7 @@ loop-number-preserved c =
     let v = c.vertex-item.result in
     let old : List Corner = c.loop-number.all.items in let starts : List ℕ = c.loop-number.starts.items in
     let start : c.len-start.result ≡ length old = (let l = c.len-start.ensures in let o = c.loop-number.all.ok in omega (arith, l, o)) in
-    let a : At C.vertices n (vertex_of v) = at-map vertex_of vs n v (some-at vs n v (read vs c.as_slice-vertex-items.result.now n v c.as_slice-vertex-items.ensures.all c.loop-number-test.true c.vertex-item.is)) in
+    let a : IsAt C.vertices n (vertex_of v) = at-map vertex_of vs n v (some-at vs n v (read vs c.as_slice-vertex-items.result.now n v c.as_slice-vertex-items.ensures.all c.loop-number-test.true c.vertex-item.is)) in
     record {
       corners = subst (λ (ks : List Corner). AreCornersTo C (n + 1) ks) (sym c.in_ok-add_corners.ensures.added)
           (corners-next C n old c.loop-number.invariant.corners (vertex_of v) c.item_count.result a c.item_count.ensures.count);

@@ -1,6 +1,6 @@
 use Rattle.nef_facets.proofs.Prelude.{◌≡◌, List, ◌+◌, get_or, sym, subst, Label, item_mark, is-at_get, item_of, some-at, Corner, complex_of, corner_of, IsMarkAt}
 use Rattle.nef_facets.proofs.ItemCarriers.{vertex-within, item-within, of-item}
-use Rattle.nef_facets.proofs.Lists.{AreEach, each-more}
+use Rattle.nef_facets.proofs.Lists.{HasOneForEach, each-more}
 use Rattle.nef_facets.proofs.parts.marks.Goals as goal
 
 pub at-requires : goal.at-requires
@@ -31,4 +31,4 @@ loop-corner-preserved c =
     let m : Label = c.mark.result in
     let own : P m k = of-item c.args.c.now (corner_of k) (c.requires.corners i k h) c.at.result.now (some-at c.args.c.now.vertices k.vertex c.at.result.now c.at.ensures.element)
     (λ v x. m ≡ item_mark x) (item_of c.item_at.result) c.item_at.ensures.item c.mark.ensures.mark in
-    subst (λ (r : List Label). AreEach P (i + 1) r ks) (sym c.in_ok-push.ensures.ok) (each-more P i ls ks m k c.loop-corner.invariant h own)
+    subst (λ (r : List Label). HasOneForEach P (i + 1) r ks) (sym c.in_ok-push.ensures.ok) (each-more P i ls ks m k c.loop-corner.invariant h own)

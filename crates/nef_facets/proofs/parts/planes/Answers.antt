@@ -1,6 +1,6 @@
 use Rattle.nef_facets.proofs.Prelude.{List, ◌+◌, get_or, sym, subst, is-at_get, is-at_within, Plane, Corner, complex_of, corner_of, IsPlaneAt}
 use Rattle.nef_facets.proofs.ItemCarriers.{carrier-plane}
-use Rattle.nef_facets.proofs.Lists.{AreEach, each-more}
+use Rattle.nef_facets.proofs.Lists.{HasOneForEach, each-more}
 use Rattle.nef_facets.proofs.parts.planes.Goals as goal
 
 pub carrier_of-requires-clause-corner : goal.carrier_of-requires-clause-corner
@@ -17,6 +17,6 @@ loop-corner-preserved c =
     let i = c.loop-corner.corner-index in
     let hs : List Plane = c.loop-corner.planes in
     let h : Plane = c.at.result.now in
-    subst (λ (r : List Plane). AreEach P (i + 1) r ks) (sym c.in_ok-push.ensures.ok)
+    subst (λ (r : List Plane). HasOneForEach P (i + 1) r ks) (sym c.in_ok-push.ensures.ok)
     (each-more P i hs ks h (get_or ks i d) c.loop-corner.invariant (is-at_get ks i d c.loop-corner-test.true)
     (carrier-plane c.args.c.now (corner_of (get_or ks i d)) c.carrier_of.result h c.carrier_of.ensures.plane c.at.ensures.element))

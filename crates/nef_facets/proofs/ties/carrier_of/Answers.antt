@@ -1,4 +1,4 @@
-use Rattle.nef_facets.proofs.Prelude.{◌≡◌, ◌↔◌, ◌+◌, ℕ, pos, get_or, arith, sym, ◌∙◌, subst, not_true, form_at, normal_of, Vector, SameDirection, form_of, place_of, vector_of, Plane, At, item_normal, at-one, item_of, none-more, some-at, at-some, at-read, at-within, corner_of, SameDirection-turned, SameDirection-trans}
+use Rattle.nef_facets.proofs.Prelude.{◌≡◌, ◌↔◌, ◌+◌, ℕ, pos, get_or, arith, sym, ◌∙◌, subst, not_true, form_at, normal_of, Vector, SameDirection, form_of, point_of, vector_of, Plane, IsAt, item_normal, at-one, item_of, none-more, some-at, at-some, at-read, at-within, corner_of, SameDirection-turned, SameDirection-trans}
 use Rattle.nef_complex.specs.declared.complex.Vertex.{Vertex}
 use Rattle.nef_edges.proofs.Places.{get-at}
 use Rattle.nef_facets.proofs.ItemCarriers.{CarriesWith, holder-left}
@@ -53,7 +53,7 @@ returns-then-is_same c =
     let r = (c.vertex_holders-holders.ensures.holders u c.at-vertex.ensures.element).each i g (at-some ns i g (get-at ns i 0 l)) in
     let e = at-one hs g r.0 c.at.result.now (some-at hs g r.0 r.1) (some-at hs g c.at.result.now c.at.ensures.element) in
     let h = form_of c.at.result.now in
-    let on = subst (λ (f : Plane). form_at (form_of f) (place_of u.point) ≡ pos 0) e r.2.0 in
+    let on = subst (λ (f : Plane). form_at (form_of f) (point_of u.point) ≡ pos 0) e r.2.0 in
     record {
       plane = (
         c.at.result.now,
@@ -73,7 +73,7 @@ loop-normal-preserved c =
     let vs = c.args.c.now.vertices in
     let n = vector_of c.normal-normal.result.now in
     let h = c.at.result.now in
-    let none = none-more (λ (k : ℕ). (u : Vertex) × At vs c.args.k.now.vertex u × CarriesWith c.args.c.now (place_of u.point) n k) ns i g l (sym (at-read ns i g g (get-at ns i 0 l))) c.loop-normal.invariant.1
+    let none = none-more (λ (k : ℕ). (u : Vertex) × IsAt vs c.args.k.now.vertex u × CarriesWith c.args.c.now (point_of u.point) n k) ns i g l (sym (at-read ns i g g (get-at ns i 0 l))) c.loop-normal.invariant.1
     (λ (u, a, w). not_true (sym c.if-is_same.false ∙ (of-like (normal_of (form_of h)) (vector_of c.plane_normal.result) n c.plane_normal.ensures.normal c.is_same.ensures.direction).1
     (subst (λ (k : Plane). SameDirection (normal_of (form_of k)) n) (at-one hs g w.0 h (some-at hs g w.0 w.1) (some-at hs g h c.at.ensures.element)) w.2.1))) in (
       holder-left c.requires.shows.0 c.args.c.now (corner_of c.args.k.now) c.at-vertex.result.now (item_of c.item_at-item.result) n ns (i + 1) c.requires.shows.1.shows c.requires.corner

@@ -1,4 +1,4 @@
-use Rattle.nef_geo.proofs.Prelude.{◌≡◌, ◌≤◌, ℤ, ◌*ℤ◌, nat_abs, [], ◌∷◌, arith, ap, ◌∙◌, to_z, of_z, ◌<ℤ◌, Ordering, FitsSigned, MatchOrdering, int_cmp, int_ranked, load, wrap, ◌⊠◌, exact_of, fits_of, abs_times, far_num_limit, far_den_limit, far_product_limit, far_place, FarHit}
+use Rattle.nef_geo.proofs.Prelude.{◌≡◌, ◌≤◌, ℤ, ◌*ℤ◌, nat_abs, [], ◌∷◌, arith, ap, ◌∙◌, to_z, of_z, ◌<ℤ◌, Ordering, FitsSigned, MatchOrdering, int_cmp, int_ranked, load, wrap, ◌⊠◌, exact_of, fits_of, abs_times, far_num_limit, far_den_limit, far_product_limit, far_point, FarHit}
 use mir.Syntax.{w128}
 use Rattle.nef_geo.proofs.Along.{along-ray}
 use Rattle.nef_geo.proofs.order.far_order.Goals as goal
@@ -29,7 +29,7 @@ returns-clause-steps c = ranked c.args.p.now c.args.q.now c.cmp.result c.cmp.ens
 pub returns-clause-along : goal.returns-clause-along
 returns-clause-along c s d some i j =
     let p = c.args.p.now in let q = c.args.q.now in
-    along-ray s d p.num p.den (far_place p) q.num q.den (far_place q) c.cmp.result some p.den_sign q.den_sign i j (ranked p q c.cmp.result c.cmp.ensures)
+    along-ray s d p.num p.den (far_point p) q.num q.den (far_point q) c.cmp.result some p.den_sign q.den_sign i j (ranked p q c.cmp.result c.cmp.ensures)
 
 product_small : (m k : ℤ) → nat_abs m ≤ far_num_limit → nat_abs k ≤ far_den_limit → nat_abs (m *ℤ k) ≤ far_product_limit
 product_small m k s t = let i = abs_times m k far_num_limit far_den_limit s t in omega (arith, i)

@@ -1,4 +1,4 @@
-use Rattle.nef_geo.proofs.Prelude.{◌≡◌, ◌≤◌, ℤ, ◌*ℤ◌, nat_abs, [], ◌∷◌, ap, ◌∙◌, to_z, of_z, ◌<ℤ◌, Ordering, FitsSigned, MatchOrdering, int_cmp, int_ranked, load, wrap, ◌⊠◌, exact_of, fits_of, point_form_limit, ray_slope_limit, hit_place, Hit}
+use Rattle.nef_geo.proofs.Prelude.{◌≡◌, ◌≤◌, ℤ, ◌*ℤ◌, nat_abs, [], ◌∷◌, ap, ◌∙◌, to_z, of_z, ◌<ℤ◌, Ordering, FitsSigned, MatchOrdering, int_cmp, int_ranked, load, wrap, ◌⊠◌, exact_of, fits_of, point_form_limit, ray_slope_limit, hit_point, Hit}
 use mir.Syntax.{w128}
 use Rattle.nef_geo.proofs.Along.{along-ray}
 use Rattle.nef_geo.proofs.order.hit_order.Goals as goal
@@ -29,4 +29,4 @@ returns-clause-steps c = ranked c.args.p.now c.args.q.now c.cmp.result c.cmp.ens
 pub returns-clause-along : goal.returns-clause-along
 returns-clause-along c s d some i j =
     let p = c.args.p.now in let q = c.args.q.now in
-    along-ray s d p.num p.den (hit_place p) q.num q.den (hit_place q) c.cmp.result some p.den_sign q.den_sign i j (ranked p q c.cmp.result c.cmp.ensures)
+    along-ray s d p.num p.den (hit_point p) q.num q.den (hit_point q) c.cmp.result some p.den_sign q.den_sign i j (ranked p q c.cmp.result c.cmp.ensures)

@@ -1,4 +1,4 @@
-use Rattle.nef_geo.proofs.Prelude.{ℕ, ◌≤◌, ℤ, pos, ◌<ℤ◌, nat_abs, List, sym, subst, normal_limit, IsAtMost, Code, load, wrap, Limited, exact_of, fits_of, size_of, mul_pos, IsPlaceAtMost, vector_of, hit_place, upright_limit, upright_weight_limit, far_limit, far_weight_limit, far_num_limit, far_den_limit, Dir, Hit}
+use Rattle.nef_geo.proofs.Prelude.{ℕ, ◌≤◌, ℤ, pos, ◌<ℤ◌, nat_abs, List, sym, subst, normal_limit, IsAtMost, Code, load, wrap, Limited, exact_of, fits_of, size_of, mul_pos, IsPointAtMost, vector_of, hit_point, upright_limit, upright_weight_limit, far_limit, far_weight_limit, far_num_limit, far_den_limit, Dir, Hit}
 use mir.Syntax.{w128}
 use Rattle.nef_geo.proofs.Rays.{reached_by}
 use Rattle.nef_geo.proofs.Reach.{sizes, numbers, limited, start, stretch, sum}
@@ -14,7 +14,7 @@ read p d num den = numbers p.x p.y p.z p.w d num den
 abbrev begin : ℕ → Code
 begin i = load i
 
-limits : (p : Hit) (d : Dir) (num den : ℤ) → IsPlaceAtMost upright_limit upright_weight_limit (hit_place p) → IsAtMost normal_limit (vector_of d) → nat_abs num ≤ far_num_limit → nat_abs den ≤ far_den_limit → Limited bounds (read p d num den)
+limits : (p : Hit) (d : Dir) (num den : ℤ) → IsPointAtMost upright_limit upright_weight_limit (hit_point p) → IsAtMost normal_limit (vector_of d) → nat_abs num ≤ far_num_limit → nat_abs den ≤ far_den_limit → Limited bounds (read p d num den)
 limits p d num den = limited upright_limit upright_weight_limit normal_limit far_num_limit far_den_limit p.x p.y p.z p.w p.proper d num den
 
 pub overflow_mul-result : goal.overflow_mul-result

@@ -1,4 +1,4 @@
-use Rattle.nef_geo.proofs.Prelude.{rules, arith, ◌∙◌, FitsSigned, far_place, far_limit, far_weight_limit}
+use Rattle.nef_geo.proofs.Prelude.{rules, arith, ◌∙◌, FitsSigned, far_point, far_limit, far_weight_limit}
 use mir.Syntax.{w128}
 use Rattle.nef_geo.proofs.Signs.{sign_through}
 use Rattle.nef_geo.proofs.Sizes.{form_size, far_within}
@@ -22,4 +22,4 @@ returns-clause-side c =
     sign_through c.of.result c.wide_form.result _ fits c.of.ensures.sign (c.wide_form.ensures.value ∙ form_at-passed p.x p.y p.z p.w p.proper (far_within p) c.args.h.now)
 
 pub returns-clause-width : goal.returns-clause-width
-returns-clause-width c = let s = form_size c.args.h.now far_limit far_weight_limit (far_place c.args.p.now) (far_within c.args.p.now) in omega (arith, s)
+returns-clause-width c = let s = form_size c.args.h.now far_limit far_weight_limit (far_point c.args.p.now) (far_within c.args.p.now) in omega (arith, s)

@@ -1,6 +1,6 @@
 use Rattle.nef_geo.proofs.Prelude.{ℕ, ℤ, List, [], ◌∷◌, w64, sym, ◌∙◌, normal_limit, offset_limit, point_limit, weight_limit, Code, load, wrap, ◌⊞◌, ◌⊠◌, Limited, exact_of, fits_of, size_of, form_of, point_form_limit, Plane, Point}
 use mir.Syntax.{w128}
-use Rattle.nef_geo.proofs.Places.{form_at-place_of}
+use Rattle.nef_geo.proofs.Places.{form_at-point_of}
 use Rattle.nef_geo.proofs.sides.form.Goals as goal
 
 -- the bounds of a, b, c, d, x, y, z, w
@@ -53,7 +53,7 @@ overflow_add-result-3 c = fits_of sizes (numbers c.args.h.now c.args.p.now) w64 
 pub returns-clause-value : goal.returns-clause-value
 returns-clause-value c =
     exact_of sizes (numbers c.args.h.now c.args.p.now) (wrap w128 (wrap w64 four)) (limits c.args.h.now c.args.p.now) tt
-    ∙ sym (form_at-place_of (form_of c.args.h.now) c.args.p.now)
+    ∙ sym (form_at-point_of (form_of c.args.h.now) c.args.p.now)
 
 pub returns-clause-width : goal.returns-clause-width
 returns-clause-width c = size_of sizes (numbers c.args.h.now c.args.p.now) point_form_limit (wrap w128 (wrap w64 four)) (limits c.args.h.now c.args.p.now) tt tt

@@ -1,5 +1,5 @@
 use Rattle.nef_geo.proofs.Prelude.{◌≡◌, ◌≤◌, ℤ, pos, neg_ℤ, ◌-ℤ◌, ◌<ℤ◌, nat_abs, arith, w64, to_z, of_z, ◌∙◌, ◌∷◌, [], rules, ints, to_z-of_z, point_limit, load, const, wrap, ◌⊟◌, exact_of}
-use Rattle.nef_geo.proofs.Cramer.{IsSameRatios-from_place, IsSameRatios-turned}
+use Rattle.nef_geo.proofs.Cramer.{IsSameRatios-from_point, IsSameRatios-turned}
 use Rattle.nef_geo.proofs.sides.turned.Goals as goal
 
 minus_is : (n : ℤ) → pos 0 -ℤ n ≡ neg_ℤ n
@@ -13,7 +13,7 @@ returns-then-w-gt0 c =
     let p : pos 0 <ℤ c.args.w = search rules in
     let r = c.of.result in
     let s = rw (to_z-of_z w64 c.args.x c.ranges.x, to_z-of_z w64 c.args.y c.ranges.y, to_z-of_z w64 c.args.z c.ranges.z, to_z-of_z w64 c.args.w c.ranges.w) at c.of.ensures.same in
-    record { same = IsSameRatios-from_place c.args.x c.args.y c.args.z c.args.w r.x r.y r.z r.w p r.proper (s p) }
+    record { same = IsSameRatios-from_point c.args.x c.args.y c.args.z c.args.w r.x r.y r.z r.w p r.proper (s p) }
 
 pub returns-else-w-gt0 : goal.returns-else-w-gt0
 returns-else-w-gt0 c =
@@ -23,4 +23,4 @@ returns-else-w-gt0 c =
     let r = c.of-else-w-gt0.result in
     let w_small : nat_abs c.args.w ≤ point_limit = omega (arith, c.requires.w_small) in
     let s = rw (negated c.args.x i.of_x, negated c.args.y i.of_y, negated c.args.z i.of_z, negated c.args.w w_small) at c.of-else-w-gt0.ensures.same in
-    record { same = IsSameRatios-turned c.args.x c.args.y c.args.z c.args.w r.x r.y r.z r.w (IsSameRatios-from_place (neg_ℤ c.args.x) (neg_ℤ c.args.y) (neg_ℤ c.args.z) (neg_ℤ c.args.w) r.x r.y r.z r.w p r.proper (s p)) }
+    record { same = IsSameRatios-turned c.args.x c.args.y c.args.z c.args.w r.x r.y r.z r.w (IsSameRatios-from_point (neg_ℤ c.args.x) (neg_ℤ c.args.y) (neg_ℤ c.args.z) (neg_ℤ c.args.w) r.x r.y r.z r.w p r.proper (s p)) }

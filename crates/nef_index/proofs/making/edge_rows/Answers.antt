@@ -1,4 +1,4 @@
-use Rattle.nef_index.proofs.Prelude.{◌≡◌, ℕ, ◌+◌, List, length, get_or, arith, ap, sym, subst, Out, is-at_get, is-at_one, Edge, AreCommon, AreCommonAlong, AreCommonRows, rows_of, AreEnds}
+use Rattle.nef_index.proofs.Prelude.{◌≡◌, ℕ, ◌+◌, List, length, get_or, arith, ap, sym, subst, Out, is-at_get, is-at_one, Edge, AreCommon, AreCommonAlong, AreCommonRows, rows_of, AreRowEnds}
 use Rattle.nef_index.proofs.Rows.{ends-written, rows-written}
 use Rattle.nef_index.proofs.Numbered.{AreValuesTo, values-none, values-more}
 use Rattle.nef_index.proofs.making.edge_rows.Goals as goal
@@ -11,7 +11,7 @@ loop-edge-init c =
     let P = AreCommonAlong c.args.at_point.now in let es = c.args.edges.now in
     let e = c.in_ok-ends.ensures.items in let f = c.in_ok-numbers.ensures.items in
     record {
-      ended = subst (λ (xs : List ℕ). AreEnds 0 xs (length c.in_ok-numbers.numbers.items)) (sym e) (sym (ap (length {A = ℕ}) f));
+      ended = subst (λ (xs : List ℕ). AreRowEnds 0 xs (length c.in_ok-numbers.numbers.items)) (sym e) (sym (ap (length {A = ℕ}) f));
       rows = subst (λ (xs : List ℕ). AreValuesTo P es 0 (rows_of 0 xs c.in_ok-numbers.numbers.items)) (sym e) (values-none P es);
     }
 

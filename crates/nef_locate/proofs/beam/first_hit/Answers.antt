@@ -1,4 +1,4 @@
-use Rattle.nef_locate.proofs.Prelude.{Option, IfSome, subst, vector_of, place_of, complex_of, Met, IsMet, IsNotBefore}
+use Rattle.nef_locate.proofs.Prelude.{Option, IfSome, subst, vector_of, point_of, complex_of, MetPlace, IsMet, IsNotBefore}
 use Rattle.nef_locate.proofs.RayMeets.{first-some, first-none}
 use Rattle.nef_locate.proofs.beam.first_hit.Goals as goal
 
@@ -10,18 +10,18 @@ search_carriers-requires-clause-right c = (c.requires.upright, tt, c.first_guess
 
 pub returns-clause-place : goal.returns-clause-place
 returns-clause-place c =
-    let M = subst (λ (o : Option Met). IfSome o (IsMet (complex_of c.args.c.now) (place_of c.args.p.now) (vector_of c.args.d.now))) c.in_ok-met.was c.search_carriers.ensures.right.1 in
+    let M = subst (λ (o : Option MetPlace). IfSome o (IsMet (complex_of c.args.c.now) (point_of c.args.p.now) (vector_of c.args.d.now))) c.in_ok-met.was c.search_carriers.ensures.right.1 in
     let on = M.on in
     on.has
 
 pub returns-clause-some : goal.returns-clause-some
 returns-clause-some c =
-    let C = c.args.c.now in let p = place_of c.args.p.now in let d = vector_of c.args.d.now in let S = c.requires.shows in
+    let C = c.args.c.now in let p = point_of c.args.p.now in let d = vector_of c.args.d.now in let S = c.requires.shows in
     first-some S.0 C S.1 p d c.requires.upright c.in_ok-met.met
-    (subst (λ (o : Option Met). IfSome o (IsMet (complex_of C) p d)) c.in_ok-met.was c.search_carriers.ensures.right.1)
+    (subst (λ (o : Option MetPlace). IfSome o (IsMet (complex_of C) p d)) c.in_ok-met.was c.search_carriers.ensures.right.1)
     (λ k l h a s y T X I. subst (IsNotBefore p y) c.in_ok-met.was (c.search_carriers.ensures.passed k l h a s y T X I))
 
 pub returns-in_err-met-clause-none : goal.returns-in_err-met-clause-none
 returns-in_err-met-clause-none c _ =
-    let C = c.args.c.now in let p = place_of c.args.p.now in let d = vector_of c.args.d.now in let S = c.requires.shows in
+    let C = c.args.c.now in let p = point_of c.args.p.now in let d = vector_of c.args.d.now in let S = c.requires.shows in
     first-none S.0 C S.1 p d c.requires.upright (λ k l h a s y T X I. subst (IsNotBefore p y) c.in_err-met.was (c.search_carriers.ensures.passed k l h a s y T X I))

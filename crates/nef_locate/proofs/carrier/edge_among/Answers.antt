@@ -1,4 +1,4 @@
-use Rattle.nef_locate.proofs.Prelude.{◌≡◌, ◌-◌, ◌+◌, ◌<◌, IsTrue, length, get_or, arith, rules, hit_place, is-at_get}
+use Rattle.nef_locate.proofs.Prelude.{◌≡◌, ◌-◌, ◌+◌, ◌<◌, IsTrue, length, get_or, arith, rules, hit_point, is-at_get}
 use Rattle.nef_plane.proofs.Rising.{edges-within}
 use Rattle.nef_locate.proofs.EdgeOrder.{number-edge, none-beyond, none-below, none-more}
 use Rattle.nef_locate.proofs.carrier.edge_among.Goals as goal
@@ -12,7 +12,7 @@ last_reaching-place-requires c =
 
 pub loop-place-init : goal.loop-place-init
 loop-place-init c =
-    let S = c.requires.shows in let P = c.requires.parts in let C = c.args.c.now in let ns = c.args.items.now.edges.now in let q = hit_place c.args.q.now in (
+    let S = c.requires.shows in let P = c.requires.parts in let C = c.args.c.now in let ns = c.args.items.now.edges.now in let q = hit_point c.args.q.now in (
       c.last_reaching-place.ensures.count,
       c.last_reaching-place.ensures.reaches,
       none-below S.0 C S.1.shows P.0 q c.args.next P.2 ns P.1 c.last_reaching-place.result c.edges_before-count.result c.last_reaching-place.ensures.passed
@@ -39,13 +39,13 @@ returns-then-is_along c =
     let l = is-at_get ns i 0 inside in
     let L = P.1.each i k l in
     record {
-      edge = number-edge S.0 C S.1.shows P.0 (hit_place c.args.q.now) c.args.next P.2 k L.0 L.1 L (c.edges_before-count.ensures.before i k L.0 (omega (arith, t, o)) l L.1) (w.1 i k L.0 (omega (arith, t)) l L.1) (c.is_along.ensures.line c.if-is_along.true);
+      edge = number-edge S.0 C S.1.shows P.0 (hit_point c.args.q.now) c.args.next P.2 k L.0 L.1 L (c.edges_before-count.ensures.before i k L.0 (omega (arith, t, o)) l L.1) (w.1 i k L.0 (omega (arith, t)) l L.1) (c.is_along.ensures.line c.if-is_along.true);
     }
 
 pub loop-place-preserved : goal.loop-place-preserved
 loop-place-preserved c =
     let S = c.requires.shows in let P = c.requires.parts in let C = c.args.c.now in let ns = c.args.items.now.edges.now in let n = c.loop-place.place in let i = n - 1 in let k = get_or ns i 0 in
-    let q = hit_place c.args.q.now in
+    let q = hit_point c.args.q.now in
     let t = c.loop-place-test.true in let w = c.loop-place.invariant in let o = w.0 in let b = c.edges_before-count.ensures.within in
     let inside : i < length ns = omega (arith, t, o, b) in
     let next : n ≡ i + 1 = omega (arith, t) in

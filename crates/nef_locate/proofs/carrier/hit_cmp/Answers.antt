@@ -1,4 +1,4 @@
-use Rattle.nef_locate.proofs.Prelude.{inl, inr, sym, Less, Equal, Greater, place_of, hit_place}
+use Rattle.nef_locate.proofs.Prelude.{inl, inr, sym, Less, Equal, Greater, point_of, hit_point}
 use Rattle.nef_locate.proofs.HitOrder.{ranks-x, ranks-y, ranks-z, order-from_last}
 use Rattle.nef_locate.proofs.carrier.hit_cmp.Goals as goal
 
@@ -6,7 +6,7 @@ pub returns-in-Equal-ratio_cmp : goal.returns-in-Equal-ratio_cmp
 returns-in-Equal-ratio_cmp c =
     let p = c.args.p.now in let q = c.args.q.now in
     record {
-      order = order-from_last (place_of p) (hit_place q) c.ratio_cmp-in-Equal-ratio_cmp.result
+      order = order-from_last (point_of p) (hit_point q) c.ratio_cmp-in-Equal-ratio_cmp.result
           (ranks-x p q Equal c.x.result c.w.result c.x-2.result c.w-2.result c.w.ensures.w c.w-2.ensures.w c.in-Equal.ensures.order c.x.ensures.x c.x-2.ensures.x)
           (ranks-y p q Equal c.y.result c.w-in-Equal.result c.y-in-Equal.result c.w-in-Equal-2.result c.w-in-Equal.ensures.w c.w-in-Equal-2.ensures.w c.in-Equal-ratio_cmp.ensures.order c.y.ensures.y c.y-in-Equal.ensures.y)
           (ranks-z p q c.ratio_cmp-in-Equal-ratio_cmp.result c.z.result c.w-in-Equal-ratio_cmp.result c.z-in-Equal-ratio_cmp.result c.w-in-Equal-ratio_cmp-2.result c.w-in-Equal-ratio_cmp.ensures.w c.w-in-Equal-ratio_cmp-2.ensures.w

@@ -1,4 +1,4 @@
-use Rattle.nef_locate.proofs.Prelude.{◌<◌, IsTrue, length, get_or, arith, rules, hit_place, is-at_get, at-from_get, low-within, high-within, no_span}
+use Rattle.nef_locate.proofs.Prelude.{◌<◌, IsTrue, length, get_or, arith, rules, hit_point, is-at_get, at-from_get, low-within, high-within, no_span}
 use Rattle.nef_locate.proofs.EdgeOrder.{told-spanned, told-line}
 use Rattle.nef_locate.proofs.carrier.is_along.Goals as goal
 
@@ -33,13 +33,13 @@ returns-then-not-is_in_sides-clause-on c =
     let off : IsTrue c.is_in_sides.result → ⊥ = search rules in
     let i = c.requires.framed in
     λ x. absurd (off (c.is_in_sides.ensures.sides.1 (
-    let j = told-spanned S.0 C S.1.shows k e a ss A (get_or ss e.low no_span) (get_or ss e.high no_span) c.with_span-ends.result l h c.with_span-ends.ensures.wider c.with_span-ends.ensures.other (hit_place c.args.q.now) x in
+    let j = told-spanned S.0 C S.1.shows k e a ss A (get_or ss e.low no_span) (get_or ss e.high no_span) c.with_span-ends.result l h c.with_span-ends.ensures.wider c.with_span-ends.ensures.other (hit_point c.args.q.now) x in
     let y = j.1 in let z = j.2 in
     ((i.along_y, y.0, y.1), (i.along_z, z.0, z.1))
     )))
 
 pub returns-clause-on : goal.returns-clause-on
-returns-clause-on c = let S = c.requires.shows in told-line S.0 c.args.c.now S.1.shows c.args.number c.at-edge.result.now c.at-edge.ensures.element c.is_in_line.result (hit_place c.args.q.now) c.is_in_line.ensures.line
+returns-clause-on c = let S = c.requires.shows in told-line S.0 c.args.c.now S.1.shows c.args.number c.at-edge.result.now c.at-edge.ensures.element c.is_in_line.result (hit_point c.args.q.now) c.is_in_line.ensures.line
 
 pub returns-clause-line : goal.returns-clause-line
 returns-clause-line c = λ t e u v a i j. (c.is_in_line.ensures.line e u v a i j).0 t

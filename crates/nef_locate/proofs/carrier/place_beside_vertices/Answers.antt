@@ -1,4 +1,4 @@
-use Rattle.nef_locate.proofs.Prelude.{IsTrue, ⊎_elim, refl, rules, form_of, hit_place, is-at_within, complex_of}
+use Rattle.nef_locate.proofs.Prelude.{IsTrue, ⊎_elim, refl, rules, form_of, hit_point, is-at_within, complex_of}
 use Rattle.nef_locate.proofs.EdgeOrder.{parts-off}
 use Rattle.nef_locate.proofs.Listed.{flat-item, unmet}
 use Rattle.nef_locate.proofs.Located.{corner-at, edge-at}
@@ -20,12 +20,12 @@ in_facet_among-requires-clause-items c =
 
 pub in_facet_among-requires-clause-off : goal.in_facet_among-requires-clause-off
 in_facet_among-requires-clause-off c =
-    let C = c.args.c.now in let h = form_of c.args.h.now in let q = hit_place c.args.q.now in
+    let C = c.args.c.now in let h = form_of c.args.h.now in let q = hit_point c.args.q.now in
     unmet C h q c.carrier_items-items.result.edges.now (c.carrier_items-items.ensures.edges c.args.h.now c.requires.number) (parts-off C h q c.args.next c.requires.on c.requires.parts) c.in_default.ensures.edge
 
 pub returns-then-not-has_item-clause-none : goal.returns-then-not-has_item-clause-none
 returns-then-not-has_item-clause-none c = λ e s S.
-    let C = c.args.c.now in let h = form_of c.args.h.now in let q = hit_place c.args.q.now in
+    let C = c.args.c.now in let h = form_of c.args.h.now in let q = hit_point c.args.q.now in
     let off : IsTrue c.has_item.result → ⊥ = search rules in
     ⊎_elim
     (λ m. unmet C h q c.carrier_items-items.result.edges.now (c.carrier_items-items.ensures.edges c.args.h.now c.requires.number) (parts-off C h q c.args.next c.requires.on c.requires.parts) c.in_default.ensures.edge m.0 m.1)
@@ -33,13 +33,13 @@ returns-then-not-has_item-clause-none c = λ e s S.
 
 pub returns-in_err-corner-clause-none : goal.returns-in_err-corner-clause-none
 returns-in_err-corner-clause-none c = λ e s S.
-    let C = c.args.c.now in let h = form_of c.args.h.now in let q = hit_place c.args.q.now in
+    let C = c.args.c.now in let h = form_of c.args.h.now in let q = hit_point c.args.q.now in
     ⊎_elim
     (λ m. unmet C h q c.carrier_items-items.result.edges.now (c.carrier_items-items.ensures.edges c.args.h.now c.requires.number) (parts-off C h q c.args.next c.requires.on c.requires.parts) c.in_default.ensures.edge m.0 m.1)
     (c.in_err-corner.ensures.none refl s S)
 
 pub returns-clause-at : goal.returns-clause-at
-returns-clause-at c = corner-at (complex_of c.args.c.now) (hit_place c.args.q.now) c.in_ok-corner.corner c.in_ok-corner.ensures.corner
+returns-clause-at c = corner-at (complex_of c.args.c.now) (hit_point c.args.q.now) c.in_ok-corner.corner c.in_ok-corner.ensures.corner
 
 pub returns-in-Some-clause-at : goal.returns-in-Some-clause-at
-returns-in-Some-clause-at c = edge-at (complex_of c.args.c.now) (hit_place c.args.q.now) c.in-Some.edge c.in-Some.ensures.edge
+returns-in-Some-clause-at c = edge-at (complex_of c.args.c.now) (hit_point c.args.q.now) c.in-Some.edge c.in-Some.ensures.edge

@@ -1,11 +1,11 @@
-use Rattle.nef_locate.proofs.Prelude.{◌≡◌, ℕ, refl, sym, subst, ◌∙◌, normal_limit, IsNormal, IsAtMost, vector_of, At, Item, items, item_normal, item_pos, item_mark, item_neg, at-one, SLoop, SphereMap, item_of, map_of, sloop_of, at-within, vertex_of, complex_of, corner_of, IsPlaneOf}
+use Rattle.nef_locate.proofs.Prelude.{◌≡◌, ℕ, refl, sym, subst, ◌∙◌, normal_limit, IsNormal, IsAtMost, vector_of, IsAt, Item, items, item_normal, item_pos, item_mark, item_neg, at-one, SLoop, SphereMap, item_of, map_of, sloop_of, at-within, vertex_of, complex_of, corner_of, IsPlaneOf}
 use Rattle.nef_smap.specs.declared.item.Item.{Item as MapItem}
 use Rattle.nef_locate.proofs.Marks.{image-within, corner-read}
 use Rattle.nef_locate.proofs.Cones.{cone-of_corner}
 use Rattle.nef_locate.proofs.maps.facet_map.Goals as goal
 
 -- the plane of the item that is read is that of the item there
-plane-read : (m : SphereMap) (k : ℕ) (i : MapItem) (x : Item) (l : SLoop) → At (items (map_of m)) k (item_of i) → At (items (map_of m)) k x
+plane-read : (m : SphereMap) (k : ℕ) (i : MapItem) (x : Item) (l : SLoop) → IsAt (items (map_of m)) k (item_of i) → IsAt (items (map_of m)) k x
     → vector_of l.normal ≡ item_normal (item_of i) → l.pos ≡ item_pos (item_of i) → l.mark ≡ item_mark (item_of i) → l.neg ≡ item_neg (item_of i) → IsPlaneOf x (sloop_of l)
 plane-read m k i x l a b en ep em eq =
     subst (λ (r : Item). IsPlaneOf r (sloop_of l)) (at-one (items (map_of m)) k (item_of i) x a b) (record { normal = sym en; pos = sym ep; mark = sym em; neg = sym eq })

@@ -1,4 +1,4 @@
-use Rattle.nef_ops.proofs.Prelude.{◌≡◌, rules, refl, subst, IfSome, place_of, Operand, First, Second, operand_of, other_of, IsPlaceIn, IsPlaceAt}
+use Rattle.nef_ops.proofs.Prelude.{◌≡◌, rules, refl, subst, IfSome, point_of, Operand, First, Second, operand_of, other_of, IsPlaceIn, IsPlaceAt}
 use Rattle.law_complex.specs.Complexes.{Complex as PlainComplex}
 use Rattle.nef_locate.specs.declared.point.Place.{Place}
 use Rattle.nef_ops.proofs.local.finding_in.Goals as goal
@@ -14,7 +14,7 @@ pub returns-then-eq : goal.returns-then-eq
 returns-then-eq c =
     let C = c.requires.named.0 in
     let D = c.requires.named.1 in
-    let y = place_of c.args.candidate.now.point in
+    let y = point_of c.args.candidate.now.point in
     let at = c.told_places-operand.result.1 in
     let e : c.told_places-operand.result.0 ≡ c.args.own = search rules in
     record {
@@ -26,7 +26,7 @@ pub returns-in-Some : goal.returns-in-Some
 returns-in-Some c =
     let C = c.requires.named.0 in
     let D = c.requires.named.1 in
-    let y = place_of c.args.candidate.now.point in
+    let y = point_of c.args.candidate.now.point in
     let a = c.in-Some.place in
     let off : c.told_places-operand.result.0 ≡ c.args.own → ⊥ = search rules in
     let told = subst (λ o. IfSome o (λ (b : Place). IsPlaceIn (other_of c.told_places-operand.result.0 C D) b × IsPlaceAt (other_of c.told_places-operand.result.0 C D) y b)) c.in-Some.is (c.told_places-operand.ensures.across C D y c.requires.named.3) in

@@ -1,4 +1,4 @@
-use Rattle.nef_ops.proofs.Prelude.{◌≡◌, refl, sym, subst, map_of, SphereMap, Cone, Operand, First, Second, One, Leads}
+use Rattle.nef_ops.proofs.Prelude.{◌≡◌, refl, sym, subst, map_of, SphereMap, Cone, Operand, First, Second, One, IsRightChoice}
 use Rattle.nef_ops.proofs.ByShare.{combined-if_ok, shown-same, shown-one}
 use Rattle.nef_ops.proofs.local.merged.Goals as goal
 
@@ -9,7 +9,7 @@ returns-in-First c =
       combined = record {
         least = m.ensures.least;
         cone = λ s t p K L. shown-one x.op f.result g.result (map_of m.result) s t p (f.ensures.share s p K) (g.ensures.share t p L) First b (m.ensures.cone s p K)
-            (subst (λ (o : Operand). Leads (One o b) x.op f.result g.result) c.in-First.is c.in-One.ensures.leads);
+            (subst (λ (o : Operand). IsRightChoice (One o b) x.op f.result g.result) c.in-First.is c.in-One.ensures.leads);
       };
     }
 
@@ -20,7 +20,7 @@ returns-in-Second c =
       combined = record {
         least = m.ensures.least;
         cone = λ s t p K L. shown-one x.op f.result g.result (map_of m.result) s t p (f.ensures.share s p K) (g.ensures.share t p L) Second b (m.ensures.cone t p L)
-            (subst (λ (o : Operand). Leads (One o b) x.op f.result g.result) c.in-Second.is c.in-One.ensures.leads);
+            (subst (λ (o : Operand). IsRightChoice (One o b) x.op f.result g.result) c.in-Second.is c.in-One.ensures.leads);
       };
     }
 

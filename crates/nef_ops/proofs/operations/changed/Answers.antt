@@ -1,11 +1,11 @@
-use Rattle.nef_ops.proofs.Prelude.{sym, subst, Place, Set, Cone, interior, closure, boundary, complement, map_of, SphereMap, UnaryOp, unary_set}
+use Rattle.nef_ops.proofs.Prelude.{sym, subst, SpacePoint, Set, Cone, interior, closure, boundary, complement, map_of, SphereMap, UnaryOp, unary_set}
 use Rattle.std.specs.Prelude.{IfOk}
 use Rattle.nef_ops.proofs.OneSet.{made-cone, made-least, regular-cone}
 use Rattle.nef_ops.proofs.operations.changed.Goals as goal
 
 -- the map n shows what the operation makes of each set that m shows
 abbrev ShowsChanged : SphereMap → UnaryOp → SphereMap → Type 0
-ShowsChanged m op n = (s : Set) (p : Place) → Cone (map_of m) s p → Cone (map_of n) (unary_set op s) p
+ShowsChanged m op n = (s : Set) (p : SpacePoint) → Cone (map_of m) s p → Cone (map_of n) (unary_set op s) p
 
 pub returns-in-Not-clause-least : goal.returns-in-Not-clause-least
 returns-in-Not-clause-least c = made-least complement Set.other c.args.map.now c.complement.result c.complement.ensures.made

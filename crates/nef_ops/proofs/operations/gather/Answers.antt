@@ -1,4 +1,4 @@
-use Rattle.nef_ops.proofs.Prelude.{◌≡◌, ◌∙◌, List, map, length, arith, ap, sym, subst, Point, complex_of, Named, AreFramed, named_point, AreNamed, moved_if, AreHeld}
+use Rattle.nef_ops.proofs.Prelude.{◌≡◌, ◌∙◌, List, map, length, arith, ap, sym, subst, Point, complex_of, Named, AreFramed, named_point, AreNamed, moved_if, AreHeldBySpan}
 use Rattle.nef_ops.proofs.Gathered.{both-outcomes}
 use Rattle.nef_ops.proofs.HeldPoints.{first-held, second-held}
 use Rattle.nef_ops.proofs.operations.gather.Goals as goal
@@ -10,13 +10,13 @@ points-are cs ns ps qs e f g = sym (g ∙ f ∙ ap (map named_point) e)
 pub regions_of-far_first-requires-clause-held : goal.regions_of-far_first-requires-clause-held
 regions_of-far_first-requires-clause-held g c =
     let a = c.args.a.now in let b = c.args.b.now in let t = c.requires.second in let ns = c.in_ok-listed.listed.items in
-    subst (AreHeld a c.core_span-core_b.result) (points-are c.as_slice-candidates.result.now ns c.in_ok-points.points.items c.as_slice.result.now c.as_slice-candidates.ensures.value c.in_ok-points.ensures.points c.as_slice.ensures.value)
+    subst (AreHeldBySpan a c.core_span-core_b.result) (points-are c.as_slice-candidates.result.now ns c.in_ok-points.points.items c.as_slice.result.now c.as_slice-candidates.ensures.value c.in_ok-points.ensures.points c.as_slice.ensures.value)
     (first-held a b ns c.in_ok-listed.ensures.lists.named t.0 c.core_span-core_b.result t.1 c.core_span-core_b.ensures.core)
 
 pub regions_of-far_second-requires-clause-held : goal.regions_of-far_second-requires-clause-held
 regions_of-far_second-requires-clause-held g c =
     let a = c.args.a.now in let b = c.args.b.now in let s = c.requires.first in let ns = c.in_ok-listed.listed.items in
-    subst (AreHeld b c.core_span-core_a.result) (points-are c.as_slice-candidates.result.now ns c.in_ok-points.points.items c.as_slice-2.result.now c.as_slice-candidates.ensures.value c.in_ok-points.ensures.points c.as_slice-2.ensures.value)
+    subst (AreHeldBySpan b c.core_span-core_a.result) (points-are c.as_slice-candidates.result.now ns c.in_ok-points.points.items c.as_slice-2.result.now c.as_slice-candidates.ensures.value c.in_ok-points.ensures.points c.as_slice-2.ensures.value)
     (second-held a b ns c.in_ok-listed.ensures.lists.named s.0 c.core_span-core_a.result s.1 c.core_span-core_a.ensures.core)
 
 pub all_worked-requires-clause-workable : goal.all_worked-requires-clause-workable

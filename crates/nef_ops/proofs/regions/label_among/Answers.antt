@@ -1,12 +1,12 @@
-use Rattle.nef_ops.proofs.Prelude.{ℕ, ◌+◌, ◌<◌, List, IsNone, arith, rules, sym, refl, IsAt, Place, place_of, is-at_get, is-at_is, at-within, at-from_get, At, Region, IsFar}
+use Rattle.nef_ops.proofs.Prelude.{ℕ, ◌+◌, ◌<◌, List, IsNone, arith, rules, sym, refl, IsAt, SpacePoint, point_of, is-at_get, is-at_is, at-within, at-from_get, Region, IsFar}
 use Rattle.nef_ops.proofs.Lacking.{all-more}
 use Rattle.nef_ops.proofs.regions.label_among.Goals as goal
 
 -- the region has no label where the point lies in it
-abbrev IsUntold : Place → Region → Type 0
+abbrev IsUntold : SpacePoint → Region → Type 0
 IsUntold p r = IsFar r.side p → IsNone r.label
 
-one-more : (rs : List Region) (p : Place) (n : ℕ) (x : Region) → IsAt rs n x → IsUntold p x → ((k : ℕ) (r : Region) → k < n → At rs k r → IsUntold p r) → (k : ℕ) (r : Region) → k < n + 1 → At rs k r → IsUntold p r
+one-more : (rs : List Region) (p : SpacePoint) (n : ℕ) (x : Region) → IsAt rs n x → IsUntold p x → ((k : ℕ) (r : Region) → k < n → IsAt rs k r → IsUntold p r) → (k : ℕ) (r : Region) → k < n + 1 → IsAt rs k r → IsUntold p r
 one-more rs p n x here untold before = all-more (IsUntold p) rs n x (sym (is-at_is rs n x x here)) untold before
 
 pub returns-then-not-in_frame-clause-none : goal.returns-then-not-in_frame-clause-none
@@ -22,7 +22,7 @@ pub loop-region-preserved : goal.loop-region-preserved
 loop-region-preserved c =
     let rs : List Region = c.args.regions.now in
     let n = c.loop-region.region-index in
-    one-more rs (place_of c.args.point.now) n _ (is-at_get rs n _ c.loop-region-test.true) (c.in_default.ensures.none refl) c.loop-region.invariant
+    one-more rs (point_of c.args.point.now) n _ (is-at_get rs n _ c.loop-region-test.true) (c.in_default.ensures.none refl) c.loop-region.invariant
 
 pub returns-clause-none : goal.returns-clause-none
 returns-clause-none c none k r a f = c.loop-region.invariant k r (let l = at-within c.args.regions.now k r a in let t = c.loop-region-test.false in omega (arith, l, t)) a f

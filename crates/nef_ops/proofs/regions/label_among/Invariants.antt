@@ -1,5 +1,5 @@
-use Rattle.nef_ops.proofs.Prelude.{ℕ, ◌<◌, IsNone, place_of, At, Region, IsFar}
+use Rattle.nef_ops.proofs.Prelude.{ℕ, ◌<◌, IsNone, point_of, IsAt, Region, IsFar}
 use Rattle.nef_ops.proofs.regions.label_among.Given as goal
 
 abbrev pub invariant-loop-region : goal.invariant-loop-region
-invariant-loop-region l = (k : ℕ) (r : Region) → k < l.region-index → At l.regions k r → IsFar r.side (place_of l.point) → IsNone r.label
+invariant-loop-region l = (k : ℕ) (r : Region) → k < l.region-index → IsAt l.regions k r → IsFar r.side (point_of l.point) → IsNone r.label

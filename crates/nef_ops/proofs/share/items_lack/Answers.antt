@@ -1,4 +1,4 @@
-use Rattle.nef_ops.proofs.Prelude.{ℕ, arith, refl, subst, At, Item, items, at-one, item_of, map_of, at-within, ItemLacks}
+use Rattle.nef_ops.proofs.Prelude.{ℕ, arith, refl, subst, IsAt, Item, items, at-one, item_of, map_of, at-within, ItemLacks}
 use borrow.Author.Count.{below_more}
 use Rattle.nef_ops.proofs.share.items_lack.Goals as goal
 
@@ -11,7 +11,7 @@ loop-number-preserved c =
     let n = c.loop-number.number in
     let y = item_of c.item_at.result in
     let here : ItemLacks c.args.label y = c.if-not-item_lacks.ensures.lacks refl in
-    λ k x l a. below_more (λ (j : ℕ). (z : Item) → At xs j z → ItemLacks c.args.label z) n (λ j m z. c.loop-number.invariant j z m)
+    λ k x l a. below_more (λ (j : ℕ). (z : Item) → IsAt xs j z → ItemLacks c.args.label z) n (λ j m z. c.loop-number.invariant j z m)
     (λ z b. subst (ItemLacks c.args.label) (at-one xs n y z c.item_at.ensures.item b) here) k l x a
 
 pub returns : goal.returns

@@ -1,4 +1,4 @@
-use Rattle.nef_ops.proofs.Prelude.{◌≡◌, List, Some, rules, refl, sym, subst, At, SVertex}
+use Rattle.nef_ops.proofs.Prelude.{◌≡◌, List, Some, rules, refl, sym, subst, IsAt, SVertex}
 use Rattle.nef_ops.proofs.Lacking.{map-lacks}
 use Rattle.nef_ops.proofs.share.lacks.Goals as goal
 
@@ -8,6 +8,6 @@ returns c =
     let ground : c.args.map.now.ground ≡ Some c.args.label → ⊥ = search rules in
     record {
       lacks = λ h. map-lacks c.args.label c.args.map.now
-          (λ k v a. c.if-not-svertices_lack.ensures.lacks refl k v (subst (λ (vs : List SVertex). At vs k v) (sym c.as_slice.ensures.all) a))
+          (λ k v a. c.if-not-svertices_lack.ensures.lacks refl k v (subst (λ (vs : List SVertex). IsAt vs k v) (sym c.as_slice.ensures.all) a))
           (c.items_lack.ensures.lacks h) own ground;
     }

@@ -1,4 +1,4 @@
-use Rattle.nef_ops.proofs.Prelude.{subst, At, at-one, Edge as PlainEdge, same-itself, vertex_of, edge_of, complex_of, IsPlaceIn, IsPlaceAt, image-within, image-read, volume-flat}
+use Rattle.nef_ops.proofs.Prelude.{subst, IsAt, at-one, Edge as PlainEdge, same-itself, vertex_of, edge_of, complex_of, IsPlaceIn, IsPlaceAt, image-within, image-read, volume-flat}
 use Rattle.nef_locate.proofs.EdgeFound.{low-within}
 use Rattle.nef_ops.proofs.PlaceShares.{edge-share, flat-share}
 use Rattle.nef_ops.proofs.share.share_at.Goals as goal
@@ -28,7 +28,7 @@ returns-in-OnEdge c = record {
       let f = c.vertex_share-in-OnEdge in
       let p = subst (IsPlaceAt C y) c.in-OnEdge.is a in
       let same = at-one C.edges k p.0 (edge_of e) p.3 (image-read edge_of c.args.c.now.edges k e c.at.ensures.element) in
-      let low = subst (λ (r : PlainEdge). At C.vertices r.low p.1) same p.4.low in
+      let low = subst (λ (r : PlainEdge). IsAt C.vertices r.low p.1) same p.4.low in
       edge-share f.result s C S.shows k p.0 p.1 p.2 y p.3 p.4 p.5 (f.ensures.share s p.1.point S (p.1, low, same-itself p.1.point));
 }
 

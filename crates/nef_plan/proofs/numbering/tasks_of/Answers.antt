@@ -1,5 +1,5 @@
-use Rattle.nef_plan.proofs.Prelude.{◌≡◌, ◌∙◌, ◌+◌, ◌∷◌, ◌++◌, [], ap, refl, sym, length, take, arith, length-take-le, take_all, slice_get_read, put, put_all, task_over, tasks_over}
-use Rattle.nef_plan.proofs.Ended.{among-right, put_all-push, tasks-push}
+use Rattle.nef_plan.proofs.Prelude.{◌≡◌, ◌∙◌, ◌+◌, ◌∷◌, ◌++◌, [], ap, refl, sym, length, take, arith, length-take-le, take_all, slice_get_read, put_value, put_values, task_over, tasks_over}
+use Rattle.nef_plan.proofs.Ended.{among-right, put_values-push, tasks-push}
 use Rattle.nef_plan.proofs.Followed.{look-below}
 use Rattle.nef_plan.proofs.Grouping.{parts-at}
 use Rattle.nef_plan.proofs.numbering.tasks_of.Goals as goal
@@ -15,7 +15,7 @@ loop-now-preserved c =
     let (next, whole) = parts-at drafts now item (omega arith) c.index-drafts-now.is in
     let count : now ≡ 0 + length front = (let n = length-take-le now drafts (omega arith) in omega (arith, n)) in
     record {
-      table = c.put_value.ensures.put ∙ ap (λ z. put z item now) so_far.table ∙ ap (put (put_all before 0 front) item) count ∙ sym (put_all-push before 0 front item) ∙ ap (put_all before 0) (sym next);
+      table = c.put_value.ensures.put ∙ ap (λ z. put_value z item now) so_far.table ∙ ap (put_value (put_values before 0 front) item) count ∙ sym (put_values-push before 0 front item) ∙ ap (put_values before 0) (sym next);
       as_many = c.put_value.ensures.length ∙ so_far.as_many;
       tasks = c.in_ok-push.ensures.items ∙ ap (λ z. z ++ c.task_of.result ∷ []) so_far.tasks ∙ ap (λ z. tasks_over before 0 front ++ z ∷ []) (c.task_of.ensures.task ∙ ap (λ z. task_over z item) so_far.table) ∙ sym (tasks-push before 0 front item) ∙ ap (tasks_over before 0) (sym next);
     }

@@ -1,4 +1,4 @@
-use Rattle.nef_plan.proofs.Prelude.{◌≡◌, ◌<◌, [], length, arith, subst, inl, inr, Made, AddsOnly, HasGrown, IsMade, IsReady}
+use Rattle.nef_plan.proofs.Prelude.{◌≡◌, ◌<◌, [], length, arith, subst, inl, inr, Made, AddsOnly, HasGrown, IsMade, IsNodeReady}
 use Rattle.nef_plan.proofs.Growth.{asked-none, makes-one, makes-within, right-more}
 use Rattle.nef_plan.proofs.Added.{added-one}
 use Rattle.nef_plan.proofs.Bounds.{on-set, on-trans, bound-before, bound-here, unbound-free}
@@ -28,7 +28,7 @@ returns-clause-goes_on c =
     let did = c.in_ok-add_step.ensures in
     let grown : HasGrown middle.plan plan [] = subst (HasGrown middle.plan plan) (asked-none c.args.step node c.requires.makes) did.grown in
     let there = makes-within c.args.plan.now.nodes c.args.step node c.requires.right c.requires.makes in
-    let ready : IsReady plan node = record { within = omega (arith, there, on.grown.nodes.as_many, grown.nodes.as_many); made = did.made node c.requires.makes } in
+    let ready : IsNodeReady plan node = record { within = omega (arith, there, on.grown.nodes.as_many, grown.nodes.as_many); made = did.made node c.requires.makes } in
     let added : AddsOnly middle.plan plan (λ k. k ≡ node) = added-one middle.plan plan (λ k. k ≡ node) c.args.step did.steps (λ k makes. inl (makes-one c.args.step node k c.requires.makes makes)) in
     on-trans c.args.plan.now middle.plan plan c.args.bounds.now middle.bounds _ [] [] on
     (on-set middle.plan plan [] middle.bounds node Made on.planned grown within tt ready added)

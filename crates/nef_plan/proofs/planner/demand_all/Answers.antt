@@ -1,4 +1,4 @@
-use Rattle.nef_plan.proofs.Prelude.{ℕ, Option, [], subst, inl, inr, IfSome, IsBoundIn, IsReady}
+use Rattle.nef_plan.proofs.Prelude.{ℕ, Option, [], subst, inl, inr, IfSome, IsBoundIn, IsNodeReady}
 use Rattle.nef_plan.proofs.Growth.{ready-grown}
 use Rattle.nef_plan.proofs.Bounds.{on-trans, some-all}
 use Rattle.nef_plan.proofs.planner.demand_all.Goals as goal
@@ -28,7 +28,7 @@ returns-clause-made c k looks =
     let second = c.demand-2.new.plan in
     elim ((c.looked_at-first.ensures.looked_at k).0 looks) [
       | inl e ↦ (
-          let ready : IsReady first k = subst (λ (o : Option ℕ). IfSome o (IsReady first)) e c.in_ok-demand.ensures.ready in
+          let ready : IsNodeReady first k = subst (λ (o : Option ℕ). IfSome o (IsNodeReady first)) e c.in_ok-demand.ensures.ready in
           (ready-grown first second [] k c.in_ok-demand-2.ensures.goes_on.grown ready).made)
-      | inr e ↦ (let ready : IsReady second k = subst (λ (o : Option ℕ). IfSome o (IsReady second)) e c.in_ok-demand-2.ensures.ready in ready.made)
+      | inr e ↦ (let ready : IsNodeReady second k = subst (λ (o : Option ℕ). IfSome o (IsNodeReady second)) e c.in_ok-demand-2.ensures.ready in ready.made)
     ]

@@ -1,4 +1,4 @@
-use Rattle.nef_plan.proofs.Prelude.{◌≡◌, ◌<◌, ◌≤◌, [], ap, length, refl, subst, sym, ◌∙◌, inl, on_ok_weaker, IsMade, IsReady, IsRowOf, spare, Make}
+use Rattle.nef_plan.proofs.Prelude.{◌≡◌, ◌<◌, ◌≤◌, [], ap, length, refl, subst, sym, ◌∙◌, inl, on_ok_weaker, IsMade, IsNodeReady, IsRowOf, spare, Make}
 use Rattle.nef_plan.proofs.Growth.{grown-trans}
 use Rattle.nef_plan.proofs.Added.{added-one, added-trans, free-grown}
 use Rattle.nef_plan.proofs.planner.finish.Goals as goal
@@ -40,5 +40,5 @@ pub returns-clause-ready : goal.returns-clause-ready
 returns-clause-ready c =
     let right = c.ending-made.ensures.made c.join_parts.new.plan c.args.node (row-here (goal.at.returns-clause-ready c).In_ok-join_parts) in
     on_ok_weaker c.add_step.result (λ made.
-    let ready : IsReady c.add_step.new.plan c.args.node = record { within = subst (λ z. c.args.node < length z) (sym c.add_step.ensures.nodes) right.within; made = made c.args.node refl } in
+    let ready : IsNodeReady c.add_step.new.plan c.args.node = record { within = subst (λ z. c.args.node < length z) (sym c.add_step.ensures.nodes) right.within; made = made c.args.node refl } in
     ready) c.add_step.ensures.made

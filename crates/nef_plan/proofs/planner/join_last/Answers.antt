@@ -1,4 +1,4 @@
-use Rattle.nef_plan.proofs.Prelude.{◌≡◌, ℕ, subst, List, [], ◌∷◌, ◌++◌, AreReady, MakesSet}
+use Rattle.nef_plan.proofs.Prelude.{◌≡◌, ℕ, subst, List, [], ◌∷◌, ◌++◌, PartsAreReady, RowMakesSet}
 use Rattle.nef_plan.proofs.Rows.{Each, each-front, each-last, are-joined-grown, row-joined-grown}
 use Rattle.nef_plan.proofs.planner.join_last.Goals as goal
 
@@ -18,7 +18,7 @@ returns-in_ok-row-clause-ready c =
     let old = c.args.row.now in
     let rest = c.pop.new.self.items in
     let items : old.others.items ≡ rest ++ c.in-Some.part ∷ [] = c.in-Some.ensures.items in
-    let before = subst (λ (z : List ℕ). AreReady c.args.plan.now old.kind (z ++ old.last ∷ [])) items c.requires.ready in
+    let before = subst (λ (z : List ℕ). PartsAreReady c.args.plan.now old.kind (z ++ old.last ∷ [])) items c.requires.ready in
     let now = c.in_ok-row.ensures in
     are-joined-grown c.args.plan.now c.joined_part.new.plan [] old.kind rest c.in-Some.part old.last c.in_ok-row.field-0 now.grown now.ready before
 
@@ -27,6 +27,6 @@ returns-in_ok-row-clause-row c k row =
     let old = c.args.row.now in
     let rest = c.pop.new.self.items in
     let items : old.others.items ≡ rest ++ c.in-Some.part ∷ [] = c.in-Some.ensures.items in
-    let before = subst (λ (z : List ℕ). MakesSet c.args.plan.now old.kind (z ++ old.last ∷ []) k) items row in
+    let before = subst (λ (z : List ℕ). RowMakesSet c.args.plan.now old.kind (z ++ old.last ∷ []) k) items row in
     let now = c.in_ok-row.ensures in
     row-joined-grown c.args.plan.now c.joined_part.new.plan [] old.kind rest c.in-Some.part old.last c.in_ok-row.field-0 k now.grown now.ready now.set before

@@ -1,11 +1,11 @@
-use Rattle.nef_plan.proofs.Prelude.{◌≡◌, ℕ, [], length, AreReady, AddsOnly, HasGrown, IsRowOf, parts}
+use Rattle.nef_plan.proofs.Prelude.{◌≡◌, ℕ, [], length, PartsAreReady, AddsOnly, HasGrown, IsRowOf, row_parts}
 use Rattle.nef_plan.proofs.planner.join_parts.Given as goal
 
 abbrev pub invariant-loop-plan : goal.invariant-loop-plan
 invariant-loop-plan l = record {
   grown : HasGrown l.initial.plan l.plan [];
   added : AddsOnly l.initial.plan l.plan (λ k. ⊥);
-  ready : AreReady l.plan l.row.kind (parts l.row);
+  ready : PartsAreReady l.plan l.row.kind (row_parts l.row);
   kind : l.row.kind ≡ l.initial.row.kind;
   row : (k : ℕ) → IsRowOf l.initial.plan l.initial.row k → IsRowOf l.plan l.row k;
 }

@@ -1,4 +1,4 @@
-use Rattle.nef_plan.proofs.Prelude.{◌≡◌, ◌∙◌, ℕ, [], ap, sym, subst, IfOk-weaker, node_set, IsReady, combined}
+use Rattle.nef_plan.proofs.Prelude.{◌≡◌, ◌∙◌, ℕ, [], ap, sym, subst, IfOk-weaker, node_set, IsNodeReady, combined}
 use Rattle.nef_plan.proofs.Growth.{ready-grown}
 use Rattle.nef_plan.proofs.Rows.{combined-same, row-added}
 use Rattle.nef_plan.proofs.Bounds.{on-trans}
@@ -14,7 +14,7 @@ returns-in-Some-clause-row c k within is =
     let second : longer.last ≡ c.args.second = added.last in
     let same = combined-same row.kind c.args.kind (node_set plan.nodes c.args.first) (node_set plan.nodes c.args.second) like in
     row-added plan row longer c.args.first k added.kind added.others
-    (subst (IsReady plan) (sym second) c.in_ok-demand.ensures.ready)
+    (subst (IsNodeReady plan) (sym second) c.in_ok-demand.ensures.ready)
     within
     (is ∙ sym same ∙ ap (λ (n : ℕ). combined row.kind (node_set plan.nodes c.args.first) (node_set plan.nodes n)) (sym second))
     (of plan c.in_ok-demand.ensures.goes_on.planned)

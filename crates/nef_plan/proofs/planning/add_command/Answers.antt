@@ -1,5 +1,5 @@
 use Rattle.std.specs.Prelude.{◌⊎◌}
-use Rattle.nef_plan.proofs.Prelude.{◌≡◌, ◌∙◌, ℕ, None, Some, inl, inr, ⊎_elim, true, false, List, [], ◌∷◌, filter, ap, refl, sym, subst, length, arith, slice_get_within, on_ok_weaker, turned_set, names-wider, each-set, Node, Command, Binds, TurnsRight, IsWithin, GoesOn, IsBoundIn, IsTurnedFrom, AsksAbout, is_question}
+use Rattle.nef_plan.proofs.Prelude.{◌≡◌, ◌∙◌, ℕ, None, Some, inl, inr, ⊎_elim, true, false, List, [], ◌∷◌, filter, ap, refl, sym, subst, length, arith, slice_get_within, on_ok_weaker, turned_set, names-wider, each-set, Node, Command, Binds, TurnsRight, SpeaksOfFirst, GoesOn, IsBoundIn, IsTurnedFrom, AsksAbout, is_question}
 use Rattle.nef_expr.proofs.Turns.{node-turned}
 use Rattle.nef_script.specs.declared.script.Command.TheVariants.{Bind, Turn, Has, Joined, Ray, Same, Count, Print}
 use Rattle.nef_script.specs.Commands.{LooksAt}
@@ -67,7 +67,7 @@ bind_made-requires-clause-right c =
     let node = c.in-Turn.node in
     let from = c.in-Turn.from in
     let turn = c.in-Turn.turn in
-    let within = subst (IsWithin (length nodes)) c.in-Turn.is c.requires.within in
+    let within = subst (SpeaksOfFirst (length nodes)) c.in-Turn.is c.requires.within in
     let turned = subst (TurnsRight nodes) c.in-Turn.is c.requires.turned in
     let is : IsTurnedFrom c.args.plan.now.nodes node from turn = record {
       within = omega (arith, within.0, more.as_many);

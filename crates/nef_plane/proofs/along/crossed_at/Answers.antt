@@ -1,4 +1,4 @@
-use Rattle.nef_plane.proofs.Prelude.{◌≡◌, ℕ, pos, length, get_or, arith, rules, refl, slice_get_read, slope, form_of, place_of, vector_of, Plane, is-at_get, listed-more, holder-holds, all-holders}
+use Rattle.nef_plane.proofs.Prelude.{◌≡◌, ℕ, pos, length, get_or, arith, rules, refl, slice_get_read, slope, form_of, point_of, vector_of, Plane, is-at_get, listed-more, holder-holds, all-holders}
 use Rattle.nef_plane.proofs.Reached.{across-through, across-none}
 use Rattle.nef_plane.proofs.along.crossed_at.Goals as goal
 
@@ -10,7 +10,7 @@ returns-then-not-is_along-clause-through c a b H =
     let k : ℕ = get_or ns n 0 in
     let g = c.index-carriers-number.result in
     let at_n = is-at_get ns n 0 c.loop-number-test.true in
-    across-through c.ray_hit.result (place_of c.args.ray.now.start.now) (vector_of c.args.ray.now.direction.now) g a b
+    across-through c.ray_hit.result (point_of c.args.ray.now.start.now) (vector_of c.args.ray.now.direction.now) g a b
     (holder-holds hs a b ns H n k g at_n (slice_get_read hs (length hs) k g refl (c.requires.within n k at_n) c.index-carriers-number.is), λ e. absurd (search (rules, c.is_along.ensures.along.1 e, c.if-not-is_along.true)))
     c.ray_hit.ensures.crossing c.ray_hit.ensures.step
 
@@ -22,7 +22,7 @@ returns-then-not-is_along-clause-none c a b H z y w m =
     let k : ℕ = get_or ns n 0 in
     let g = c.index-carriers-number.result in
     let at_n = is-at_get ns n 0 c.loop-number-test.true in
-    absurd (across-none c.ray_hit.result (place_of c.args.ray.now.start.now) (vector_of c.args.ray.now.direction.now) g a b
+    absurd (across-none c.ray_hit.result (point_of c.args.ray.now.start.now) (vector_of c.args.ray.now.direction.now) g a b
     (holder-holds hs a b ns H n k g at_n (slice_get_read hs (length hs) k g refl (c.requires.within n k at_n) c.index-carriers-number.is), λ e. absurd (search (rules, c.is_along.ensures.along.1 e, c.if-not-is_along.true)))
     c.ray_hit.ensures.none z y w m)
 

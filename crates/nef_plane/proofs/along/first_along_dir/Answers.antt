@@ -1,7 +1,7 @@
-use Rattle.nef_plane.proofs.Prelude.{inl, rules, sym, subst, Place, IsAhead, form_of, place_of, vector_of, map-at, Meets, IsFirstInPlane, same-itself, complex_of, meet_of, vertex_of, got-at, AreItems, IsNearest, near_met_of}
+use Rattle.nef_plane.proofs.Prelude.{inl, rules, sym, subst, SpacePoint, IsAhead, form_of, point_of, vector_of, map-at, Meets, IsFirstInPlane, same-itself, complex_of, meet_of, vertex_of, got-at, AreItems, IsNearest, near_met_of}
 use Rattle.law_complex.specs.Skeleton.{PlaneMeet as PlainMeet}
 use Rattle.nef_plane.proofs.Choosing.{some-at}
-use Rattle.nef_plane.proofs.Found.{Any, from-vertex, first-some, first-none}
+use Rattle.nef_plane.proofs.Found.{MeetsAny, from-vertex, first-some, first-none}
 use Rattle.nef_plane.proofs.Passed.{excluding-course}
 use Rattle.nef_plane.proofs.along.first_along_dir.Goals.{in-Some, in_default}
 use Rattle.nef_plane.proofs.along.first_along_dir.Goals as goal
@@ -22,24 +22,24 @@ nearest_met-met-requires-clause-items c = some-at (AreItems c.args.c.now (form_o
 
 pub returns-clause-some : goal.returns-clause-some
 returns-clause-some c =
-    let S = c.requires.shows in let v = c.at.result.now in let p = place_of v.point in let d = vector_of c.args.d.now in let C = c.args.c.now in let h = c.args.h.now in
+    let S = c.requires.shows in let v = c.at.result.now in let p = point_of v.point in let d = vector_of c.args.d.now in let C = c.args.c.now in let h = c.args.h.now in
     let a = got-at C.vertices c.args.vertex v c.at.ensures.element in let listed = map-at vertex_of C.vertices c.args.vertex v a in
-    let N : IsNearest near_met_of p d (Any C (form_of h) d) c.match-items.met = elim c.match-items.branch [
-      | in-Some w ↦ subst (IsNearest near_met_of p d (Any C (form_of h) d)) (sym w.met-is) w.nearest_met-met.ensures.nearest
-      | in_default w ↦ subst (IsNearest near_met_of p d (Any C (form_of h) d)) (sym w.met-is) w.met_of_all-met.ensures.nearest
+    let N : IsNearest near_met_of p d (MeetsAny C (form_of h) d) c.match-items.met = elim c.match-items.branch [
+      | in-Some w ↦ subst (IsNearest near_met_of p d (MeetsAny C (form_of h) d)) (sym w.met-is) w.nearest_met-met.ensures.nearest
+      | in_default w ↦ subst (IsNearest near_met_of p d (MeetsAny C (form_of h) d)) (sym w.met-is) w.met_of_all-met.ensures.nearest
     ] in
     from-vertex C c.args.vertex v a (λ q. IsFirstInPlane (complex_of C) (form_of h) q d (meet_of c.in_ok-first.first.meet))
     (first-some S.0 C S.1.shows (form_of h) p d c.args.d.now.some (inl (c.args.vertex, (vertex_of v, listed, same-itself p))) (c.requires.no_svertex (vertex_of v) listed) (near_met_of c.in_ok-first.first)
-    (subst (IsNearest near_met_of p d (Any C (form_of h) d)) c.in_ok-first.was N))
+    (subst (IsNearest near_met_of p d (MeetsAny C (form_of h) d)) c.in_ok-first.was N))
 
 pub returns-in_err-first-clause-none : goal.returns-in_err-first-clause-none
 returns-in_err-first-clause-none c _ =
-    let S = c.requires.shows in let v = c.at.result.now in let p = place_of v.point in let d = vector_of c.args.d.now in let C = c.args.c.now in let h = c.args.h.now in
+    let S = c.requires.shows in let v = c.at.result.now in let p = point_of v.point in let d = vector_of c.args.d.now in let C = c.args.c.now in let h = c.args.h.now in
     let a = got-at C.vertices c.args.vertex v c.at.ensures.element in let listed = map-at vertex_of C.vertices c.args.vertex v a in
-    let N : IsNearest near_met_of p d (Any C (form_of h) d) c.match-items.met = elim c.match-items.branch [
-      | in-Some w ↦ subst (IsNearest near_met_of p d (Any C (form_of h) d)) (sym w.met-is) w.nearest_met-met.ensures.nearest
-      | in_default w ↦ subst (IsNearest near_met_of p d (Any C (form_of h) d)) (sym w.met-is) w.met_of_all-met.ensures.nearest
+    let N : IsNearest near_met_of p d (MeetsAny C (form_of h) d) c.match-items.met = elim c.match-items.branch [
+      | in-Some w ↦ subst (IsNearest near_met_of p d (MeetsAny C (form_of h) d)) (sym w.met-is) w.nearest_met-met.ensures.nearest
+      | in_default w ↦ subst (IsNearest near_met_of p d (MeetsAny C (form_of h) d)) (sym w.met-is) w.met_of_all-met.ensures.nearest
     ] in
-    from-vertex C c.args.vertex v a (λ r. (m : PlainMeet) (q : Place) → IsAhead r d q → Meets (complex_of C) (form_of h) m q → ⊥)
+    from-vertex C c.args.vertex v a (λ r. (m : PlainMeet) (q : SpacePoint) → IsAhead r d q → Meets (complex_of C) (form_of h) m q → ⊥)
     (first-none S.0 C S.1.shows (form_of h) p d c.args.d.now.some (inl (c.args.vertex, (vertex_of v, listed, same-itself p))) (c.requires.no_svertex (vertex_of v) listed)
-    (subst (IsNearest near_met_of p d (Any C (form_of h) d)) c.in_err-first.was N))
+    (subst (IsNearest near_met_of p d (MeetsAny C (form_of h) d)) c.in_err-first.was N))

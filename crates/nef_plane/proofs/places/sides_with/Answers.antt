@@ -1,4 +1,4 @@
-use Rattle.nef_plane.proofs.Prelude.{◌≡◌, ◌∙◌, ℕ, length, get_or, arith, rules, refl, sym, slice_get_read, form_at, place_of, hit_place, form_of, sign_of, Plane, not_true, is-at_get, listed-more, holder-holds, all-holders, got-at}
+use Rattle.nef_plane.proofs.Prelude.{◌≡◌, ◌∙◌, ℕ, length, get_or, arith, rules, refl, sym, slice_get_read, form_at, point_of, hit_point, form_of, sign_of, Plane, not_true, is-at_get, listed-more, holder-holds, all-holders, got-at}
 use Rattle.nef_plane.proofs.places.sides_with.Goals as goal
 
 pub returns-then-ne : goal.returns-then-ne
@@ -28,13 +28,13 @@ loop-number-preserved c =
     let g = c.index-carriers-number.result in
     let at_n = is-at_get ns n 0 c.loop-number-test.true in
     let same : c.hit_side.result ≡ c.side.result = search (rules, c.if-ne.false) in
-    listed-more hs ns n k g (λ (h : Plane). sign_of (form_at (form_of h) (hit_place c.args.q.now)) ≡ sign_of (form_at (form_of h) (place_of c.args.b.now))) at_n
+    listed-more hs ns n k g (λ (h : Plane). sign_of (form_at (form_of h) (hit_point c.args.q.now)) ≡ sign_of (form_at (form_of h) (point_of c.args.b.now))) at_n
     (slice_get_read hs (length hs) k g refl (c.requires.within n k at_n) c.index-carriers-number.is) c.loop-number.invariant (sym c.hit_side.ensures.side ∙ same ∙ c.side.ensures.side)
 
 pub returns : goal.returns
 returns c = record {
   sides = λ a H. (
-    λ t k h l z. all-holders c.args.carriers.now a a c.args.holders.now H (λ (h : Plane). sign_of (form_at (form_of h) (hit_place c.args.q.now)) ≡ sign_of (form_at (form_of h) (place_of c.args.b.now))) c.loop-number.number-index
+    λ t k h l z. all-holders c.args.carriers.now a a c.args.holders.now H (λ (h : Plane). sign_of (form_at (form_of h) (hit_point c.args.q.now)) ≡ sign_of (form_at (form_of h) (point_of c.args.b.now))) c.loop-number.number-index
         (let f = c.loop-number-test.false in omega arith) c.loop-number.invariant k h l (z, z),
     λ A. refl,
   );

@@ -1,4 +1,4 @@
-use Rattle.nef_ray.proofs.Prelude.{ℤ, pos, ◌*ℤ◌, ◌<ℤ◌, [], ◌∷◌, sym, ◌∙◌, ap, refl, subst, w64, wrap, exact_of, fits_of, size_of, mul_pos, point_limit, weight_limit, place_of}
+use Rattle.nef_ray.proofs.Prelude.{ℤ, pos, ◌*ℤ◌, ◌<ℤ◌, [], ◌∷◌, sym, ◌∙◌, ap, refl, subst, w64, wrap, exact_of, fits_of, size_of, mul_pos, point_limit, weight_limit, point_of}
 use Rattle.nef_ray.proofs.Steps.{step_sizes, step-limits, step-is, step_code, weight_sizes, weight-limits, times, same-at}
 use Rattle.nef_ray.proofs.change.reached.Goals as goal
 
@@ -43,7 +43,7 @@ of-requires-clause-positive c = subst (λ (i : ℤ). pos 0 <ℤ i) (sym (exact_o
 
 pub returns : goal.returns
 returns c = record {
-  reached = same-at _ _ _ _ _ _ _ _ (place_of c.of.result)
+  reached = same-at _ _ _ _ _ _ _ _ (point_of c.of.result)
       (exact_of step_sizes (c.x.result ∷ c.args.den ∷ c.args.num ∷ c.x-2.result ∷ []) (wrap w64 step_code) (step-limits c.x.result c.args.den c.args.num c.x-2.result c.args.p.now.x c.args.d.now.x c.x.ensures.x c.x-2.ensures.x c.requires.p_small.numbers.of_x c.requires.den_small c.requires.num_small c.requires.d_small.of_x) tt ∙ step-is c.x.result c.args.den c.args.num c.x-2.result c.args.p.now.x c.args.d.now.x c.x.ensures.x c.x-2.ensures.x)
       (exact_of step_sizes (c.y.result ∷ c.args.den ∷ c.args.num ∷ c.y-2.result ∷ []) (wrap w64 step_code) (step-limits c.y.result c.args.den c.args.num c.y-2.result c.args.p.now.y c.args.d.now.y c.y.ensures.y c.y-2.ensures.y c.requires.p_small.numbers.of_y c.requires.den_small c.requires.num_small c.requires.d_small.of_y) tt ∙ step-is c.y.result c.args.den c.args.num c.y-2.result c.args.p.now.y c.args.d.now.y c.y.ensures.y c.y-2.ensures.y)
       (exact_of step_sizes (c.z.result ∷ c.args.den ∷ c.args.num ∷ c.z-2.result ∷ []) (wrap w64 step_code) (step-limits c.z.result c.args.den c.args.num c.z-2.result c.args.p.now.z c.args.d.now.z c.z.ensures.z c.z-2.ensures.z c.requires.p_small.numbers.of_z c.requires.den_small c.requires.num_small c.requires.d_small.of_z) tt ∙ step-is c.z.result c.args.den c.args.num c.z-2.result c.args.p.now.z c.args.d.now.z c.z.ensures.z c.z-2.ensures.z)

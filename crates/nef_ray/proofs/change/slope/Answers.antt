@@ -1,4 +1,4 @@
-use Rattle.nef_ray.proofs.Prelude.{[], ◌∷◌, refl, ◌∙◌, w64, wrap, exact_of, fits_of, size_of, ray_slope_limit}
+use Rattle.nef_ray.proofs.Prelude.{[], ◌∷◌, refl, ◌∙◌, w64, wrap, exact_of, fits_of, size_of, asked_slope_limit}
 use Rattle.nef_ray.proofs.Steps.{slope_sizes, slope-limits, slope-is, first_two, all_three}
 use Rattle.nef_ray.proofs.change.slope.Goals as goal
 
@@ -21,5 +21,5 @@ returns-clause-value c =
 
 pub returns-clause-width : goal.returns-clause-width
 returns-clause-width c =
-    size_of slope_sizes (c.a.result ∷ c.b.result ∷ c.c.result ∷ c.x.result ∷ c.y.result ∷ c.z.result ∷ []) ray_slope_limit (wrap w64 all_three)
+    size_of slope_sizes (c.a.result ∷ c.b.result ∷ c.c.result ∷ c.x.result ∷ c.y.result ∷ c.z.result ∷ []) asked_slope_limit (wrap w64 all_three)
     (slope-limits c.args.h.now c.args.d.now c.requires.small c.a.result c.b.result c.c.result c.x.result c.y.result c.z.result c.a.ensures.a c.b.ensures.b c.c.ensures.c c.x.ensures.x c.y.ensures.y c.z.ensures.z) tt tt

@@ -1,4 +1,4 @@
-use Rattle.nef_ray.proofs.Prelude.{inl, subst, arith, rules, IfSome, IsNone, Option, Set, SamePlace, place_of, vector_of, hit_place, at-within, read-at, ShowsSet, Crossed, RayEnd, RayStart, IsHitOf, IsUnchangedOn, IsChangeOf}
+use Rattle.nef_ray.proofs.Prelude.{inl, subst, arith, rules, IfSome, IsNone, Option, Set, SamePoint, point_of, vector_of, hit_point, at-within, read-at, ShowsSet, Crossed, RayEnd, RayStart, IsHitOf, IsUnchangedOn, IsChangeOf}
 use Rattle.nef_ray.proofs.Found.{all-seen, ordered-seen, end-some, end-none}
 use Rattle.nef_ray.proofs.Listed.{next-read, one-listed}
 use Rattle.nef_ray.proofs.ray.ray_end.Goals as goal
@@ -23,7 +23,7 @@ returns-in-Some c =
     record {
       end = λ s S.
           end-some s C S ray c.requires.framed (c.in_ok-label_after.ensures.germ s S) x c.in-Some.end H
-          (subst (λ (o : Option RayEnd). IfSome o (λ e. SamePlace (hit_place x.at) (place_of e.point))) c.in-Some.is c.in_ok-end.ensures.point)
+          (subst (λ (o : Option RayEnd). IfSome o (λ e. SamePoint (hit_point x.at) (point_of e.point))) c.in-Some.is c.in_ok-end.ensures.point)
           (subst (λ (o : Option RayEnd). IfSome o (λ e. (s : Set) → ShowsSet s C → IsChangeOf s (vector_of ray.along) ray.before e)) c.in-Some.is c.in_ok-end.ensures.change s S)
           (ordered-seen s C ray c.in_ok-crossed.crossed.items zs c.as_slice-next-items.ensures.value c.in_ok-crossed.ensures.all c.in_ok-crossed.ensures.hits c.in_ok-crossed.ensures.sorted n x a
           (λ k z l b. c.loop-next.invariant k z l b s S));

@@ -1,4 +1,4 @@
-use Rattle.nef_result.proofs.Prelude.{◌≡◌, ◌<◌, ℕ, length, arith, sym, subst, First, Second, at-read, MapSource, HasNamed, Names, IsFilledAt, AreFilledTo}
+use Rattle.nef_result.proofs.Prelude.{◌≡◌, ◌<◌, ℕ, length, arith, sym, subst, First, Second, at-read, MapSource, HasNamed, NamesVertex, IsFilledAt, AreFilledTo}
 use Rattle.nef_smap.proofs.SideLists.{at-some as element-at}
 use Rattle.nef_result.proofs.Filled.{filled-none, left-none, has-named, filled-more, left-first, left-second}
 use Rattle.nef_result.proofs.filling.fill_all.Goals as goal
@@ -35,9 +35,9 @@ loop-number-preserved c =
       filled = filled-more us vs ys fs T n y.0 f.0 y.1 f.1 ws zs I.left I.other c.loop-number.vertices.items new I.filled c.fill.ensures.len
           (λ v a. subst (λ (g : MapSource). IsFilledAt ws zs g n v new) (at-read fs n _ f.0 f.1) (c.fill.ensures.filled v a)) c.fill.ensures.others;
       left = left-first us vs ys fs T n y.0 f.0 y.1 f.1 ws c.fill.new.first.items I.left
-          (λ k v h. c.fill.ensures.first k v (λ m. h (subst (λ (g : MapSource). Names g First k) (at-read fs n _ f.0 f.1) m)));
+          (λ k v h. c.fill.ensures.first k v (λ m. h (subst (λ (g : MapSource). NamesVertex g First k) (at-read fs n _ f.0 f.1) m)));
       other = left-second us vs ys fs T n y.0 f.0 y.1 f.1 zs c.fill.new.second.items I.other
-          (λ k v h. c.fill.ensures.second k v (λ m. h (subst (λ (g : MapSource). Names g Second k) (at-read fs n _ f.0 f.1) m)));
+          (λ k v h. c.fill.ensures.second k v (λ m. h (subst (λ (g : MapSource). NamesVertex g Second k) (at-read fs n _ f.0 f.1) m)));
     }
 
 pub returns : goal.returns

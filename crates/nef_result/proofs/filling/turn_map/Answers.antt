@@ -1,4 +1,4 @@
-use Rattle.nef_result.proofs.Prelude.{◌∙◌, ap, sym, subst, set, Place, Set, Cone, At, at-one, Vertex, map_of, IsLeastMap, SphereMap, vertex_at}
+use Rattle.nef_result.proofs.Prelude.{◌∙◌, ap, sym, subst, set, SpacePoint, Set, Cone, IsAt, at-one, Vertex, map_of, IsLeastMap, SphereMap, vertex_at}
 use Rattle.nef_edges.proofs.Places.{read-at}
 use Rattle.nef_result.proofs.Filled.{set-here, set-other}
 use Rattle.nef_result.proofs.filling.turn_map.Goals as goal
@@ -13,9 +13,9 @@ returns-clause-turned c = λ v a.
     let us = c.args.vertices.now.items in let n = c.args.number in let u = c.index_mut-vertex.result.now in let m = c.exchanged.result in
     let e = at-one us n u v (read-at us n u c.requires.within c.index_mut-vertex.ensures.value) a in
     let is = c.replace-map.ensures.value ∙ ap (λ (w : Vertex). w.map) e in
-    let cone = subst (λ (l : SphereMap). (s : Set) (p : Place) → Cone (map_of l) s p → Cone (map_of m) (Set.other s) p) is c.exchanged.ensures.cone in (
+    let cone = subst (λ (l : SphereMap). (s : Set) (p : SpacePoint) → Cone (map_of l) s p → Cone (map_of m) (Set.other s) p) is c.exchanged.ensures.cone in (
       m,
-      subst (λ (w : Vertex). At (set us n (vertex_at w.point m)) n (vertex_at v.point m)) (sym e) (set-here us n v (vertex_at v.point m) a),
+      subst (λ (w : Vertex). IsAt (set us n (vertex_at w.point m)) n (vertex_at v.point m)) (sym e) (set-here us n v (vertex_at v.point m) a),
       (c.exchanged.ensures.least, cone),
     )
 

@@ -1,5 +1,5 @@
 use Rattle.nef_result.proofs.Prelude.{sym, subst, Set}
-use Rattle.nef_result.proofs.Walls.{IsWhole, full-whole, empty-whole}
+use Rattle.nef_result.proofs.Walls.{IsOneLabelSet, full-whole, empty-whole}
 use Rattle.nef_result.proofs.Shown.{whole-vertices, whole-set}
 use Rattle.nef_result.proofs.whole.frame.Goals as goal
 
@@ -11,8 +11,8 @@ pair-requires c =
 
 pub returns-clause-full : goal.returns-clause-full
 returns-clause-full c e =
-    c.in_ok-complex.ensures.shows Set.full (whole-vertices Set.full c.args.label (subst (IsWhole Set.full) (sym e) full-whole) c.in_ok-planes.planes c.in_ok-vertices.vertices c.in_ok-planes.ensures.planes c.in_ok-vertices.ensures.corners)
+    c.in_ok-complex.ensures.shows Set.full (whole-vertices Set.full c.args.label (subst (IsOneLabelSet Set.full) (sym e) full-whole) c.in_ok-planes.planes c.in_ok-vertices.vertices c.in_ok-planes.ensures.planes c.in_ok-vertices.ensures.corners)
 
 pub returns-clause-empty : goal.returns-clause-empty
 returns-clause-empty c e =
-    c.in_ok-complex.ensures.shows Set.empty (whole-vertices Set.empty c.args.label (subst (IsWhole Set.empty) (sym e) empty-whole) c.in_ok-planes.planes c.in_ok-vertices.vertices c.in_ok-planes.ensures.planes c.in_ok-vertices.ensures.corners)
+    c.in_ok-complex.ensures.shows Set.empty (whole-vertices Set.empty c.args.label (subst (IsOneLabelSet Set.empty) (sym e) empty-whole) c.in_ok-planes.planes c.in_ok-vertices.vertices c.in_ok-planes.ensures.planes c.in_ok-vertices.ensures.corners)

@@ -1,4 +1,4 @@
-use Rattle.nef_sched.proofs.Prelude.{ℕ, arith, Vec, Global, IsGroup}
+use Rattle.nef_sched.proofs.Prelude.{ℕ, arith, Vec, Global, IsRoundList}
 use Rattle.nef_sched.proofs.Outs.{none_kept, ready_after, sound_none, worked_both}
 use Rattle.nef_sched.proofs.Planning.{group_at, group_differs, round_ready, there_next}
 use Rattle.nef_sched.proofs.ahead.work_rounds.Goals as goal
@@ -16,7 +16,7 @@ work_by-requires-clause-differ g c κs within =
     let size = g.T.Stage.size c.args.stage.now in
     let end = c.loop-round-test.true in
     let full = c.requires.plan.each.0 in
-    let b = group_at (λ (v : Vec ℕ Global). v.items) (IsGroup size c.requires.plan.round_of) _ c.loop-round.round _ _ c.requires.plan.each.1 (omega arith) c.index-plan-round.is c.as_slice-numbers.ensures.value in
+    let b = group_at (λ (v : Vec ℕ Global). v.items) (IsRoundList size c.requires.plan.round_of) _ c.loop-round.round _ _ c.requires.plan.each.1 (omega arith) c.index-plan-round.is c.as_slice-numbers.ensures.value in
     group_differs size c.requires.plan.round_of c.loop-round.round _ b
 
 pub work_by-requires-clause-ready : goal.work_by-requires-clause-ready
@@ -26,7 +26,7 @@ work_by-requires-clause-ready g c κs within =
     let end = c.loop-round-test.true in
     let full = c.requires.plan.each.0 in
     let i = c.loop-round.invariant in
-    let b = group_at (λ (v : Vec ℕ Global). v.items) (IsGroup (s.size t) c.requires.plan.round_of) _ c.loop-round.round _ _ c.requires.plan.each.1 (omega arith) c.index-plan-round.is c.as_slice-numbers.ensures.value in
+    let b = group_at (λ (v : Vec ℕ Global). v.items) (IsRoundList (s.size t) c.requires.plan.round_of) _ c.loop-round.round _ _ c.requires.plan.each.1 (omega arith) c.index-plan-round.is c.as_slice-numbers.ensures.value in
     record { sound = i.sound; each = round_ready (s.size t) (s.fits t) (s.first t) (s.second t) c.requires.plan.round_of c.loop-round.round _ _ c.requires.plan.rounds i.sound (i.there c.requires.plan) b }
 
 pub work_rest-requires-clause-ready : goal.work_rest-requires-clause-ready
@@ -36,7 +36,7 @@ work_rest-requires-clause-ready g c κs within =
     let end = c.loop-round-test.true in
     let full = c.requires.plan.each.0 in
     let i = c.loop-round.invariant in
-    let b = group_at (λ (v : Vec ℕ Global). v.items) (IsGroup (s.size t) c.requires.plan.round_of) _ c.loop-round.round _ _ c.requires.plan.each.1 (omega arith) c.index-plan-round.is c.as_slice-numbers.ensures.value in
+    let b = group_at (λ (v : Vec ℕ Global). v.items) (IsRoundList (s.size t) c.requires.plan.round_of) _ c.loop-round.round _ _ c.requires.plan.each.1 (omega arith) c.index-plan-round.is c.as_slice-numbers.ensures.value in
     ready_after _ _ _ _ _ _ _ (record { sound = i.sound; each = round_ready (s.size t) (s.fits t) (s.first t) (s.second t) c.requires.plan.round_of c.loop-round.round _ _ c.requires.plan.rounds i.sound (i.there c.requires.plan) b }) c.in_ok-work_by.ensures.worked
 
 pub loop-round-preserved : goal.loop-round-preserved
@@ -50,7 +50,7 @@ loop-round-preserved g c =
       sound = worked.sound;
       there = λ p.
           let full = p.each.0 in
-          let group = group_at (λ (v : Vec ℕ Global). v.items) (IsGroup (s.size t) p.round_of) _ c.loop-round.round _ _ p.each.1 (omega arith) c.index-plan-round.is c.as_slice-numbers.ensures.value in
+          let group = group_at (λ (v : Vec ℕ Global). v.items) (IsRoundList (s.size t) p.round_of) _ c.loop-round.round _ _ p.each.1 (omega arith) c.index-plan-round.is c.as_slice-numbers.ensures.value in
           there_next (s.size t) (s.fits t) (s.first t) (s.second t) p.round_of c.loop-round.round _ _ _ group (i.there p) worked.still c.in_ok-work_rest.ensures.there;
     }
 

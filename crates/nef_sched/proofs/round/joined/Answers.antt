@@ -1,4 +1,4 @@
-use Rattle.nef_sched.proofs.Prelude.{arith, sym, ◌∙◌, subst, view, View, Sees}
+use Rattle.nef_sched.proofs.Prelude.{arith, sym, ◌∙◌, subst, view, View, SawItems}
 use Rattle.nef_sched.proofs.Steps.{merges, sees, fits_in, joined_ended, joined_owes, ended_took}
 use Rattle.nef_sched.proofs.round.joined.Goals as goal
 
@@ -35,4 +35,4 @@ invariant_of-result-clause-took_each c e all =
     let b = c.args.other in
     let same = c.learn_as.ensures.queue.1 in
     let end = joined_ended (view a.pass) (view b.pass) (view c.learn_as.new.pass) a.ended b.ended (same ∙ c.absorb.ensures.rule) a.same_end b.same_end ∙ e in
-    ended_took (view c.learn_as.new.pass) c.learn_as.ensures.rule.0 end (subst (λ (v : View). Sees v c.learn_as.ensures.rule.0) (sym same) c.learn_as.ensures.rule.1) all
+    ended_took (view c.learn_as.new.pass) c.learn_as.ensures.rule.0 end (subst (λ (v : View). SawItems v c.learn_as.ensures.rule.0) (sym same) c.learn_as.ensures.rule.1) all

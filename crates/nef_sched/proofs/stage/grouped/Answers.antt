@@ -1,4 +1,4 @@
-use Rattle.nef_sched.proofs.Prelude.{◌≡◌, ◌+◌, arith, inl, inr, sym, ◌∙◌, subst, length, drop, Some, slice_get, slice_index, IsGroup}
+use Rattle.nef_sched.proofs.Prelude.{◌≡◌, ◌+◌, arith, inl, inr, sym, ◌∙◌, subst, length, drop, Some, slice_get, slice_index, IsRoundList}
 use Rattle.std.proofs.Math.Seq.{take-append_seam}
 use Rattle.nef_sched.proofs.Totals.{same_or_not}
 use Rattle.nef_sched.proofs.Planning.{group_here, group_other}
@@ -15,7 +15,7 @@ loop-number-preserved c =
       each = λ r group at. elim (same_or_not r (slice_index rounds n)) [
         | inl same ↦
             let h = e.here group (subst (λ z. slice_get c.add_to.new.groups z ≡ Some group) same at) in
-            subst (IsGroup (n + 1) rounds r) (sym h.2) (group_here n rounds r _ (sym same) (i.each r h.0 (subst (λ z. slice_get c.loop-number.list z ≡ Some h.0) (sym same) h.1)))
+            subst (IsRoundList (n + 1) rounds r) (sym h.2) (group_here n rounds r _ (sym same) (i.each r h.0 (subst (λ z. slice_get c.loop-number.list z ≡ Some h.0) (sym same) h.1)))
         | inr other ↦ group_other n rounds r _ (λ q. other (sym q)) (i.each r group (sym (e.other r other) ∙ at))
       ];
     }
@@ -28,4 +28,4 @@ returns c =
     let i = c.loop-number.invariant in
     let all : c.loop-number.number ≡ length c.args.rounds.now = omega arith in
     let count : c.in_ok-groups.groups.len ≡ length list = omega (arith, c.loop-number.auto.list, c.as_mut_slice-list.ensures.len) in
-    record { groups = rw (count, take-append_seam list (drop (length list) c.in_ok-groups.groups.items)) (i.len, λ r group at. subst (λ n. IsGroup n c.args.rounds.now r group.items) all (i.each r group at)) }
+    record { groups = rw (count, take-append_seam list (drop (length list) c.in_ok-groups.groups.items)) (i.len, λ r group at. subst (λ n. IsRoundList n c.args.rounds.now r group.items) all (i.each r group at)) }

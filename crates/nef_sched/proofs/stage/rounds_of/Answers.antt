@@ -1,4 +1,4 @@
-use Rattle.nef_sched.proofs.Prelude.{◌≡◌, ℕ, ◌<◌, max, arith, sym, ◌∙◌, subst, Option, IfSome, after, AreRounds}
+use Rattle.nef_sched.proofs.Prelude.{◌≡◌, ℕ, ◌<◌, max, arith, sym, ◌∙◌, subst, Option, IfSome, round_after, AreRounds}
 use Rattle.nef_sched.proofs.Planning.{rounds_next}
 use Rattle.nef_sched.proofs.stage.rounds_of.Goals as goal
 
@@ -26,8 +26,8 @@ pub loop-number-preserved : goal.loop-number-preserved
 loop-number-preserved g c =
     let n = c.loop-number.number in
     let needs = c.needs-needs.ensures in
-    let p : c.round_after-first.result ≡ after c.loop-number.rounds.items (g.T.Stage.first c.args.stage.now n) = c.round_after-first.ensures ∙ (λ t. after (c.deref.ensures.value t) (needs.first t)) in
-    let q : c.round_after-second.result ≡ after c.loop-number.rounds.items (g.T.Stage.second c.args.stage.now n) = c.round_after-second.ensures ∙ (λ t. after (c.deref-in-loop-number.ensures.value t) (needs.second t)) in
+    let p : c.round_after-first.result ≡ round_after c.loop-number.rounds.items (g.T.Stage.first c.args.stage.now n) = c.round_after-first.ensures ∙ (λ t. round_after (c.deref.ensures.value t) (needs.first t)) in
+    let q : c.round_after-second.result ≡ round_after c.loop-number.rounds.items (g.T.Stage.second c.args.stage.now n) = c.round_after-second.ensures ∙ (λ t. round_after (c.deref-in-loop-number.ensures.value t) (needs.second t)) in
     rw c.in_ok-push.ensures.items (rounds_next n (g.T.Stage.first c.args.stage.now) (g.T.Stage.second c.args.stage.now) _ _ c.loop-number.invariant
     (subst (λ (z : Option ℕ). IfSome z (λ k. k < n)) needs.first needs.below.0)
     (subst (λ (z : Option ℕ). IfSome z (λ k. k < n)) needs.second needs.below.1)

@@ -1,4 +1,4 @@
-use Rattle.nef_script.proofs.Prelude.{◌≡◌, ◌≤◌, ◌*◌, ℕ, Err, List, length, sym, ◌∙◌, ap, subst, err_from_is_err_and, All, Node, AreOrigins, lines_of, FirstRefusal, IsWithin, AreBoundBefore, TurnsRight, state, sets_of, HasRead}
+use Rattle.nef_script.proofs.Prelude.{◌≡◌, ◌≤◌, ◌*◌, ℕ, Err, List, length, sym, ◌∙◌, ap, subst, err_from_is_err_and, All, Node, AreOrigins, lines_of, FirstRefusal, SpeaksOfFirst, AreBoundBefore, TurnsRight, state, sets_of, HasRead}
 use Rattle.nef_script.specs.declared.script.ScriptFault.TheVariants.{Refused}
 use Rattle.nef_script.specs.declared.script.ScriptKind.TheVariants.{ScriptTooLong}
 use Rattle.nef_script.proofs.LineByLine.{HasRead-next, HasRead-refused, HasRead-end}
@@ -38,7 +38,7 @@ returns c =
     record {
       script = (record { short = c.if-bytes-gt-SCRIPT_LIMIT.false; passes = ends.0 }, (sets_of s, nodes, c.into_nodes.ensures.ordered, ends.1, origins));
       turned = subst (λ (ns : List Node). All (TurnsRight ns) after.commands) nodes read.turns;
-      in_range = subst (λ (ns : List Node). All (IsWithin (length ns)) after.commands) nodes read.within;
+      in_range = subst (λ (ns : List Node). All (SpeaksOfFirst (length ns)) after.commands) nodes read.within;
       bound_before = subst (λ (ns : List Node). AreBoundBefore ns after.commands) nodes read.before;
       few = subst (λ (n : ℕ). length c.into_nodes.result ≤ 48 * n) ends.2 c.into_nodes.ensures.few;
       refused = λ line k e. cc;

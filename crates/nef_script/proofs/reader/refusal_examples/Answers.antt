@@ -1,4 +1,4 @@
-use Rattle.nef_script.proofs.RefusalExamples.{unknown_command, word_count, bad_name, name_taken, unknown_name, own_name, not_a_number, zero_normal, bad_mode, out_of_range, bad_weight, zero_direction, long_direction, far_point, first_line, accepted}
+use Rattle.nef_script.proofs.RefusalExamples.{unknown_command, word_count, bad_name, name_taken, unknown_name, own_name, not_a_number, zero_normal, bad_mode, out_of_range, bad_weight, zero_direction, long_direction, outlying_point, first_line, accepted}
 use Rattle.nef_script.proofs.reader.refusal_examples.Goals as goal
 
 pub returns : goal.returns
@@ -16,7 +16,7 @@ returns c = record {
   bad_weight = bad_weight;
   zero_direction = zero_direction;
   long_direction = long_direction;
-  far_point = far_point;
+  far_point = outlying_point;
   first_line = first_line;
   accepted = accepted;
 }

@@ -1,4 +1,4 @@
-use Rattle.nef_shell.proofs.Prelude.{◌≡◌, ◌∙◌, ◌∷◌, ◌++◌, ℕ, List, Option, [], Some, true, false, arith, length, refl, subst, sym, slice_get_read, Early, AreEarly, IsIndex, IsNeeded}
+use Rattle.nef_shell.proofs.Prelude.{◌≡◌, ◌∙◌, ◌∷◌, ◌++◌, ℕ, List, Option, [], Some, true, false, arith, length, refl, subst, sym, slice_get_read, Early, AreEarly, IsIndex, IsOperandKept}
 use Rattle.nef_shell.proofs.Needs.{early-more, index-more, is-early, needed-by}
 use Rattle.nef_shell.proofs.early.add_early.Goals as goal
 
@@ -22,7 +22,7 @@ returns-clause-early c =
     let e = added c.args.value one two in
     let first = needed-by steps values now index old a one c.requires.index c.of_block.ensures.entry (c.is_at_hand.ensures.there c.if-not-is_at_hand.false) in
     let second = needed-by steps values now index old b two c.requires.index c.of_block-2.ensures.entry (c.is_at_hand-else-not-is_at_hand.ensures.there c.if-not-is_at_hand-2.false) in
-    let is = is-early steps values old item e c.requires.steps at (c.requires.ends c.args.value item at) (λ ends. let f : true ≡ false = sym ends ∙ c.if-step.false in cc) (subst (λ o. IsNeeded values old (length old) o one) looked.first first) (subst (λ o. IsNeeded values old (length old) o two) looked.second second) in
+    let is = is-early steps values old item e c.requires.steps at (c.requires.ends c.args.value item at) (λ ends. let f : true ≡ false = sym ends ∙ c.if-step.false in cc) (subst (λ o. IsOperandKept values old (length old) o one) looked.first first) (subst (λ o. IsOperandKept values old (length old) o two) looked.second second) in
     subst (AreEarly steps values) (sym c.in_ok-push.ensures.items) (early-more steps values old e c.requires.early is)
 
 pub returns-clause-index : goal.returns-clause-index

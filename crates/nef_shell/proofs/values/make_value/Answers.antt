@@ -1,4 +1,4 @@
-use Rattle.nef_shell.proofs.Prelude.{◌≡◌, ◌∙◌, ◌<◌, arith, sym, subst, inl, refl, [], IsSomeAnd, slice_get_read, values_after, IsNew}
+use Rattle.nef_shell.proofs.Prelude.{◌≡◌, ◌∙◌, ◌<◌, arith, sym, subst, inl, refl, [], IsSomeAnd, slice_get_read, values_after, IsNewlyHeld}
 use Rattle.nef_shell.proofs.Kept.{held-less, held-put, there-shown}
 use Rattle.nef_shell.proofs.Sets.{value-at}
 use Rattle.nef_shell.proofs.Uses.{done-put}
@@ -38,7 +38,7 @@ returns-clause-held g c =
     let (d, below, seen, makes) = c.requires.stand.placed.right.made_before now _ at k looks in
     let (b, there) = c.requires.stand.ready k below (now, c.index-steps-now.result, omega arith, at, looks) in
     there-shown _ _ k b there (c.requires.stand.placed.held k b there).shows) in
-    rw c.put_at.ensures.put (held-put version steps c.worked.new.values now c.in_ok-made.made (omega (arith, less.count, c.requires.stand.placed.count, c.requires.now)) (subst (λ s. IsSomeAnd c.in_ok-made.made (λ b. IsNew s b.value)) (sym (value-at steps now _ c.requires.stand.placed.right at)) new) (held-less version steps _ _ _ less c.requires.stand.placed.held))
+    rw c.put_at.ensures.put (held-put version steps c.worked.new.values now c.in_ok-made.made (omega (arith, less.count, c.requires.stand.placed.count, c.requires.now)) (subst (λ s. IsSomeAnd c.in_ok-made.made (λ b. IsNewlyHeld s b.value)) (sym (value-at steps now _ c.requires.stand.placed.right at)) new) (held-less version steps _ _ _ less c.requires.stand.placed.held))
 
 pub returns-clause-made : goal.returns-clause-made
 returns-clause-made g c =

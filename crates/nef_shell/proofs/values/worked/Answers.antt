@@ -1,4 +1,4 @@
-use Rattle.nef_shell.proofs.Prelude.{◌≡◌, ◌∙◌, sym, subst, inl, inr, IsSomeAnd, IfOk-weaker, operand, first_value, second_value, IsNew}
+use Rattle.nef_shell.proofs.Prelude.{◌≡◌, ◌∙◌, sym, subst, inl, inr, IsSomeAnd, IfOk-weaker, operand, first_value, second_value, IsNewlyHeld}
 use Rattle.nef_shell.proofs.Kept.{lent-at, less-none, less-wider}
 use Rattle.nef_shell.proofs.Sets.{looks-first, looks-second}
 use Rattle.nef_shell.proofs.values.worked.Goals as goal
@@ -18,7 +18,7 @@ combined-requires-clause-second g c κs within =
 pub returns-in-Some-clause-new : goal.returns-in-Some-clause-new
 returns-in-Some-clause-new g c =
     let operands = c.in-Some.ensures.operands in
-    IfOk-weaker c.combined.result _ _ (λ o new ss shown. subst (λ s. IsSomeAnd o (λ b. IsNew s b.value)) (sym (c.in-Some.ensures.set ss)) (new _ _ (shown _ (looks-first _ _ operands.0)) (shown _ (looks-second _ _ operands.1)))) c.combined.ensures.new
+    IfOk-weaker c.combined.result _ _ (λ o new ss shown. subst (λ s. IsSomeAnd o (λ b. IsNewlyHeld s b.value)) (sym (c.in-Some.ensures.set ss)) (new _ _ (shown _ (looks-first _ _ operands.0)) (shown _ (looks-second _ _ operands.1)))) c.combined.ensures.new
 
 pub returns-in-Some-clause-less : goal.returns-in-Some-clause-less
 returns-in-Some-clause-less g c =

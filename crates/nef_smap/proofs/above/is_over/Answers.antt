@@ -1,4 +1,4 @@
-use Rattle.nef_smap.proofs.Prelude.{◌≡◌, ◌≢◌, ◌<ℤ◌, pos, refl, sym, ap, ◌∙◌, subst, IsTrue, ◌↔◌, rules, true, Vector, dot, up, Minus, At, Item, items, item_normal, map_of, arc_of, sloop_of, item_of, IsOver, geo_sign, close_sign, not_true}
+use Rattle.nef_smap.proofs.Prelude.{◌≡◌, ◌≢◌, ◌<ℤ◌, pos, refl, sym, ap, ◌∙◌, subst, IsTrue, ◌↔◌, rules, true, Vector, dot, up, Minus, IsAt, Item, items, item_normal, map_of, arc_of, sloop_of, item_of, IsOver, geo_sign, close_sign, not_true}
 use Rattle.nef_space.specs.Signs.{minus}
 use Rattle.nef_smap.proofs.CloseSigns.{geo-one}
 use Rattle.nef_smap.proofs.Upward.{map-ahead, below-is, sloop-over, arc-over, ends-within}
@@ -23,18 +23,18 @@ returns-then-ne c =
 pub passes-requires-clause-source : goal.passes-requires-clause-source
 passes-requires-clause-source c =
     let l = c.requires.listed in
-    let e = ends-within c.args.map.now c.requires.map l.0 c.in-Arc.arc (subst (At (items (map_of c.args.map.now)) l.0) (ap item_of c.in-Arc.is) l.1) in e.0
+    let e = ends-within c.args.map.now c.requires.map l.0 c.in-Arc.arc (subst (IsAt (items (map_of c.args.map.now)) l.0) (ap item_of c.in-Arc.is) l.1) in e.0
 
 pub passes-requires-clause-target : goal.passes-requires-clause-target
 passes-requires-clause-target c =
     let l = c.requires.listed in
-    let e = ends-within c.args.map.now c.requires.map l.0 c.in-Arc.arc (subst (At (items (map_of c.args.map.now)) l.0) (ap item_of c.in-Arc.is) l.1) in e.1
+    let e = ends-within c.args.map.now c.requires.map l.0 c.in-Arc.arc (subst (IsAt (items (map_of c.args.map.now)) l.0) (ap item_of c.in-Arc.is) l.1) in e.1
 
 pub returns-in-Arc : goal.returns-in-Arc
 returns-in-Arc c =
     let l = c.requires.listed in
     let x = ap item_of c.in-Arc.is in
-    let a = subst (At (items (map_of c.args.map.now)) l.0) x l.1 in
+    let a = subst (IsAt (items (map_of c.args.map.now)) l.0) x l.1 in
     let below : c.side.result ≡ Minus = search rules in
     let n = geo-one (close_sign (item_normal (item_of c.args.item.now)) c.args.way.now) minus (ap geo_sign (ap (λ (r : Vector). close_sign r c.args.way.now) (sym c.normal.ensures.normal)) ∙ sym c.side.ensures.side ∙ below) in
     let n' = ap (λ (y : Item). close_sign (item_normal y) c.args.way.now) (sym x) ∙ n in
@@ -49,7 +49,7 @@ pub returns-in-Loop : goal.returns-in-Loop
 returns-in-Loop c =
     let l = c.requires.listed in
     let x = ap item_of c.in-Loop.is in
-    let a = subst (At (items (map_of c.args.map.now)) l.0) x l.1 in
+    let a = subst (IsAt (items (map_of c.args.map.now)) l.0) x l.1 in
     let below : c.side.result ≡ Minus = search rules in
     let n = geo-one (close_sign (item_normal (item_of c.args.item.now)) c.args.way.now) minus (ap geo_sign (ap (λ (r : Vector). close_sign r c.args.way.now) (sym c.normal.ensures.normal)) ∙ sym c.side.ensures.side ∙ below) in
     let n' = ap (λ (y : Item). close_sign (item_normal y) c.args.way.now) (sym x) ∙ n in

@@ -1,4 +1,4 @@
-use Rattle.nef_smap.proofs.Prelude.{◌*◌, ◌^◌, lit≤, arith, ap, sym, ◌∙◌, subst, ◌↔◌, normal_limit, svertex_limit, direction_limit, Vector, dot, IsAtMost, IsStrictlyOn, read_sign, five_signs, between_read, test_of, true_of, vector_of, sign_of, IsAtMost-weaken, cross_is, dir_within, dir_of, slid-level, map_of, meet_of, start_at, end_at, triple-dot}
+use Rattle.nef_smap.proofs.Prelude.{◌*◌, ◌^◌, lit≤, arith, ap, sym, ◌∙◌, subst, ◌↔◌, normal_limit, svertex_limit, direction_limit, Vector, dot, IsAtMost, IsStrictlyOn, read_sign, five_signs, between_read, test_of, true_of, vector_of, sign_of, IsAtMost-weaken, cross_is, dir_within, dir_of, slid-level, map_of, way_meet, start_at, end_at, triple-dot}
 use Rattle.std.specs.Bool.{IsTrue}
 use Rattle.law_cyclic.proofs.Directions.{classes_are_arcs}
 use Rattle.nef_smap.proofs.ArcEnds.{source-within, target-within, source-end, target-end, normal-direction, normal-small}
@@ -62,7 +62,7 @@ returns c = record {
       let n = vector_of a.normal in
       let from = vector_of c.at.result.now.dir in
       let to = vector_of c.at-2.result.now.dir in
-      let p = meet_of n (start_at c.args.way.now j) (end_at c.args.way.now k) in
+      let p = way_meet n (start_at c.args.way.now j) (end_at c.args.way.now k) in
       let hn = normal-direction m c.requires.map c.requires.arc.0 a c.requires.arc.1 in
       let law = classes_are_arcs n from to p hn s.on t.on (record { direction = some; level = slid-level n (start_at c.args.way.now j) (end_at c.args.way.now k) }) in
       let x = c.sign_where_met-past_source.ensures.sign n j k c.requires.values large

@@ -1,4 +1,4 @@
-use Rattle.nef_smap.proofs.Prelude.{ℕ, ◌+◌, ◌^◌, arith, ap, sym, ◌∙◌, length, Vector, dot, cross, blend, up, vector_of, sign_of, At, Item, items, item_normal, dir_of, forms, amount, at-one, item_of, map_of, arc_of, wide_vector}
+use Rattle.nef_smap.proofs.Prelude.{ℕ, ◌+◌, ◌^◌, arith, ap, sym, ◌∙◌, length, Vector, dot, cross, blend, up, vector_of, sign_of, IsAt, Item, items, item_normal, dir_of, forms, amount, at-one, item_of, map_of, arc_of, wide_vector}
 use Rattle.nef_smap.proofs.ArcEnds.{source-within, source-end, normal-small}
 use Rattle.nef_smap.proofs.MapLists.{length-items}
 use Rattle.nef_smap.proofs.MeetSigns.{start-value}
@@ -47,7 +47,7 @@ returns c =
     let q = f.1 in
     let first = firsts-carried M (length (items M)) x (wide_vector w.start) (wide_vector w.upward) (wide_vector w.end) (wide_vector w.beside) d up s (cross n s)
     c.way_to-way.ensures.start c.way_to-way.ensures.upward (c.way_to-way.ensures.end ∙ sym v.dir) (c.way_to-way.ensures.beside ∙ ap (cross n) (sym v.dir)) f.2 in
-    let leads = λ (l : ℕ) (y : Item) (k : At (items M) l y). up-leads (item_normal y) (S.valid.shaped.normals l y k) (S.small.normals l y k) in
+    let leads = λ (l : ℕ) (y : Item) (k : IsAt (items M) l y). up-leads (item_normal y) (S.valid.shaped.normals l y k) (S.small.normals l y k) in
     let V = S.valid.shaped in
     let F = c.requires.free in
     let j = 2 ^ 128 + amount (forms M) up in

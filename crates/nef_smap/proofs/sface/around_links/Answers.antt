@@ -1,4 +1,4 @@
-use Rattle.nef_smap.proofs.Prelude.{◌≡◌, ◌+◌, List, arith, refl, sym, ap, ◌∙◌, subst, rules, Option, Some, None, is_some, true, false, Vec, Global, Label, Link, map_of, svertex_of, one_if, AreArounds}
+use Rattle.nef_smap.proofs.Prelude.{◌≡◌, ◌+◌, List, arith, refl, sym, ap, ◌∙◌, subst, rules, Option, Some, None, is_some, true, false, Vec, Global, Label, Link, map_of, svertex_of, one_if_label, AreArounds}
 use Rattle.nef_smap.proofs.Joining.{svertex-listed}
 use Rattle.nef_smap.proofs.LinkLists.{around-of_below, arounds-none, arounds-more, arounds-pass, arounds-start, arounds-next}
 use Rattle.nef_smap.proofs.sface.around_links.Goals as goal
@@ -39,7 +39,7 @@ loop-number-preserved c =
       | then-is_some+in_ok-push w ↦
           let some : is_some v.around ≡ true = search rules in
           let m = some-of v.around some in
-          let one : one_if v.around ≡ 1 = ap one_if m.1 in
+          let one : one_if_label v.around ≡ 1 = ap one_if_label m.1 in
           let items = ap (λ (x : Vec Link Global). x.items) w.links-is ∙ w.in_ok-push.ensures.items in
           record {
             all_links = subst (λ (ls : List Link). AreArounds M (n + 1) ls) (sym {A = List Link} items) (arounds-more M n c.loop-number.links.items (record { first = c.loop-number.side; second = w.join_below.result.first }) (around-of_below M n c.loop-number.side (svertex_of v) m.0 w.join_below.result a m.1 side w.join_below.ensures.joins) c.loop-number.invariant.all_links);
@@ -49,7 +49,7 @@ loop-number-preserved c =
       | else-is_some w ↦
           let none : is_some v.around ≡ false = search rules in
           let m = none-of v.around none in
-          let zero_one : one_if v.around ≡ 0 = ap one_if m in
+          let zero_one : one_if_label v.around ≡ 0 = ap one_if_label m in
           let items = ap (λ (x : Vec Link Global). x.items) w.links-is in
           record {
             all_links = subst (λ (ls : List Link). AreArounds M (n + 1) ls) (sym {A = List Link} items) (arounds-pass M n c.loop-number.links.items (svertex_of v) a m c.loop-number.invariant.all_links);

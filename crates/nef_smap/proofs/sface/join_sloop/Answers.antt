@@ -1,4 +1,4 @@
-use Rattle.nef_smap.proofs.Prelude.{ℕ, length, arith, refl, ap, ◌∙◌, vector_of, sloop_item, items, pos_item, number_of, map_of, sloop_of}
+use Rattle.nef_smap.proofs.Prelude.{ℕ, length, arith, refl, ap, ◌∙◌, vector_of, sloop_item, items, pos_item, side_number, map_of, sloop_of}
 use Rattle.nef_smap.proofs.MapLists.{item-sloop}
 use Rattle.nef_smap.proofs.Joining.{normal-small, plane-across}
 use Rattle.nef_smap.proofs.sface.join_sloop.Goals as goal
@@ -42,7 +42,7 @@ returns c =
             first = near.0;
             is_first = near.2;
           },
-          c.item_side.ensures.number ∙ ap (λ (k : ℕ). number_of M (pos_item k)) c.len.ensures.len,
+          c.item_side.ensures.number ∙ ap (λ (k : ℕ). side_number M (pos_item k)) c.len.ensures.len,
           near.1,
         ),
       );

@@ -1,4 +1,4 @@
-use Rattle.nef_smap.proofs.Prelude.{◌≡◌, ℕ, ◌+◌, List, length, take, arith, sym, subst, IfOk-weaker, up, Link, map_of, sides_of, AreWithin, AreClasses, AreNumbered, AreRoots}
+use Rattle.nef_smap.proofs.Prelude.{◌≡◌, ℕ, ◌+◌, List, length, take, arith, sym, subst, IfOk-weaker, up, Link, map_of, sides_of, LinksAreBelow, AreClasses, AreNumbered, AreRoots}
 use Rattle.nef_geo.proofs.InPlane.{up-direction}
 use Rattle.nef_classes.proofs.Trees.{roots-take}
 use Rattle.nef_smap.proofs.Upward.{map-ahead, map-across}
@@ -13,10 +13,10 @@ class_of_each-requires c =
     let m = c.args.map.now in
     let S = c.requires.map in
     let V = S.valid in
-    let w : AreWithin (length (sides_of (map_of m)) + 1) c.in_ok-joins.joins.items = links-within (map_of m) V.shaped up (map-ahead m S) (map-across m S) up-direction c.in_ok-joins.joins.items (c.in_ok-joins.ensures.joins) in
+    let w : LinksAreBelow (length (sides_of (map_of m)) + 1) c.in_ok-joins.joins.items = links-within (map_of m) V.shaped up (map-ahead m S) (map-across m S) up-direction c.in_ok-joins.joins.items (c.in_ok-joins.ensures.joins) in
     record {
-      within = subst (λ (ls : List Link). AreWithin (c.sides-count.result + 1) ls) (sym c.as_slice.ensures.value)
-          (subst (λ (n : ℕ). AreWithin (n + 1) c.in_ok-joins.joins.items) (sym c.sides-count.ensures.count) w);
+      within = subst (λ (ls : List Link). LinksAreBelow (c.sides-count.result + 1) ls) (sym c.as_slice.ensures.value)
+          (subst (λ (n : ℕ). LinksAreBelow (n + 1) c.in_ok-joins.joins.items) (sym c.sides-count.ensures.count) w);
     }
 
 pub class_numbers-requires : goal.class_numbers-requires

@@ -1,4 +1,4 @@
-use Rattle.nef_sover.proofs.Prelude.{◌≡◌, true, sym, subst, rules, ◌∙◌, false≢true, vector_of, Adds, IsMeetAlong}
+use Rattle.nef_sover.proofs.Prelude.{◌≡◌, true, sym, subst, rules, ◌∙◌, false≢true, vector_of, AddsAxes, IsMeetAlong}
 use Rattle.nef_sover.proofs.Meets.{common-adds, apart-adds}
 use Rattle.nef_sover.proofs.axes.add_common.Goals as goal
 use Rattle.nef_sover.proofs.axes.add_common.Goals.{else-holds-via-then-holds+else-holds-2, else-holds-via-else-holds}
@@ -9,7 +9,7 @@ returns-in_ok-push c =
     let on_x : c.holds.result ≡ true = search rules in
     let on_y : c.holds-then-holds.result ≡ true = search rules in
     record {
-      added = subst (Adds (IsMeetAlong x y (vector_of c.args.d)) c.args.axes.now.items) (sym c.in_ok-push.ensures.items)
+      added = subst (AddsAxes (IsMeetAlong x y (vector_of c.args.d)) c.args.axes.now.items) (sym c.in_ok-push.ensures.items)
           (common-adds x y c.args.axes.now.items c.args.d c.number.result c.number-then-holds-2.result c.requires.small (c.holds.ensures.on.0 on_x, c.holds-then-holds.ensures.on.0 on_y) c.number.ensures.number c.number-then-holds-2.ensures.number);
     }
 

@@ -1,10 +1,10 @@
 use Rattle.nef_sover.proofs.Prelude.{◌≡◌, ◌<◌, ◌≤◌, List, length, get_or, subst, SVertex}
 use Rattle.nef_sover.proofs.Adding.{any-none}
-use Rattle.nef_sover.proofs.Meets.{IsAlong, svertex-more, svertices-all}
+use Rattle.nef_sover.proofs.Meets.{IsSvertexAlong, svertex-more, svertices-all}
 use Rattle.nef_sover.proofs.axes.add_svertices.Goals as goal
 
 pub loop-svertex-init : goal.loop-svertex-init
-loop-svertex-init c = record { added = any-none IsAlong c.args.map.now.svertices c.args.axes.now.items }
+loop-svertex-init c = record { added = any-none IsSvertexAlong c.args.map.now.svertices c.args.axes.now.items }
 
 pub loop-svertex-preserved : goal.loop-svertex-preserved
 loop-svertex-preserved c =

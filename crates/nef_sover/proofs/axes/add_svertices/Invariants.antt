@@ -1,7 +1,7 @@
-use Rattle.nef_sover.proofs.Prelude.{Adds}
+use Rattle.nef_sover.proofs.Prelude.{AddsAxes}
 use Rattle.nef_sover.proofs.Adding.{AnyFirst}
-use Rattle.nef_sover.proofs.Meets.{IsAlong}
+use Rattle.nef_sover.proofs.Meets.{IsSvertexAlong}
 use Rattle.nef_sover.proofs.axes.add_svertices.Given as goal
 
 abbrev pub invariant-loop-svertex : goal.invariant-loop-svertex
-invariant-loop-svertex l = record { added : Adds (AnyFirst IsAlong l.map.svertices l.svertex-index) l.fn.axes.items l.axes.items }
+invariant-loop-svertex l = record { added : AddsAxes (AnyFirst IsSvertexAlong l.map.svertices l.svertex-index) l.fn.axes.items l.axes.items }

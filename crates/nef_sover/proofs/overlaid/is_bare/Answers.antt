@@ -1,4 +1,4 @@
-use Rattle.nef_sover.proofs.Prelude.{◌≡◌, ℕ, ◌<◌, pos, arith, refl, subst, inl, inr, ◌⊎◌, rules, eq-or-lt_of_le, dot, vector_of, Axis, At, at-one, not_true, at-within, at-contains, contains-at}
+use Rattle.nef_sover.proofs.Prelude.{◌≡◌, ℕ, ◌<◌, pos, arith, refl, subst, inl, inr, ◌⊎◌, rules, eq-or-lt_of_le, dot, vector_of, Axis, IsAt, at-one, not_true, at-within, at-contains, contains-at}
 use Rattle.nef_sover.proofs.Places.{read-at}
 use Rattle.nef_sover.proofs.overlaid.is_bare.Goals as goal
 
@@ -8,11 +8,11 @@ loop-axis-preserved c = record { off = λ k e l h z. by k e (eq-or-lt_of_le {n =
     axis : Axis
     axis = c.axis-item.result
 
-    by : (k : ℕ) (e : Axis) → (k ≡ c.loop-axis.axis-index) ⊎ (k < c.loop-axis.axis-index) → At c.args.axes.now k e → dot (vector_of c.args.sloop.now.normal) (vector_of e.dir) ≡ pos 0 → ⊥
+    by : (k : ℕ) (e : Axis) → (k ≡ c.loop-axis.axis-index) ⊎ (k < c.loop-axis.axis-index) → IsAt c.args.axes.now k e → dot (vector_of c.args.sloop.now.normal) (vector_of e.dir) ≡ pos 0 → ⊥
     by k e (inr l) h z = c.loop-axis.invariant.off k e l h z
     by k e (inl q) h z =
         let here = read-at c.args.axes.now c.loop-axis.axis-index axis c.loop-axis-test.true c.axis-item.is in
-        let same = at-one c.args.axes.now c.loop-axis.axis-index e axis (subst (λ (j : ℕ). At c.args.axes.now j e) q h) here in
+        let same = at-one c.args.axes.now c.loop-axis.axis-index e axis (subst (λ (j : ℕ). IsAt c.args.axes.now j e) q h) here in
         let level = subst (λ (f : Axis). dot (vector_of c.args.sloop.now.normal) (vector_of f.dir) ≡ pos 0) same z in
         absurd (search (rules, c.holds.ensures.on.1 (record { direction = axis.dir.some; level = level }), c.if-holds.false))
 

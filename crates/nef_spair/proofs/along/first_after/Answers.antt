@@ -1,6 +1,6 @@
 use Rattle.nef_spair.proofs.Prelude.{ℕ, ◌+◌, ◌<◌, length, get_or, refl, sym, ap, subst, ◌∙◌, at-one, Star, true_or_false, get-at}
 use Rattle.nef_spair.proofs.Places.{index-at}
-use Rattle.nef_spair.proofs.Firsts.{IsFirstOf, first-stays, first-changes, first-all, on-named}
+use Rattle.nef_spair.proofs.Firsts.{IsFirstStar, first-stays, first-changes, first-all, on-named}
 use Rattle.nef_spair.proofs.along.first_after.Goals as goal
 use Rattle.nef_spair.proofs.along.first_after.Goals.{then-strictly_on, else-strictly_on}
 
@@ -24,10 +24,10 @@ loop-k-preserved c =
     elim c.if-strictly_on.branch [
       | then-strictly_on r ↦
           let source = c.requires.level v (get-at kept c.args.from c.index-kept-from.result c.requires.within) in
-          subst (λ (i : ℕ). IsFirstOf kept n s (k + 1) i) (sym r.first-is)
+          subst (λ (i : ℕ). IsFirstStar kept n s (k + 1) i) (sym r.first-is)
           (first-changes kept n s k j t u w a b kh source (on-named n s t.axis u.axis way.normal way.source way.target u.axis ew.normal ew.source ew.target refl (c.strictly_on.ensures.on.0 r.if-strictly_on.true)))
       | else-strictly_on r ↦
-          subst (λ (i : ℕ). IsFirstOf kept n s (k + 1) i) (sym r.first-is)
+          subst (λ (i : ℕ). IsFirstStar kept n s (k + 1) i) (sym r.first-is)
           (first-stays kept n s k j t u w a b kh
           (λ o. true_or_false (sym (c.strictly_on.ensures.on.1 (on-named way.normal way.source way.target u.axis n s t.axis u.axis (sym ew.normal) (sym ew.source) (sym ew.target) refl o)) ∙ r.if-strictly_on.false)))
     ]

@@ -1,4 +1,4 @@
-use Rattle.nef_spair.proofs.Prelude.{rules, map_of, IsVertex, Vertex, OnEdge, InFacet, InVolume}
+use Rattle.nef_spair.proofs.Prelude.{rules, map_of, IsVertexMap, Vertex, OnEdge, InFacet, InVolume}
 use Rattle.nef_spair.proofs.OneKind.{exactly, fits}
 use Rattle.nef_spair.proofs.least.kind.Goals as goal
 
@@ -20,5 +20,5 @@ returns-in-Some-edge_direction c =
 pub returns-in-None : goal.returns-in-None
 returns-in-None c =
     let M = map_of c.args.map.now in
-    let v : IsVertex M = record { no_volume = λ h. absurd (search (rules, c.is_in_volume.ensures.volume.1 h)); no_facet = c.in_default.ensures.facet; no_edge = c.in-None.ensures.edge } in
+    let v : IsVertexMap M = record { no_volume = λ h. absurd (search (rules, c.is_in_volume.ensures.volume.1 h)); no_facet = c.in_default.ensures.facet; no_edge = c.in-None.ensures.edge } in
     record { exactly = exactly M Vertex v; dimension = fits M Vertex v c.requires.least.least }

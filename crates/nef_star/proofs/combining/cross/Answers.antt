@@ -1,4 +1,4 @@
-use Rattle.nef_star.proofs.Prelude.{◌≡◌, ℕ, ◌<◌, ◌-◌, List, [], ◌∷◌, ◌++◌, length, arith, refl, ap, ◌∙◌, vec_len, Label, Ray, Star, IsTurned}
+use Rattle.nef_star.proofs.Prelude.{◌≡◌, ℕ, ◌<◌, ◌-◌, List, [], ◌∷◌, ◌++◌, length, arith, refl, ap, ◌∙◌, vec_len, Label, Ray, Star, BeginsAnywhere}
 use Rattle.nef_star.proofs.Labelled.{sectors-fill}
 use Rattle.nef_star.proofs.Alternating.{crossed}
 use Rattle.nef_star.proofs.combining.cross.Goals as goal
@@ -7,7 +7,7 @@ use Rattle.nef_star.proofs.combining.cross.Goals as goal
 ray-place : (t : Star) (k : ℕ) → length t.rays.items ≡ 2 → k < 2 → k < vec_len t.rays
 ray-place t k e l = let o = t.rays.ok.0 in omega (arith, e, l, o)
 
-sector-place : (t : Star) (k : ℕ) → IsTurned t → length t.rays.items ≡ 2 → k < 2 → k < vec_len t.sectors
+sector-place : (t : Star) (k : ℕ) → BeginsAnywhere t → length t.rays.items ≡ 2 → k < 2 → k < vec_len t.sectors
 sector-place t k T e l = let s = sectors-fill t.rays.items (length t.sectors.items) k T.sectors (omega (arith, e, l)) in let o = t.sectors.ok.0 in omega (arith, s, o)
 
 pub index-requires : goal.index-requires

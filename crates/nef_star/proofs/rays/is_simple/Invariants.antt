@@ -1,5 +1,5 @@
-use Rattle.nef_star.proofs.Prelude.{AreNeeded}
+use Rattle.nef_star.proofs.Prelude.{NoneNeedless}
 use Rattle.nef_star.proofs.rays.is_simple.Given as goal
 
 abbrev pub invariant-loop-k : goal.invariant-loop-k
-invariant-loop-k l = record { needed : AreNeeded l.k l.star }
+invariant-loop-k l = record { needed : NoneNeedless l.k l.star }

@@ -1,4 +1,4 @@
-use Rattle.nef_star.proofs.Prelude.{ℕ, ◌<◌, length, arith, refl, sym, subst, ◌∙◌, slice_get_read, svertex_limit, IsAt, IsAtMost, vector_of, Dir, End, IsRay}
+use Rattle.nef_star.proofs.Prelude.{ℕ, ◌<◌, length, arith, refl, sym, subst, ◌∙◌, slice_get_read, svertex_limit, IsAt, IsAtMost, vector_of, Dir, ArcEnd, IsRay}
 use Rattle.nef_star.proofs.TwoWays.{two-whole}
 use Rattle.nef_star.proofs.rounds.two_ways.Goals as goal
 
@@ -12,5 +12,5 @@ returns-clause-whole c =
     let axis = sym {A = Dir} c.of.ensures.axis in
     two-whole ends c.of.result c.index-ends-0.result c.index-ends-1.result n at_first at_second (c.requires.two.apart _ _ at_first at_second)
     (subst (λ (d : Dir). IsAtMost svertex_limit (vector_of d)) axis c.requires.small)
-    (subst (λ (d : Dir). (k : ℕ) (e : End) → IsAt ends k e → IsRay (vector_of d) e.0) axis c.requires.rays)
+    (subst (λ (d : Dir). (k : ℕ) (e : ArcEnd) → IsAt ends k e → IsRay (vector_of d) e.0) axis c.requires.rays)
     (c.of.ensures.rays ∙ c.in_ok-rays.ensures.items) (c.of.ensures.sectors ∙ c.in_ok-sectors.ensures.items)

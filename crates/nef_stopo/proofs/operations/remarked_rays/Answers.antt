@@ -1,4 +1,4 @@
-use Rattle.nef_stopo.proofs.Prelude.{[], ◌∷◌, get_or, ◌∙◌, Out, topology_of, IsMarked}
+use Rattle.nef_stopo.proofs.Prelude.{[], ◌∷◌, get_or, ◌∙◌, Out, topology_of, IsRayMarked}
 use Rattle.nef_stopo.proofs.Labels.{label-near}
 use Rattle.nef_stopo.proofs.Marking.{first-read, more-read}
 use Rattle.nef_stopo.proofs.operations.remarked_rays.Goals as goal
@@ -10,7 +10,7 @@ pub loop-k-preserved : goal.loop-k-preserved
 loop-k-preserved c =
     let k = topology_of c.args.topology in let n = c.loop-k.k in let r = c.ray-item.result in
     let l = c.loop-k.before in let ss = c.as_slice-sectors.result.now in let m = get_or ss n Out in
-    let new : IsMarked k l m r c.of-marked.result = record {
+    let new : IsRayMarked k l m r c.of-marked.result = record {
       normal = c.of-marked.ensures.normal;
       ahead = c.of-marked.ensures.ahead;
       mark = c.of-marked.ensures.mark ∙ label-near k r.mark c.label-mark.result c.and.result (l ∷ m ∷ []) c.label-mark.ensures.label (c.and.ensures (l ∷ []) (m ∷ []) c.of.ensures c.of-in-loop-k.ensures);

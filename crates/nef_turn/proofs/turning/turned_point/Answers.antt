@@ -1,5 +1,5 @@
 -- A turned point has the turned numbers.
-use Rattle.nef_turn.proofs.Prelude.{◌≡◌, ℤ, nat_abs, pos, ◌<ℤ◌, arith, ap, sym, subst, point_limit, Vector, IsAtMost, place_of, turned_place}
+use Rattle.nef_turn.proofs.Prelude.{◌≡◌, ℤ, nat_abs, pos, ◌<ℤ◌, arith, ap, sym, subst, point_limit, Vector, IsAtMost, point_of, turned_point}
 use Rattle.nef_turn.proofs.Exact.{word, word-is, point-words, point-small, same-numbers}
 use Rattle.nef_turn.proofs.turning.turned_point.Goals as goal
 
@@ -29,6 +29,6 @@ returns c =
     let w : word c.w.result ≡ p.w = word-is c.w.result p.w c.w.ensures.w (omega (arith, l)) in
     let h : pos 0 <ℤ word c.w.result = subst (λ (n : ℤ). pos 0 <ℤ n) (sym w) p.proper in
     record {
-      same = same-numbers (word t.0) (word t.1) (word t.2) (word c.w.result) h (place_of c.of.result) (turned_place k (place_of p))
+      same = same-numbers (word t.0) (word t.1) (word t.2) (word c.w.result) h (point_of c.of.result) (turned_point k (point_of p))
           (ap (λ (v : Vector). v.x) e) (ap (λ (v : Vector). v.y) e) (ap (λ (v : Vector). v.z) e) (ap nat_abs w) (c.of.ensures.same h);
     }

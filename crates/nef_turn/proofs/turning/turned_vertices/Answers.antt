@@ -1,5 +1,5 @@
 -- Each vertex has its image, at its place, and the sorted images are the turned vertices.
-use Rattle.nef_turn.proofs.Prelude.{List, map, sym, subst, rules, ranks_by, answers_always, is_lt, place_of, map_of, vertex_of, Vertex, IsOrder, read-at, AreTurnedVertices, AreImages, IsVertexImage}
+use Rattle.nef_turn.proofs.Prelude.{List, map, sym, subst, rules, ranks_by, answers_always, is_lt, point_of, map_of, vertex_of, Vertex, IsOrder, read-at, AreTurnedVertices, AreImages, IsVertexImage}
 use Rattle.nef_cand.proofs.Order.{answers-less}
 use Rattle.law_turns.proofs.TurnedLists.{lists-turned}
 use Rattle.nef_turn.proofs.Images.{images-none, images-step, images-end}
@@ -35,7 +35,7 @@ returns c =
     let permutation = c.sort_unstable_by.ensures.permutation in
     let ordered = vertices-in_order vs ws permutation (vertices-apart k us vs I c.requires.sorted)
     (c.sort_unstable_by.ensures.sorted (λ u v. is_lt (vertex_order u v)) (ranks_by vertex_total (λ (v : Vertex). v))
-    (answers_always _ _ _ (λ f a r g h. let k : IsOrder (place_of a.0.now.point) (place_of a.1.0.now.point) r = search rules in answers-less a.0.now.point a.1.0.now.point r k))) in
+    (answers_always _ _ _ (λ f a r g h. let k : IsOrder (point_of a.0.now.point) (point_of a.1.0.now.point) r = search rules in answers-less a.0.now.point a.1.0.now.point r k))) in
     record {
       turned = subst (λ (l : List Vertex). AreTurnedVertices k (map vertex_of us) (map vertex_of l)) (sym {A = List Vertex} c.from_vec.ensures.all)
           (vertices-turned k us vs I ws permutation ordered);

@@ -1,9 +1,9 @@
-use Rattle.nef_volumes.proofs.Prelude.{place_of, complex_of, corner_of}
+use Rattle.nef_volumes.proofs.Prelude.{point_of, complex_of, corner_of}
 use Rattle.nef_volumes.proofs.PartNumbers.{frame-closed, item-facet, side-volume, volume-part}
 use Rattle.nef_volumes.proofs.all.part_at.Goals as goal
 
 pub locate-requires-clause-framed : goal.locate-requires-clause-framed
-locate-requires-clause-framed c = frame-closed (place_of c.args.p.now) c.requires.framed
+locate-requires-clause-framed c = frame-closed (point_of c.args.p.now) c.requires.framed
 
 pub number_at-requires : goal.number_at-requires
 number_at-requires c = record { some = item-facet (complex_of c.args.c.now) c.args.parts.now c.requires.parts (corner_of c.in-InFacet.corner) c.in-InFacet.ensures.place }
@@ -21,4 +21,4 @@ pub returns-in-InFacet : goal.returns-in-InFacet
 returns-in-InFacet c = record { part = (corner_of c.in-InFacet.corner, c.in-InFacet.ensures.at, c.number_at.ensures.number) }
 
 pub returns-in-InVolume : goal.returns-in-InVolume
-returns-in-InVolume c = record { part = volume-part (complex_of c.args.c.now) c.args.parts.now c.requires.parts (place_of c.args.p.now) c.in-InVolume.vertex c.in-InVolume.side c.number_at-in-InVolume.result c.in-InVolume.ensures.at c.number_at-in-InVolume.ensures.number }
+returns-in-InVolume c = record { part = volume-part (complex_of c.args.c.now) c.args.parts.now c.requires.parts (point_of c.args.p.now) c.in-InVolume.vertex c.in-InVolume.side c.number_at-in-InVolume.result c.in-InVolume.ensures.at c.number_at-in-InVolume.ensures.number }

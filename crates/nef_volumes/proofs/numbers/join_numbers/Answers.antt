@@ -1,10 +1,10 @@
-use Rattle.nef_volumes.proofs.Prelude.{◌≡◌, ℕ, List, length, ap, sym, ◌∙◌, subst, IfOk, AreWithin, AreClasses, AreNumbered, AreRoots, Link, AreNumbersBelow, AreRenumbered}
+use Rattle.nef_volumes.proofs.Prelude.{◌≡◌, ℕ, List, length, ap, sym, ◌∙◌, subst, IfOk, LinksAreBelow, AreClasses, AreNumbered, AreRoots, Link, TableIsBelow, AreRenumbered}
 use Rattle.nef_volumes.proofs.Joining.{links-below, joined-counts_ok, joined-numbers_ok}
 use Rattle.nef_volumes.proofs.numbers.join_numbers.Goals as goal
 
 pub class_of_each-requires : goal.class_of_each-requires
 class_of_each-requires c = record {
-  within = subst (λ (ls : List Link). AreWithin c.args.count ls) (sym c.deref.ensures.value)
+  within = subst (λ (ls : List Link). LinksAreBelow c.args.count ls) (sym c.deref.ensures.value)
       (links-below c.args.rows.now c.args.ties.now c.in_ok-links.links.items c.args.count c.in_ok-links.ensures.links c.requires.below);
 }
 
@@ -17,7 +17,7 @@ renumbered-requires c =
     let numbered = c.in_ok-numbers.ensures.numbers in
     let a = classes.as_many in let b = numbered.as_many in
     let count : c.args.count ≡ length c.deref-3.result.now = sym (ap length c.deref-3.ensures.value ∙ b ∙ ap length c.deref-2.ensures.value ∙ a) in
-    record { below = subst (AreNumbersBelow c.as_slice.result.now) count (subst (λ (rows : List (List ℕ)). AreNumbersBelow rows c.args.count) (sym c.as_slice.ensures.all) c.requires.below) }
+    record { below = subst (TableIsBelow c.as_slice.result.now) count (subst (λ (rows : List (List ℕ)). TableIsBelow rows c.args.count) (sym c.as_slice.ensures.all) c.requires.below) }
 
 pub returns-clause-counts : goal.returns-clause-counts
 returns-clause-counts c =

@@ -1,5 +1,5 @@
-use Rattle.nef_volumes.proofs.Prelude.{AreEach, IsRenumbered}
+use Rattle.nef_volumes.proofs.Prelude.{HasOneForEach, IsRenumbered}
 use Rattle.nef_volumes.proofs.numbers.renumbered.Given as goal
 
 abbrev pub invariant-loop-row : goal.invariant-loop-row
-invariant-loop-row l = AreEach (IsRenumbered l.numbers) l.row-index l.renumbered l.rows
+invariant-loop-row l = HasOneForEach (IsRenumbered l.numbers) l.row-index l.renumbered l.rows

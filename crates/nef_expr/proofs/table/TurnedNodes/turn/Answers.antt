@@ -1,5 +1,5 @@
 -- The copies of all nodes that are needed, one after the other.
-use Rattle.nef_expr.proofs.Prelude.{◌≡◌, ℕ, ◌+◌, List, false, length, ap, sym, subst, ◌∙◌, arith, false≢true, get_or_read, Node, Table, IsTable, TurnOf, Stays, AreNeeded, IsMarked, OperandsTurned}
+use Rattle.nef_expr.proofs.Prelude.{◌≡◌, ℕ, ◌+◌, List, false, length, ap, sym, subst, ◌∙◌, arith, false≢true, get_or_read, Node, NodeTable, IsTable, TurnOf, Stays, AreWithOperands, IsMarked, OperandsTurned}
 use Rattle.nef_expr.proofs.Places.{one_ok}
 use Rattle.nef_expr.proofs.Tables.{IsCopying, copying-start, copying-length, copying-operands, copying-more, stays-same, stays-twice}
 use Rattle.nef_expr.proofs.table.TurnedNodes.turn.Goals as goal
@@ -20,9 +20,9 @@ copy-requires-clause-all c = let C = c.loop-i.invariant in ap length c.deref-the
 pub copy-requires-clause-operands : goal.copy-requires-clause-operands
 copy-requires-clause-operands c =
     let now = c.args.self.now in
-    let T = subst (λ (t : Table). IsTable t.nodes t.origins t.bases c.self.inside.places) c.self.view_is c.self.invariant in
+    let T = subst (λ (t : NodeTable). IsTable t.nodes t.origins t.bases c.self.inside.places) c.self.view_is c.self.invariant in
     let needed = c.in_ok-needed.needed.items in
-    let N : AreNeeded now.nodes c.args.k needed = subst (λ (xs : List Node). AreNeeded xs c.args.k needed) (c.deref.ensures.value ∙ ap (λ (t : Table). t.nodes) c.self.view_is) c.in_ok-needed.ensures.needed in
+    let N : AreWithOperands now.nodes c.args.k needed = subst (λ (xs : List Node). AreWithOperands xs c.args.k needed) (c.deref.ensures.value ∙ ap (λ (t : NodeTable). t.nodes) c.self.view_is) c.in_ok-needed.ensures.needed in
     let l = c.loop-i-test.true in let count = N.count in
     let marked : IsMarked needed c.loop-i.i = sym (get_or_read needed c.loop-i.i c.index.result.now (omega (arith, l, count)) c.index.ensures false) ∙ c.if-index.true in
     let turned = copying-operands _ _ _ _ _ _ c.loop-i.invariant c.args.k T.ordered N (omega (arith, l)) c.requires.existing marked in
@@ -32,12 +32,12 @@ pub loop-i-preserved : goal.loop-i-preserved
 loop-i-preserved c =
     let now = c.args.self.now in
     let needed = c.in_ok-needed.needed.items in
-    let N : AreNeeded now.nodes c.args.k needed = subst (λ (xs : List Node). AreNeeded xs c.args.k needed) (c.deref.ensures.value ∙ ap (λ (t : Table). t.nodes) c.self.view_is) c.in_ok-needed.ensures.needed in
+    let N : AreWithOperands now.nodes c.args.k needed = subst (λ (xs : List Node). AreWithOperands xs c.args.k needed) (c.deref.ensures.value ∙ ap (λ (t : NodeTable). t.nodes) c.self.view_is) c.in_ok-needed.ensures.needed in
     let l = c.loop-i-test.true in let count = N.count in
     let stays_turned : Stays c.loop-i.self c.if-index.self × (IsMarked needed c.loop-i.i → TurnOf c.if-index.self.nodes c.args.t c.loop-i.i c.if-index.copy) = elim c.if-index.branch [
       | then-index+in_ok-copy w ↦ (
         subst (Stays c.loop-i.self) (sym w.self-is) w.in_ok-copy.ensures.stay,
-        λ marked. subst (λ (t : Table). TurnOf t.nodes c.args.t c.loop-i.i c.if-index.copy) (sym w.self-is) (subst (λ (x : ℕ). TurnOf w.copy.new.self.nodes c.args.t c.loop-i.i x) (sym w.copy-is) w.in_ok-copy.ensures.turned),
+        λ marked. subst (λ (t : NodeTable). TurnOf t.nodes c.args.t c.loop-i.i c.if-index.copy) (sym w.self-is) (subst (λ (x : ℕ). TurnOf w.copy.new.self.nodes c.args.t c.loop-i.i x) (sym w.copy-is) w.in_ok-copy.ensures.turned),
       )
       | else-index w ↦ (
         subst (Stays c.loop-i.self) (sym w.self-is) (stays-same c.loop-i.self),
@@ -63,9 +63,9 @@ copy-requires-2-clause-all c =
 pub copy-requires-2-clause-operands : goal.copy-requires-2-clause-operands
 copy-requires-2-clause-operands c =
     let now = c.args.self.now in
-    let T = subst (λ (t : Table). IsTable t.nodes t.origins t.bases c.self.inside.places) c.self.view_is c.self.invariant in
+    let T = subst (λ (t : NodeTable). IsTable t.nodes t.origins t.bases c.self.inside.places) c.self.view_is c.self.invariant in
     let needed = c.in_ok-needed.needed.items in
-    let N : AreNeeded now.nodes c.args.k needed = subst (λ (xs : List Node). AreNeeded xs c.args.k needed) (c.deref.ensures.value ∙ ap (λ (t : Table). t.nodes) c.self.view_is) c.in_ok-needed.ensures.needed in
+    let N : AreWithOperands now.nodes c.args.k needed = subst (λ (xs : List Node). AreWithOperands xs c.args.k needed) (c.deref.ensures.value ∙ ap (λ (t : NodeTable). t.nodes) c.self.view_is) c.in_ok-needed.ensures.needed in
     let low = c.loop-i-test.false in let high = c.loop-i.auto.i-end in
     let last : c.loop-i.i ≡ c.args.k = omega (arith, low, high) in
     let C = subst (λ (i : ℕ). IsCopying now c.args.t i needed c.loop-i.self c.loop-i.copies.items) last c.loop-i.invariant in

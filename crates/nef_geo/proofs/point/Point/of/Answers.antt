@@ -1,6 +1,6 @@
 use Rattle.nef_geo.proofs.Prelude.{rules, w64, FitsSigned, point_limit, weight_limit}
 use Rattle.nef_geo.proofs.Divisors.{IsReduced-kept, part_small, part_positive}
-use Rattle.nef_geo.proofs.Places.{SamePlace-reduced}
+use Rattle.nef_geo.proofs.Places.{SamePoint-reduced}
 use Rattle.nef_geo.proofs.point.Point.of.Goals as goal
 
 pub invariant_of-result : goal.invariant_of-result
@@ -24,4 +24,4 @@ returns c =
     let fx : FitsSigned w64 c.lowest_terms-x.result.0 = search rules in let fy : FitsSigned w64 c.lowest_terms-x.result.1 = search rules in
     let fz : FitsSigned w64 c.lowest_terms-x.result.2 = search rules in let fw : FitsSigned w64 c.lowest_terms-x.result.3 = search rules in
     let h = IsReduced-kept c.args.x c.args.y c.args.z c.args.w r.0 r.1 r.2 r.3 c.ranges.x c.ranges.y c.ranges.z c.ranges.w fx fy fz fw c.lowest_terms-x.ensures.reduced in
-    record { same = λ positive. SamePlace-reduced c.args.x c.args.y c.args.z c.args.w _ _ _ _ positive _ h }
+    record { same = λ positive. SamePoint-reduced c.args.x c.args.y c.args.z c.args.w _ _ _ _ positive _ h }

@@ -1,4 +1,4 @@
-use Rattle.nef_index.proofs.Prelude.{ℕ, ◌+◌, ◌≡◌, List, length, get_or, drop, arith, refl, sym, ap, subst, ◌∙◌, Vec, Global, place_of, Plane, is-at_within, IsHolder, AreNumbersWith, IsRun, AreRunsTo, IsHolderIn, IsOnlyHolder}
+use Rattle.nef_index.proofs.Prelude.{ℕ, ◌+◌, ◌≡◌, List, length, get_or, drop, arith, refl, sym, ap, subst, ◌∙◌, Vec, Global, point_of, Plane, is-at_within, IsHolder, AreNumbersWith, IsRun, AreRunsTo, IsHolderIn, IsOnlyHolder}
 use Rattle.nef_index.proofs.Numbered.{Before, numbers-none, numbers-in, numbers-past, numbers-all}
 use Rattle.nef_index.proofs.Parallel.{runs-next, runs-all}
 use Rattle.nef_index.proofs.sorted_carriers.SortedCarriers.holders.Goals.{in-Some+in_ok-push, in_default}
@@ -10,7 +10,7 @@ as-read hs es ds i first e = subst (λ (xs : List ℕ). AreRunsTo hs first (drop
 
 pub loop-past-init : goal.loop-past-init
 loop-past-init c =
-    let p = place_of c.args.point.now in
+    let p = point_of c.args.point.now in
     let P : ℕ → Type 0 = IsHolder c.self.inside.planes p p in
     record { runs = c.self.invariant.1; numbers = subst (AreNumbersWith (Before P 0)) (sym c.clear.ensures.items) (numbers-none P) }
 
@@ -27,7 +27,7 @@ pub loop-past-preserved : goal.loop-past-preserved
 loop-past-preserved c =
     let hs : List Plane = c.self.inside.planes in
     let ends : List ℕ = c.deref-past-items.result.now in
-    let p = place_of c.args.point.now in
+    let p = point_of c.args.point.now in
     let P : ℕ → Type 0 = IsHolder hs p p in
     let first = c.loop-past.first in
     let past : ℕ = get_or ends c.loop-past.past-index 0 in
@@ -59,7 +59,7 @@ pub returns : goal.returns
 returns c =
     let hs : List Plane = c.self.inside.planes in
     let ends : List ℕ = c.deref-past-items.result.now in
-    let p = place_of c.args.point.now in
+    let p = point_of c.args.point.now in
     let R = as-read hs c.self.inside.ends.items ends c.loop-past.past-index c.loop-past.first c.deref-past-items.ensures.value c.loop-past.invariant.runs in
     let all = runs-all hs ends c.loop-past.past-index c.loop-past.first (length hs) (let f = c.loop-past-test.false in omega arith) R in
     record {

@@ -1,4 +1,4 @@
-use Rattle.nef_plane.proofs.Prelude.{inl, inr, rules, subst, MatchOption, form_of, vector_of, place_of, is-at_one, Vertex, AreOpposite, ray_form}
+use Rattle.nef_plane.proofs.Prelude.{inl, inr, rules, subst, MatchOption, form_of, vector_of, point_of, is-at_one, Vertex, AreOpposite, ray_form}
 use Rattle.nef_plane.proofs.Listed.{lies-serves, lies-has}
 use Rattle.nef_plane.proofs.Passed.{off-course}
 use Rattle.nef_plane.proofs.along.VertexRayPlaneRay.may_meet.Goals as goal
@@ -22,6 +22,6 @@ returns c =
     record {
       told = λ t. lies-serves C (form_of ray.plane.now) m c.requires.lies;
       off = λ f. off-course S.0 C S.1.shows ray.plane.now p (vector_of ray.direction.now) ray.direction.now.some c.args.course.now c.requires.course.0 m n.0 n.1 c.ends_of-low.ensures.ends c.requires.lies (inr (λ u v i j.
-          subst (λ (y : Vertex). MatchOption o ⊥ (λ k. AreOpposite (ray_form k p) (place_of u.point) (place_of y.point) → ⊥)) (is-at_one C.vertices n.1 b v c.at-2.ensures.element j)
-          (subst (λ (x : Vertex). MatchOption o ⊥ (λ k. AreOpposite (ray_form k p) (place_of x.point) (place_of b.point) → ⊥)) (is-at_one C.vertices n.0 a u c.at.ensures.element i) (c.may_pass.ensures.beside f))));
+          subst (λ (y : Vertex). MatchOption o ⊥ (λ k. AreOpposite (ray_form k p) (point_of u.point) (point_of y.point) → ⊥)) (is-at_one C.vertices n.1 b v c.at-2.ensures.element j)
+          (subst (λ (x : Vertex). MatchOption o ⊥ (λ k. AreOpposite (ray_form k p) (point_of x.point) (point_of b.point) → ⊥)) (is-at_one C.vertices n.0 a u c.at.ensures.element i) (c.may_pass.ensures.beside f))));
     }

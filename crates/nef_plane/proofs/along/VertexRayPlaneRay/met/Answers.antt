@@ -1,4 +1,4 @@
-use Rattle.nef_plane.proofs.Prelude.{◌≡◌, List, None, refl, rules, sym, subst, place_of, form_of, vector_of, Plane, complex_of, holders-within, AllHold, AtMeet, IsNearest, near_met_of}
+use Rattle.nef_plane.proofs.Prelude.{◌≡◌, List, None, refl, rules, sym, subst, point_of, form_of, vector_of, Plane, complex_of, holders-within, AllHold, AtMeet, IsNearest, near_met_of}
 use Rattle.nef_plane.proofs.Either.{has-holders}
 use Rattle.nef_plane.proofs.Listed.{serves-has}
 use Rattle.nef_plane.proofs.Reached.{uncrossed, missed, reached}
@@ -14,16 +14,16 @@ pub crossed_at-requires : goal.crossed_at-requires
 crossed_at-requires c =
     let S = c.requires.shows in let C = c.args.c.now in let m = c.args.meet in let gs = c.as_slice.result.now in let ns = c.holders_of.result.now in
     let (u, v, E, H) = has-holders C S.0 S.1.shows m (serves-has C (form_of c.args.self.now.plane.now) m c.requires.told) gs ns c.as_slice.ensures.all c.holders_of.ensures.holders in
-    record { within = holders-within gs (place_of u.point) (place_of v.point) ns H }
+    record { within = holders-within gs (point_of u.point) (point_of v.point) ns H }
 
 none-left : (c : goal.After-from_residual) → c.from_residual.result ≡ None
 none-left c = search rules
 
 pub returns-in_err-at : goal.returns-in_err-at
 returns-in_err-at c =
-    let S = c.requires.shows in let C = c.args.c.now in let ray = c.args.self.now in let m = c.args.meet in let p = place_of ray.start.now in let d = vector_of ray.direction.now in
+    let S = c.requires.shows in let C = c.args.c.now in let ray = c.args.self.now in let m = c.args.meet in let p = point_of ray.start.now in let d = vector_of ray.direction.now in
     let (u, v, E, H) = has-holders C S.0 S.1.shows m (serves-has C (form_of ray.plane.now) m c.requires.told) c.as_slice.result.now c.holders_of.result.now c.as_slice.ensures.all c.holders_of.ensures.holders in
-    let a = place_of u.point in let b = place_of v.point in
+    let a = point_of u.point in let b = point_of v.point in
     record {
       nearest = subst (IsNearest near_met_of p d (AtMeet (complex_of C) (form_of ray.plane.now) d m)) (sym (none-left c))
           (uncrossed S.0 C S.1.shows p d ray.direction.now.some ray.plane.now m u v E (λ q w i. subst (λ (gs : List Plane). AllHold gs d a b) c.as_slice.ensures.all (c.in_err-at.ensures.none a b H refl q w i)));
@@ -34,7 +34,7 @@ returns-then-is_at c =
     let S = c.requires.shows in let C = c.args.c.now in let ray = c.args.self.now in let m = c.args.meet in
     let (u, v, E, H) = has-holders C S.0 S.1.shows m (serves-has C (form_of ray.plane.now) m c.requires.told) c.as_slice.result.now c.holders_of.result.now c.as_slice.ensures.all c.holders_of.ensures.holders in
     record {
-      nearest = reached S.0 C S.1.shows (place_of ray.start.now) (vector_of ray.direction.now) ray.direction.now.some ray.plane.now c.in_ok-at.at m u v E (c.in_ok-at.ensures.through (place_of u.point) (place_of v.point) H) c.requires.told
+      nearest = reached S.0 C S.1.shows (point_of ray.start.now) (vector_of ray.direction.now) ray.direction.now.some ray.plane.now c.in_ok-at.at m u v E (c.in_ok-at.ensures.through (point_of u.point) (point_of v.point) H) c.requires.told
           (c.is_at.ensures.at.0 c.if-is_at.true);
     }
 
@@ -43,6 +43,6 @@ returns-else-is_at c =
     let S = c.requires.shows in let C = c.args.c.now in let ray = c.args.self.now in let m = c.args.meet in
     let (u, v, E, H) = has-holders C S.0 S.1.shows m (serves-has C (form_of ray.plane.now) m c.requires.told) c.as_slice.result.now c.holders_of.result.now c.as_slice.ensures.all c.holders_of.ensures.holders in
     record {
-      nearest = missed S.0 C S.1.shows (place_of ray.start.now) (vector_of ray.direction.now) ray.direction.now.some ray.plane.now c.in_ok-at.at m u v E (c.in_ok-at.ensures.through (place_of u.point) (place_of v.point) H)
+      nearest = missed S.0 C S.1.shows (point_of ray.start.now) (vector_of ray.direction.now) ray.direction.now.some ray.plane.now c.in_ok-at.at m u v E (c.in_ok-at.ensures.through (point_of u.point) (point_of v.point) H)
           (λ x. absurd (search (rules, c.is_at.ensures.at.1 x, c.if-is_at.false)));
     }

@@ -1,4 +1,4 @@
-use Rattle.nef_plane.proofs.Prelude.{form_of, hit_place, vector_of}
+use Rattle.nef_plane.proofs.Prelude.{form_of, hit_point, vector_of}
 use Rattle.nef_plane.proofs.Leveled.{unparted}
 use Rattle.nef_plane.proofs.Listed.{lies-has}
 use Rattle.nef_plane.proofs.plane.AxisRayPlaneRay.may_meet.Goals as goal
@@ -11,6 +11,6 @@ returns c =
     let ray = c.args.self.now in let S = c.requires.shows in
     record {
       told = λ t. c.requires.lies;
-      off = λ f. unparted S.0 c.args.c.now S.1.shows ray.plane.now (hit_place ray.start.now) (vector_of ray.direction.now) ray.axis ray.on c.args.course.now c.requires.course.0 c.args.meet
+      off = λ f. unparted S.0 c.args.c.now S.1.shows ray.plane.now (hit_point ray.start.now) (vector_of ray.direction.now) ray.axis ray.on c.args.course.now c.requires.course.0 c.args.meet
           c.ends_of-low.result.0 c.ends_of-low.result.1 c.ends_of-low.ensures.ends c.requires.lies (c.may_part.ensures.unparted f);
     }

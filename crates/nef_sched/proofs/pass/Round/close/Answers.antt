@@ -1,11 +1,11 @@
-use Rattle.nef_sched.proofs.Prelude.{ap, sym, ◌∙◌, ◌||◌, arith, Some, All-pop, IsPassOf, RoundPass, times, Belongs, taken, ended, any_ended, total_parts, times_taken, numbers_of}
+use Rattle.nef_sched.proofs.Prelude.{ap, sym, ◌∙◌, ◌||◌, arith, Some, All-pop, IsPassOf, RoundPass, times, IsPassInRound, taken, ended, any_ended, total_parts, times_taken, numbers_of}
 use Rattle.nef_sched.proofs.Steps.{parts_snoc, times_snoc, numbers_snoc, times_joined, dealt_as, none_took, ended_snoc, none_ended, or_none, or_move}
 use Rattle.nef_sched.proofs.pass.Round.close.Goals as goal
 
 pub loop-other-init : goal.loop-other-init
 loop-other-init g c =
     let last = c.in-Some.ensures.items in
-    let both = All-pop (λ (p : RoundPass). Belongs c.args.self p) _ _ (Some c.in-Some.whole) last c.requires.of in
+    let both = All-pop (λ (p : RoundPass). IsPassInRound c.args.self p) _ _ (Some c.in-Some.whole) last c.requires.of in
     let sums = ap total_parts last ∙ parts_snoc _ _ in
     let every = c.requires.every in
     record {

@@ -1,14 +1,14 @@
-use Rattle.nef_smap.proofs.Prelude.{◌≡◌, arith, refl, sym, ap, ◌∙◌, rules, Option, Some, None, is_some, true, false, Label, map_of, svertex_of, one_if, arounds_before}
+use Rattle.nef_smap.proofs.Prelude.{◌≡◌, arith, refl, sym, ap, ◌∙◌, rules, Option, Some, None, is_some, true, false, Label, map_of, svertex_of, one_if_label, arounds_before}
 use Rattle.nef_smap.proofs.Joining.{svertex-listed}
 use Rattle.nef_smap.proofs.LinkLists.{arounds-start, arounds-next}
 use Rattle.nef_smap.proofs.map.SphereMap.around_side.Goals as goal
 use Rattle.nef_smap.proofs.map.SphereMap.around_side.Goals.{then-is_some, else-is_some}
 
-one-some : (o : Option Label) → is_some o ≡ true → one_if o ≡ 1
+one-some : (o : Option Label) → is_some o ≡ true → one_if_label o ≡ 1
 one-some None e = absurd cc
 one-some (Some m) e = refl
 
-none-some : (o : Option Label) → is_some o ≡ false → one_if o ≡ 0
+none-some : (o : Option Label) → is_some o ≡ false → one_if_label o ≡ 0
 none-some None e = refl
 none-some (Some m) e = absurd cc
 

@@ -1,4 +1,4 @@
-use Rattle.nef_smap.proofs.Prelude.{◌≡◌, ℕ, ◌+◌, map, option_map, length, is_some, arith, ap, sym, dot, vector_of, At, Item, items, map_of, arc_of, sloop_of}
+use Rattle.nef_smap.proofs.Prelude.{◌≡◌, ℕ, ◌+◌, map, option_map, length, is_some, arith, ap, sym, dot, vector_of, IsAt, Item, items, map_of, arc_of, sloop_of}
 use mir.Val.{bool_byte}
 use Rattle.nef_smap.proofs.MapLists.{length-items, item-sloop}
 use Rattle.nef_smap.proofs.FreeSeen.{bare-seen, circle-off, circle-above, circle-below, side-chosen}
@@ -22,7 +22,7 @@ returns-in-Some c =
     let h = item-sloop m.arcs m.sloop 0 l (sym none) c.in-Some.is in
     let one : length (items M) ≡ length m.arcs + bool_byte (is_some m.sloop) = length-items m.arcs m.sloop in
     let some : bool_byte (is_some m.sloop) ≡ 1 = ap (λ o. bool_byte (is_some o)) c.in-Some.is in
-    let only : (i : ℕ) (x : Item) → At (items M) i x → i ≡ 0 = λ i x a. let w = at-within (items M) i x a in omega arith in
+    let only : (i : ℕ) (x : Item) → IsAt (items M) i x → i ≡ 0 = λ i x a. let w = at-within (items M) i x a in omega arith in
     let V = c.requires.map.valid.shaped in
     let F = c.requires.free in
     let s = c.item_side.ensures.side in

@@ -1,6 +1,6 @@
 use Rattle.nef_shell.proofs.Prelude.{slice_index_or, slice_get-get_or, slice_get_within}
 use Rattle.nef_shell.proofs.Needs.{no-early}
-use Rattle.nef_shell.proofs.early.BlockStage.load.Goals as goal
+use Rattle.nef_shell.proofs.early.StepBlockStage.load.Goals as goal
 
 pub task_of-requires : goal.task_of-requires
 task_of-requires g c =

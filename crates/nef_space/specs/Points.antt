@@ -6,7 +6,7 @@ use Rattle.nef_space.specs.Numbers.{IsBelow}
 use Rattle.nef_space.specs.Vectors.{Vector, vector, dot, SameDirection}
 
 -- the point (x/w, y/w, z/w)
-pub record Place : Type 0 where
+pub record SpacePoint : Type 0 where
   pub x : ℤ
   pub y : ℤ
   pub z : ℤ
@@ -26,7 +26,7 @@ form a b c d = record { a = a; b = b; c = c; d = d }
 abbrev pub form_numbers : Form → List ℤ
 form_numbers h = h.a ∷ h.b ∷ h.c ∷ h.d ∷ []
 
-abbrev pub form_at : Form → Place → ℤ
+abbrev pub form_at : Form → SpacePoint → ℤ
 form_at h p = h.a *ℤ p.x +ℤ h.b *ℤ p.y +ℤ h.c *ℤ p.z +ℤ h.d *ℤ pos p.w
 
 -- the form's normal
@@ -38,7 +38,7 @@ abbrev pub slope : Form → Vector → ℤ
 slope h d = dot (normal_of h) d
 
 -- the form of the plane through p with the normal n
-abbrev pub plane_through : Vector → Place → Form
+abbrev pub plane_through : Vector → SpacePoint → Form
 plane_through n p = form (n.x *ℤ pos p.w) (n.y *ℤ pos p.w) (n.z *ℤ pos p.w) (neg_ℤ (n.x *ℤ p.x +ℤ n.y *ℤ p.y +ℤ n.z *ℤ p.z))
 
 -- a rational number a/b
@@ -48,7 +48,7 @@ pub record Ratio : Type 0 where
   pub proper : 0 < b
 
 -- the point p + t d
-abbrev pub step : Place → Ratio → Vector → Place
+abbrev pub step : SpacePoint → Ratio → Vector → SpacePoint
 step p t d = record {
   x = p.x *ℤ pos t.b +ℤ t.a *ℤ pos p.w *ℤ d.x;
   y = p.y *ℤ pos t.b +ℤ t.a *ℤ pos p.w *ℤ d.y;
@@ -58,44 +58,44 @@ step p t d = record {
 }
 
 -- n |s/v - t/w| < 1
-abbrev pub Near : ℕ → ℤ → ℕ → ℤ → ℕ → Type 0
-Near n s v t w = n * nat_abs (s *ℤ pos w -ℤ t *ℤ pos v) < v * w
+abbrev pub NearNumber : ℕ → ℤ → ℕ → ℤ → ℕ → Type 0
+NearNumber n s v t w = n * nat_abs (s *ℤ pos w -ℤ t *ℤ pos v) < v * w
 
 -- each coordinate of q differs from the same coordinate of p by less than 1/n
-pub record Within (n : ℕ) (p q : Place) : Type 0 where
-  pub along_x : Near n q.x q.w p.x p.w
-  pub along_y : Near n q.y q.w p.y p.w
-  pub along_z : Near n q.z q.w p.z p.w
+pub record Within (n : ℕ) (p q : SpacePoint) : Type 0 where
+  pub along_x : NearNumber n q.x q.w p.x p.w
+  pub along_y : NearNumber n q.y q.w p.y p.w
+  pub along_z : NearNumber n q.z q.w p.z p.w
 
-pub record SamePlace (p q : Place) : Type 0 where
+pub record SamePoint (p q : SpacePoint) : Type 0 where
   pub along_x : p.x *ℤ pos q.w ≡ q.x *ℤ pos p.w
   pub along_y : p.y *ℤ pos q.w ≡ q.y *ℤ pos p.w
   pub along_z : p.z *ℤ pos q.w ≡ q.z *ℤ pos p.w
 
-pub record InFrame (p : Place) : Type 0 where
+pub record InFrame (p : SpacePoint) : Type 0 where
   pub along_x : nat_abs p.x < half_side * p.w
   pub along_y : nat_abs p.y < half_side * p.w
   pub along_z : nat_abs p.z < half_side * p.w
 
-pub record InClosedFrame (p : Place) : Type 0 where
+pub record InClosedFrame (p : SpacePoint) : Type 0 where
   pub along_x : nat_abs p.x ≤ half_side * p.w
   pub along_y : nat_abs p.y ≤ half_side * p.w
   pub along_z : nat_abs p.z ≤ half_side * p.w
 
 -- the order of points by x/w, then by y/w, then by z/w
-abbrev pub IsPlaceBelow : Place → Place → Type 0
-IsPlaceBelow p q = IsBelow
+abbrev pub IsPointBelow : SpacePoint → SpacePoint → Type 0
+IsPointBelow p q = IsBelow
     ((p.x *ℤ pos q.w) ∷ (p.y *ℤ pos q.w) ∷ (p.z *ℤ pos q.w) ∷ [])
     ((q.x *ℤ pos p.w) ∷ (q.y *ℤ pos p.w) ∷ (q.z *ℤ pos p.w) ∷ [])
 
 -- a positive multiple of the vector from p to q
-abbrev pub toward : Place → Place → Vector
+abbrev pub toward : SpacePoint → SpacePoint → Vector
 toward p q = vector (q.x *ℤ pos p.w -ℤ p.x *ℤ pos q.w) (q.y *ℤ pos p.w -ℤ p.y *ℤ pos q.w) (q.z *ℤ pos p.w -ℤ p.z *ℤ pos q.w)
 
 -- q is p + t d for some t > 0
-abbrev pub IsAhead : Place → Vector → Place → Type 0
+abbrev pub IsAhead : SpacePoint → Vector → SpacePoint → Type 0
 IsAhead p d q = SameDirection (toward p q) d
 
 -- r lies strictly between p and q
-abbrev pub IsBetween : Place → Place → Place → Type 0
+abbrev pub IsBetween : SpacePoint → SpacePoint → SpacePoint → Type 0
 IsBetween p r q = SameDirection (toward p r) (toward r q)

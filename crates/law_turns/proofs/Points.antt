@@ -1,53 +1,53 @@
 -- Turned points: the values of turned forms, and how the points lie to one another and to the frame.
-use Rattle.law_turns.proofs.Prelude.{◌≡◌, ℕ, ◌*◌, ◌<◌, ℤ, pos, ◌+ℤ◌, ◌-ℤ◌, ◌*ℤ◌, neg_ℤ, nat_abs, ap, sym, ◌∙◌, subst, arith, ◌↔◌, [], ◌∷◌, ints, mul-pos, ring, at, neg, ◌⊕◌, ◌⊖◌, ◌⊗◌, half_side, Vector, SameDirection, Place, Form, form_at, slope, Ratio, step, toward, Near, Within, SamePlace, InFrame, IsAhead, IsBetween, Triple, vector_of, triple_of, turned_vector, turned_plane, turned_place, unturned_place}
+use Rattle.law_turns.proofs.Prelude.{◌≡◌, ℕ, ◌*◌, ◌<◌, ℤ, pos, ◌+ℤ◌, ◌-ℤ◌, ◌*ℤ◌, neg_ℤ, nat_abs, ap, sym, ◌∙◌, subst, arith, ◌↔◌, [], ◌∷◌, ints, mul-pos, ring, at, neg, ◌⊕◌, ◌⊖◌, ◌⊗◌, half_side, Vector, SameDirection, SpacePoint, Form, form_at, slope, Ratio, step, toward, NearNumber, Within, SamePoint, InFrame, IsAhead, IsBetween, Triple, vector_of_triple, triple_of, turned_vector, turned_plane, turned_point, unturned_point}
 use Rattle.law_turns.proofs.Coordinates.{zip-turned, IsOddFunction, SignBlind, each-turned, each-back, dots-turned, turned-back, back-turned}
 use Rattle.law_turns.proofs.Vectors.{same_direction-turned}
 
-abbrev pub numbers : Place → Triple
+abbrev pub numbers : SpacePoint → Triple
 numbers p = (p.x, p.y, p.z)
 
 -- the point with these numbers
-abbrev pub located : (w : ℕ) → 0 < w → Triple → Place
+abbrev pub located : (w : ℕ) → 0 < w → Triple → SpacePoint
 located w proper t = record { x = t.0; y = t.1; z = t.2; w = w; proper = proper }
 
-pub form-turned : (k : ℕ) (h : Form) (p : Place) → form_at (turned_plane k h) (turned_place k p) ≡ form_at h p
+pub form-turned : (k : ℕ) (h : Form) (p : SpacePoint) → form_at (turned_plane k h) (turned_point k p) ≡ form_at h p
 form-turned k h p = ap (λ r. r +ℤ h.d *ℤ pos p.w) (dots-turned k (h.a, h.b, h.c) (numbers p))
 
 pub slope-turned : (k : ℕ) (h : Form) (d : Vector) → slope (turned_plane k h) (turned_vector k d) ≡ slope h d
 slope-turned k h d = dots-turned k (h.a, h.b, h.c) (triple_of d)
 
 -- ---- every point is the image of one
-pub place-back : (k : ℕ) (p : Place) → turned_place k (unturned_place k p) ≡ p
-place-back k p = ap (located p.w p.proper) (turned-back k (numbers p))
+pub point-back : (k : ℕ) (p : SpacePoint) → turned_point k (unturned_point k p) ≡ p
+point-back k p = ap (located p.w p.proper) (turned-back k (numbers p))
 
-pub back-place : (k : ℕ) (p : Place) → unturned_place k (turned_place k p) ≡ p
+pub back-place : (k : ℕ) (p : SpacePoint) → unturned_point k (turned_point k p) ≡ p
 back-place k p = ap (located p.w p.proper) (back-turned k (numbers p))
 
-pub every-place : (k : ℕ) (P : Place → Type 0) → ((p : Place) → P (turned_place k p)) → (q : Place) → P q
-every-place k P f q = subst P (place-back k q) (f (unturned_place k q))
+pub every-point : (k : ℕ) (P : SpacePoint → Type 0) → ((p : SpacePoint) → P (turned_point k p)) → (q : SpacePoint) → P q
+every-point k P f q = subst P (point-back k q) (f (unturned_point k q))
 
 -- ---- steps and ways
 step-odd : (b : ℤ) (m : ℤ) → IsOddFunction (λ x y. x *ℤ b +ℤ m *ℤ y)
 step-odd b m x y = ring (b ∷ m ∷ x ∷ y ∷ []) (neg (at 2) ⊗ at 0 ⊕ at 1 ⊗ neg (at 3)) (neg (at 2 ⊗ at 0 ⊕ at 1 ⊗ at 3)) tt
 
-pub step-turned : (k : ℕ) (p : Place) (t : Ratio) (d : Vector) → step (turned_place k p) t (turned_vector k d) ≡ turned_place k (step p t d)
+pub step-turned : (k : ℕ) (p : SpacePoint) (t : Ratio) (d : Vector) → step (turned_point k p) t (turned_vector k d) ≡ turned_point k (step p t d)
 step-turned k p t d = ap (located (p.w * t.b) (mul-pos p.proper t.proper)) (zip-turned (λ x y. x *ℤ pos t.b +ℤ t.a *ℤ pos p.w *ℤ y) (step-odd (pos t.b) (t.a *ℤ pos p.w)) k (numbers p) (triple_of d))
 
 toward-odd : (v w : ℤ) → IsOddFunction (λ x y. y *ℤ v -ℤ x *ℤ w)
 toward-odd v w x y = ring (v ∷ w ∷ x ∷ y ∷ []) (neg (at 3) ⊗ at 0 ⊖ neg (at 2) ⊗ at 1) (neg (at 3 ⊗ at 0 ⊖ at 2 ⊗ at 1)) tt
 
-pub toward-turned : (k : ℕ) (p q : Place) → toward (turned_place k p) (turned_place k q) ≡ turned_vector k (toward p q)
-toward-turned k p q = ap vector_of (zip-turned (λ x y. y *ℤ pos p.w -ℤ x *ℤ pos q.w) (toward-odd (pos p.w) (pos q.w)) k (numbers p) (numbers q))
+pub toward-turned : (k : ℕ) (p q : SpacePoint) → toward (turned_point k p) (turned_point k q) ≡ turned_vector k (toward p q)
+toward-turned k p q = ap vector_of_triple (zip-turned (λ x y. y *ℤ pos p.w -ℤ x *ℤ pos q.w) (toward-odd (pos p.w) (pos q.w)) k (numbers p) (numbers q))
 
-pub ahead-turned : (k : ℕ) (p : Place) (d : Vector) (q : Place) → IsAhead (turned_place k p) (turned_vector k d) (turned_place k q) ↔ IsAhead p d q
+pub ahead-turned : (k : ℕ) (p : SpacePoint) (d : Vector) (q : SpacePoint) → IsAhead (turned_point k p) (turned_vector k d) (turned_point k q) ↔ IsAhead p d q
 ahead-turned k p d q = (
   λ h. (same_direction-turned k (toward p q) d).0 (subst (λ (v : Vector). SameDirection v (turned_vector k d)) (toward-turned k p q) h),
   λ h. subst (λ (v : Vector). SameDirection v (turned_vector k d)) (sym (toward-turned k p q)) ((same_direction-turned k (toward p q) d).1 h),
 )
 
-pub between-turned : (k : ℕ) (p r q : Place) → IsBetween (turned_place k p) (turned_place k r) (turned_place k q) ↔ IsBetween p r q
+pub between-turned : (k : ℕ) (p r q : SpacePoint) → IsBetween (turned_point k p) (turned_point k r) (turned_point k q) ↔ IsBetween p r q
 between-turned k p r q =
-    let T = turned_place k in
+    let T = turned_point k in
     let e = toward-turned k p r in
     let f = toward-turned k r q in (
       λ h. (same_direction-turned k (toward p r) (toward r q)).0 (subst (λ (v : Vector). SameDirection (turned_vector k (toward p r)) v) f (subst (λ (v : Vector). SameDirection v (toward (T r) (T q))) e h)),
@@ -64,8 +64,8 @@ same-blind v w x y e = by x (pos w) ∙ ap neg_ℤ e ∙ sym (by y (pos v))
     by : (a b : ℤ) → neg_ℤ a *ℤ b ≡ neg_ℤ (a *ℤ b)
     by a b = ring (a ∷ b ∷ []) (neg (at 0) ⊗ at 1) (neg (at 0 ⊗ at 1)) tt
 
-pub same_place-turned : (k : ℕ) (p q : Place) → SamePlace (turned_place k p) (turned_place k q) ↔ SamePlace p q
-same_place-turned k p q = (
+pub same_point-turned : (k : ℕ) (p q : SpacePoint) → SamePoint (turned_point k p) (turned_point k q) ↔ SamePoint p q
+same_point-turned k p q = (
   λ h. let e = each-back (SameNumbers p.w q.w) (same-blind p.w q.w) k (numbers p) (numbers q) (h.along_x, h.along_y, h.along_z) in
       record { along_x = e.0; along_y = e.1; along_z = e.2 },
   λ h. let e = each-turned (SameNumbers p.w q.w) (same-blind p.w q.w) k (numbers p) (numbers q) (h.along_x, h.along_y, h.along_z) in
@@ -78,7 +78,7 @@ IsInside w x y = nat_abs x < half_side * w
 inside-blind : (w : ℕ) → SignBlind (IsInside w)
 inside-blind w x y h = omega (arith, ints, h)
 
-pub frame-turned : (k : ℕ) (p : Place) → InFrame (turned_place k p) ↔ InFrame p
+pub frame-turned : (k : ℕ) (p : SpacePoint) → InFrame (turned_point k p) ↔ InFrame p
 frame-turned k p = (
   λ h. let e = each-back (IsInside p.w) (inside-blind p.w) k (numbers p) (numbers p) (h.along_x, h.along_y, h.along_z) in
       record { along_x = e.0; along_y = e.1; along_z = e.2 },
@@ -87,7 +87,7 @@ frame-turned k p = (
 )
 
 abbrev IsNear : ℕ → ℕ → ℕ → ℤ → ℤ → Type 0
-IsNear n v w x y = Near n y w x v
+IsNear n v w x y = NearNumber n y w x v
 
 difference-size : (x y v w : ℤ) → nat_abs (neg_ℤ y *ℤ v -ℤ neg_ℤ x *ℤ w) ≡ nat_abs (y *ℤ v -ℤ x *ℤ w)
 difference-size x y v w = ap nat_abs (toward-odd v w x y) ∙ size (y *ℤ v -ℤ x *ℤ w)
@@ -98,7 +98,7 @@ difference-size x y v w = ap nat_abs (toward-odd v w x y) ∙ size (y *ℤ v -�
 near-blind : (n v w : ℕ) → SignBlind (IsNear n v w)
 near-blind n v w x y h = subst (λ (i : ℕ). n * i < w * v) (sym (difference-size x y (pos v) (pos w))) h
 
-pub within-turned : (k : ℕ) (n : ℕ) (p q : Place) → Within n (turned_place k p) (turned_place k q) ↔ Within n p q
+pub within-turned : (k : ℕ) (n : ℕ) (p q : SpacePoint) → Within n (turned_point k p) (turned_point k q) ↔ Within n p q
 within-turned k n p q = (
   λ h. let e = each-back (IsNear n p.w q.w) (near-blind n p.w q.w) k (numbers p) (numbers q) (h.along_x, h.along_y, h.along_z) in
       record { along_x = e.0; along_y = e.1; along_z = e.2 },
