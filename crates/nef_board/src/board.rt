@@ -116,15 +116,12 @@ fn take_turn<R: Wait, T, K, P: TableRule<BoardState<T>, LockView<T>, K>>(
     ensures of { (seat.new.table_id ≡ seat.old.table_id) × (seat.new.id ≡ seat.old.id) }
     ensures found { HasTurn seat.old.me.0 seat.new.me }
 {
-    if shared.compare_exchange::<Takes>(seat, 0, 0, 1) == 0 {
-        return;
-    }
     let mut asked = 0;
     for _ in rt.forever() {
-        asked = wait(asked);
         if shared.compare_exchange::<Takes>(seat, 0, 0, 1) == 0 {
             return;
         }
+        asked = wait(asked);
     }
     unreachable!()
 }
@@ -209,8 +206,7 @@ impl<'a, R: Wait + Sync, J: Job> Board<J> for LockBoard<'a, R, J> {
         take_turn(self.rt, &self.table.shared, &mut pass.seat);
         let state = pass.seat.slot_mut(&self.table.shared, 0);
         let results = mem::replace(&mut state.results, Vec::new(alloc));
-        let LockPass { seat, .. } = pass;
-        let mut closed = self.table.close_with(seat);
+        let mut closed = self.table.close_with(pass.seat);
         drop(closed.take(0));
         closed.free();
         Ok(results)

@@ -1,7 +1,6 @@
 //! The candidates of a combination, listed by several threads.
 
-ghost use Rattle.std.specs.Prelude.{◌≡◌};
-ghost use Rattle.nef_cand.specs.Prelude.{min, length, IfOk, Set, ShowsSet, crew_of, Listing, First, Second, AreSpannedIn, MayBeCut, ListsCuts, ListsNear};
+ghost use Rattle.nef_cand.specs.Prelude.{IfOk, Set, ShowsSet, First, Second, AreSpannedIn, MayBeCut, ListsCuts, ListsNear};
 
 use crate::OutOfMemory;
 use crate::listing::{Spanned, near_candidates, near_cuts, spanned_carriers};
@@ -54,13 +53,6 @@ fn cuts_by_four<R: Threads + Sync>(
     Ok((inside_a, inside_b))
 }
 
-// How many threads list the candidates.
-fn threads_for(a: &Complex, b: &Complex, workers: u32) -> u32
-    ensures threads { result ≡ crew_of (Listing (min (length a.now.carriers) (length b.now.carriers))) workers }
-{
-    Work::Listing(a.carriers.len().min(b.carriers.len())).crew(workers)
-}
-
 /// As `near_candidates`. Where it pays for four of the workers, as many threads list the points strictly inside edges, each
 /// those on half of the carriers of one set; where a thread can't be made another does its part.
 pub fn near_candidates_by_threads<R: Threads + Sync>(
@@ -74,7 +66,8 @@ pub fn near_candidates_by_threads<R: Threads + Sync>(
     requires second { (t : Set) × ShowsSet t b.now }
     ensures lists { IfOk result (λ v. ListsNear a.now b.now v.items) }
 {
-    if threads_for(a, b, workers) < 4 {
+    let work = Work::Listing(a.carriers.len().min(b.carriers.len()));
+    if work.crew(workers) < 4 {
         return near_candidates(alloc, a, b);
     }
     let of_a = spanned_carriers(alloc, a)?;

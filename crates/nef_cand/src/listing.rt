@@ -73,7 +73,7 @@ fn crossing(c: &Complex, number: usize, h: &Plane) -> Option<Point>
     meet(first, second, h)
 }
 
-// AddsPoints the points strictly inside an edge of the complex that lie on the plane, which doesn't hold the edge.
+// Adds the points strictly inside an edge of the complex that lie on the plane, which doesn't hold the edge.
 fn add_plane_cuts(
     listed: &mut Vec<Named>,
     c: &Complex,
@@ -173,7 +173,7 @@ fn may_reach(low: &Span, high: &Span, around: &Span) -> bool
     low.x.low <= around.x.high && around.x.low <= high.x.high
 }
 
-// AddsPoints the points strictly inside the edge with this number where one of the carriers of the other complex crosses it and
+// Adds the points strictly inside the edge with this number where one of the carriers of the other complex crosses it and
 // that has something in the carrier. Most carriers have it far from the edge, which the spans of its ends tell, and most
 // edges of a large set lie far from all that a small one has, which x or else the span around all carriers tells.
 fn add_edge_cuts(
@@ -225,7 +225,7 @@ fn is_past(c: &Complex, number: usize, ends: &[Span], around: &Span) -> bool
     around.x.high < ends[c.edges.at(number).low].x.low
 }
 
-// AddsPoints the points strictly inside an edge of the complex that lie on one of the carriers of the other, which doesn't hold
+// Adds the points strictly inside an edge of the complex that lie on one of the carriers of the other, which doesn't hold
 // the edge, but for some where the other has nothing in the carrier.
 fn add_near_cuts(
     listed: &mut Vec<Named>,

@@ -1,5 +1,5 @@
 -- Lines written word by word.
-use Rattle.nef_canon.proofs.Prelude.{◌≡◌, List, ℕ, zero, suc, ℤ, ◌+◌, ◌<◌, ◌≤◌, [], ◌∷◌, ◌++◌, length, take, get_or, Option, Some, None, MatchOption, option_to_list, slice_get, decimal, arith, refl, ap, sym, ◌∙◌, subst, append_assoc, append-nil, take_more, take_all, get_or_from_slice_get, signed_decimal, flat_map, join_with_byte, TextVersion, Word, line, with_rows, vertex_text, sface_line, vertices_text, volume_line, shell_line, volumes_text, blanked}
+use Rattle.nef_canon.proofs.Prelude.{◌≡◌, Result, Ok, Err, OnOk, is_ok, if◌then◌else◌, List, ℕ, zero, suc, ◌+◌, ◌<◌, ◌≤◌, [], ◌∷◌, ◌++◌, length, take, get_or, Option, Some, None, MatchOption, option_to_list, slice_get, arith, refl, ap, sym, ◌∙◌, subst, append_assoc, append-nil, take_more, take_all, get_or_from_slice_get, flat_map, join_with_byte, TextVersion, Word, line, with_rows, vertex_text, sface_line, vertices_text, volume_line, shell_line, volumes_text, blanked}
 use Rattle.nef_core.specs.declared.work.TextVersion.TheVariants.{One, Two}
 use Rattle.nef_complex.specs.declared.complex.Complex.{Complex}
 use Rattle.nef_complex.specs.declared.parts.Parts.{Parts}
@@ -18,15 +18,20 @@ more-words o w t s us vs e f =
     f ∙ ap (λ (r : List ℕ). r ++ blanked vs) e ∙ append_assoc o (w ++ blanked us) (blanked vs)
     ∙ ap (λ (r : List ℕ). o ++ r) (append_assoc w (blanked us) (blanked vs) ∙ ap (λ (r : List ℕ). w ++ r) (sym (blanked-append us vs)))
 
--- a number is written that is another
-pub counted : (s t : List ℕ) (m n : ℕ) → t ≡ s ++ blanked (decimal m ∷ []) → m ≡ n → t ≡ s ++ blanked (decimal n ∷ [])
-counted s t m n e f = e ∙ ap (λ (k : ℕ). s ++ blanked (decimal k ∷ [])) f
-
 -- the line is ended
 pub line-ended : (o w t s : List ℕ) (us : List Word) → t ≡ o ++ (w ++ blanked us) → s ≡ t ++ 10 ∷ [] → s ≡ o ++ line (w ∷ us)
 line-ended o w t s us e f =
     f ∙ ap (λ (r : List ℕ). r ++ 10 ∷ []) e ∙ append_assoc o (w ++ blanked us) (10 ∷ [])
     ∙ ap (λ (r : List ℕ). o ++ (r ++ 10 ∷ [])) (sym (joined w us))
+
+-- bytes that are added by the last call
+pub appended : {T E : Type 0} (r : Result T E) (s a b : List ℕ) → s ≡ (if is_ok r then a else b) → OnOk r (s ≡ a)
+appended (Ok x) s a b e = e
+appended (Err x) s a b e = tt
+
+-- a blank and a word
+pub one-word : (s p t bytes : List ℕ) (w : Word) → p ≡ s ++ 32 ∷ [] → t ≡ p ++ bytes → bytes ≡ w → t ≡ s ++ blanked (w ∷ [])
+one-word s p t bytes w e f g = f ∙ ap (λ (r : List ℕ). r ++ bytes) e ∙ append_assoc s (32 ∷ []) bytes ∙ ap (λ (r : List ℕ). s ++ 32 ∷ r) (g ∙ sym (append-nil w))
 
 -- its first word is written
 pub line-begun : (o w t : List ℕ) → t ≡ o ++ w → t ≡ o ++ (w ++ blanked [])
@@ -48,20 +53,6 @@ more-elements {X} f xs ys same i d l o w s t e g =
 pub all-elements : {X : Type 0} (f : X → List Word) (xs ys : List X) → xs ≡ ys → (i : ℕ) → length xs ≤ i → (o w t : List ℕ) → t ≡ o ++ (w ++ blanked (flat_map f (take i ys))) → t ≡ o ++ (w ++ blanked (flat_map f ys))
 all-elements {X} f xs ys same i l o w t e =
     e ∙ ap (λ (zs : List X). o ++ (w ++ blanked (flat_map f zs))) (take_all i ys (subst (λ (zs : List X). length zs ≤ i) same l))
-
-pub both-words : (s t u : List ℕ) (a b : Word) → t ≡ s ++ blanked (a ∷ []) → u ≡ t ++ blanked (b ∷ []) → u ≡ s ++ blanked (a ∷ b ∷ [])
-both-words s t u a b e f = more-words s [] t u (a ∷ []) (b ∷ []) e f
-
--- two words and two more
-pub two_pairs : (o s t : List ℕ) (a b c d : Word) → s ≡ o ++ blanked (a ∷ b ∷ []) → t ≡ s ++ blanked (c ∷ d ∷ []) → t ≡ o ++ blanked (a ∷ b ∷ c ∷ d ∷ [])
-two_pairs o s t a b c d e f = more-words o [] s t (a ∷ b ∷ []) (c ∷ d ∷ []) e f
-
-pub paired : (o s : List ℕ) (m n k l : ℤ) → s ≡ o ++ blanked (signed_decimal m ∷ signed_decimal n ∷ []) → m ≡ k → n ≡ l → s ≡ o ++ blanked (signed_decimal k ∷ signed_decimal l ∷ [])
-paired o s m n k l e f g = e ∙ ap (λ (x : ℤ). o ++ blanked (signed_decimal x ∷ signed_decimal n ∷ [])) f ∙ ap (λ (x : ℤ). o ++ blanked (signed_decimal k ∷ signed_decimal x ∷ [])) g
-
--- a pair and a number more
-pub pair_more : (o s t : List ℕ) (a b c : Word) → s ≡ o ++ blanked (a ∷ b ∷ []) → t ≡ s ++ blanked (c ∷ []) → t ≡ o ++ blanked (a ∷ b ∷ c ∷ [])
-pair_more o s t a b c e f = more-words o [] s t (a ∷ b ∷ []) (c ∷ []) e f
 
 -- what an option is read as
 pub as-list : {X : Type 0} (o : Option X) (xs : List X) → MatchOption o (xs ≡ []) (λ x. xs ≡ x ∷ []) → xs ≡ option_to_list o

@@ -5,7 +5,7 @@ ghost use Rattle.std.specs.Prelude.{◌≡◌, ◌++◌};
 ghost use Rattle.nef_complex.specs.Prelude.{OnOk, IfOk, length, complex_of, IsParts, first_line, edge_line, text, Text, cycle_line, facet_text, svertex_line, arc_line, sloop_line, vertex_text, sface_line, vertices_text, shell_line, volumes_text};
 
 use crate::OutOfMemory;
-use crate::words::{add_count, add_dir, add_each, add_label, add_option, add_plane, add_point};
+use crate::words::{Entry, add_counts, add_each, add_line};
 use nef_complex::{Complex, Cycle, Edge, Facet, Parts, Shell, Vertex};
 use nef_core::TextVersion;
 use nef_smap::{SArc, SLoop, SVertex};
@@ -14,48 +14,49 @@ use std::alloc::Global;
 fn add_svertex(text: &mut Vec<u8>, v: &SVertex) -> Result<(), OutOfMemory>
     ensures added { OnOk result (text.new.items ≡ text.old.items ++ svertex_line v.now) }
 {
-    text.push(b's')?;
-    add_dir(text, &v.dir)?;
-    add_label(text, v.mark)?;
-    add_option(text, v.around)?;
-    text.push(b'\n')?;
-    Ok(())
+    let entries = [
+        Entry::Dir(v.dir),
+        Entry::Label(v.mark),
+        Entry::Option(v.around),
+    ];
+    add_line(text, b"s", &entries)
 }
 
 fn add_arc(text: &mut Vec<u8>, a: &SArc) -> Result<(), OutOfMemory>
     ensures added { OnOk result (text.new.items ≡ text.old.items ++ arc_line a.now) }
 {
-    text.push(b'a')?;
-    add_count(text, a.source)?;
-    add_count(text, a.target)?;
-    add_dir(text, &a.normal)?;
-    add_label(text, a.mark)?;
-    add_label(text, a.pos)?;
-    add_label(text, a.neg)?;
-    text.push(b'\n')?;
-    Ok(())
+    let ends = [a.source, a.target];
+    let entries = [
+        Entry::Counts(&ends),
+        Entry::Dir(a.normal),
+        Entry::Label(a.mark),
+        Entry::Label(a.pos),
+        Entry::Label(a.neg),
+    ];
+    add_line(text, b"a", &entries)
 }
 
 fn add_sloop(text: &mut Vec<u8>, l: &SLoop) -> Result<(), OutOfMemory>
     ensures added { OnOk result (text.new.items ≡ text.old.items ++ sloop_line l.now) }
 {
-    text.push(b'l')?;
-    add_dir(text, &l.normal)?;
-    add_label(text, l.mark)?;
-    add_label(text, l.pos)?;
-    add_label(text, l.neg)?;
-    text.push(b'\n')?;
-    Ok(())
+    let entries = [
+        Entry::Dir(l.normal),
+        Entry::Label(l.mark),
+        Entry::Label(l.pos),
+        Entry::Label(l.neg),
+    ];
+    add_line(text, b"l", &entries)
 }
 
 fn add_vertex(text: &mut Vec<u8>, v: &Vertex) -> Result<(), OutOfMemory>
     ensures added { OnOk result (text.new.items ≡ text.old.items ++ vertex_text v.now) }
 {
-    text.push(b'v')?;
-    add_point(text, &v.point)?;
-    add_label(text, v.map.mark)?;
-    add_option(text, v.map.ground)?;
-    text.push(b'\n')?;
+    let entries = [
+        Entry::Point(v.point),
+        Entry::Label(v.map.mark),
+        Entry::Option(v.map.ground),
+    ];
+    add_line(text, b"v", &entries)?;
     add_each(text, v.map.svertices.as_slice(), add_svertex)?;
     add_each(text, v.map.arcs.as_slice(), add_arc)?;
     add_each(text, v.map.sloop.as_slice(), add_sloop)
@@ -64,12 +65,7 @@ fn add_vertex(text: &mut Vec<u8>, v: &Vertex) -> Result<(), OutOfMemory>
 fn add_faces(text: &mut Vec<u8>, faces: &[usize]) -> Result<(), OutOfMemory>
     ensures added { OnOk result (text.new.items ≡ text.old.items ++ sface_line faces.now) }
 {
-    text.push(b'g')?;
-    for face in faces {
-        add_count(text, *face)?;
-    }
-    text.push(b'\n')?;
-    Ok(())
+    add_line(text, b"g", &[Entry::Counts(faces)])
 }
 
 // Adds the vertices, each followed by its svertices, arcs and sloop, and in version two by its sides' sface numbers.
@@ -99,23 +95,22 @@ fn add_cycle(text: &mut Vec<u8>, cycle: &Cycle) -> Result<(), OutOfMemory>
 {
     text.push(b'c')?;
     for k in cycle.corners.as_slice() {
-        add_count(text, k.vertex)?;
-        add_count(text, k.item)?;
+        add_counts(text, &[k.vertex, k.item])?;
     }
-    text.push(b'\n')?;
-    Ok(())
+    text.extend_from_slice(b"\n")
 }
 
 // Adds the facet, followed by its cycles.
 fn add_facet(text: &mut Vec<u8>, f: &Facet) -> Result<(), OutOfMemory>
     ensures added { OnOk result (text.new.items ≡ text.old.items ++ facet_text f.now) }
 {
-    text.push(b'f')?;
-    add_plane(text, &f.plane)?;
-    add_label(text, f.mark)?;
-    add_count(text, f.pos)?;
-    add_count(text, f.neg)?;
-    text.push(b'\n')?;
+    let sides = [f.pos, f.neg];
+    let entries = [
+        Entry::Plane(f.plane),
+        Entry::Label(f.mark),
+        Entry::Counts(&sides),
+    ];
+    add_line(text, b"f", &entries)?;
     add_each(text, f.cycles.as_slice(), add_cycle)
 }
 
@@ -124,11 +119,9 @@ fn add_shell(text: &mut Vec<u8>, shell: &Shell) -> Result<(), OutOfMemory>
 {
     text.push(b'h')?;
     for s in shell.sides.as_slice() {
-        add_count(text, s.vertex)?;
-        add_count(text, s.side)?;
+        add_counts(text, &[s.vertex, s.side])?;
     }
-    text.push(b'\n')?;
-    Ok(())
+    text.extend_from_slice(b"\n")
 }
 
 // Adds the volumes, each followed by its shells in version two.
@@ -139,9 +132,7 @@ fn add_volumes(text: &mut Vec<u8>, parts: &Parts, version: TextVersion) -> Resul
     for number in 0..parts.volumes.len() {
         let label = *parts.volumes.at(number);
         let own = parts.shells.at(number).as_slice();
-        text.push(b'w')?;
-        add_label(text, label)?;
-        text.push(b'\n')?;
+        add_line(text, b"w", &[Entry::Label(label)])?;
         match version {
             TextVersion::One => (),
             TextVersion::Two => add_each(text, own, add_shell)?,
@@ -159,31 +150,24 @@ fn add_first(
 ) -> Result<(), OutOfMemory>
     ensures added { OnOk result (text.new.items ≡ text.old.items ++ first_line version c.now parts.now) }
 {
-    let digit = match version {
-        TextVersion::One => b'1',
-        TextVersion::Two => b'2',
-    };
-    text.extend_from_slice(b"nef3 ")?;
-    text.push(digit)?;
-    add_count(text, c.vertices.len())?;
-    add_count(text, c.edges.len())?;
-    add_count(text, parts.facets.len())?;
-    add_count(text, parts.volumes.len())?;
-    text.push(b'\n')?;
-    Ok(())
+    let counts = [
+        c.vertices.len(),
+        c.edges.len(),
+        parts.facets.len(),
+        parts.volumes.len(),
+    ];
+    let entries = [Entry::Counts(&counts)];
+    match version {
+        TextVersion::One => add_line(text, b"nef3 1", &entries),
+        TextVersion::Two => add_line(text, b"nef3 2", &entries),
+    }
 }
 
 fn add_edge(text: &mut Vec<u8>, e: &Edge) -> Result<(), OutOfMemory>
     ensures added { OnOk result (text.new.items ≡ text.old.items ++ edge_line e.now) }
 {
-    text.push(b'e')?;
-    add_count(text, e.low)?;
-    add_count(text, e.low_svertex)?;
-    add_count(text, e.high)?;
-    add_count(text, e.high_svertex)?;
-    add_label(text, e.mark)?;
-    text.push(b'\n')?;
-    Ok(())
+    let ends = [e.low, e.low_svertex, e.high, e.high_svertex];
+    add_line(text, b"e", &[Entry::Counts(&ends), Entry::Label(e.mark)])
 }
 
 /// The text of the complex with its parts, in this version: the first line with the numbers of vertices, edges, facets

@@ -1,12 +1,25 @@
-//! Words of a line, each after a blank.
+//! Words of a line, each after a blank, and lines of a few words.
 
 ghost use Rattle.std.specs.Prelude.{◌≡◌, ◌++◌, ◌∷◌};
-ghost use Rattle.nef_complex.specs.Prelude.{ℕ, List, [], flat_map, decimal, OnOk, signed_decimal, label_word, option_word, dir_words, point_words, plane_words};
-ghost use Rattle.nef_canon.specs.Words.{blanked};
+ghost use Rattle.nef_complex.specs.Prelude.{ℕ, List, [], flat_map, OnOk, label_word};
+ghost use Rattle.nef_complex.specs.Text.{line, numbers, signed_numbers};
+ghost use Rattle.nef_canon.specs.Words.{blanked, entry_words};
 
 use crate::OutOfMemory;
 use itoa::Buffer;
 use nef_geo::{Dir, Label, Plane, Point};
+
+/// What stands in a line behind its first word.
+#[derive(Clone, Copy)]
+pub(crate) enum Entry<'a> {
+    Counts(&'a [usize]),
+    Label(Label),
+    /// The label, or a dash without one.
+    Option(Option<Label>),
+    Dir(Dir),
+    Point(Point),
+    Plane(Plane),
+}
 
 /// Adds the text of each item in turn, by `add`.
 pub(crate) fn add_each<T, F: Fn(&mut Vec<u8>, &T) -> Result<(), OutOfMemory>>(
@@ -23,81 +36,68 @@ pub(crate) fn add_each<T, F: Fn(&mut Vec<u8>, &T) -> Result<(), OutOfMemory>>(
     Ok(())
 }
 
-/// Adds a blank and the number.
-pub(crate) fn add_count(text: &mut Vec<u8>, n: usize) -> Result<(), OutOfMemory>
-    ensures added { OnOk result (text.new.items ≡ text.old.items ++ blanked (decimal n ∷ [])) }
+/// Adds the numbers, each after a blank.
+pub(crate) fn add_counts(text: &mut Vec<u8>, counts: &[usize]) -> Result<(), OutOfMemory>
+    ensures added { OnOk result (text.new.items ≡ text.old.items ++ blanked (numbers counts.now)) }
 {
     let mut buffer = Buffer::new();
-    text.push(b' ')?;
-    text.extend_from_slice(buffer.format(n).as_bytes())?;
+    for n in counts {
+        text.push(b' ')?;
+        text.extend_from_slice(buffer.format(*n).as_bytes())?;
+    }
     Ok(())
 }
 
-/// Adds a blank and the number with its sign.
-pub(crate) fn add_number(text: &mut Vec<u8>, n: i64) -> Result<(), OutOfMemory>
-    ensures added { OnOk result (text.new.items ≡ text.old.items ++ blanked (signed_decimal n ∷ [])) }
+// Adds the numbers with their signs, each after a blank.
+fn add_signed(text: &mut Vec<u8>, list: &[i64]) -> Result<(), OutOfMemory>
+    ensures added { OnOk result (text.new.items ≡ text.old.items ++ blanked (signed_numbers list.now)) }
 {
     let mut buffer = Buffer::new();
-    text.push(b' ')?;
-    text.extend_from_slice(buffer.format(n).as_bytes())?;
+    for n in list {
+        text.push(b' ')?;
+        text.extend_from_slice(buffer.format(*n).as_bytes())?;
+    }
     Ok(())
 }
 
-/// Adds a blank and the label's letter.
-pub(crate) fn add_label(text: &mut Vec<u8>, label: Label) -> Result<(), OutOfMemory>
-    ensures added { OnOk result (text.new.items ≡ text.old.items ++ blanked (label_word label ∷ [])) }
+fn letter(label: Label) -> u8
+    ensures letter { result ∷ [] ≡ label_word label }
 {
-    let letter = match label {
+    match label {
         Label::Out => b'o',
         Label::Not => b'n',
         Label::In => b'i',
-    };
-    text.push(b' ')?;
-    text.push(letter)?;
-    Ok(())
-}
-
-/// Adds a blank and the label's letter, or a dash without a label.
-pub(crate) fn add_option(text: &mut Vec<u8>, label: Option<Label>) -> Result<(), OutOfMemory>
-    ensures added { OnOk result (text.new.items ≡ text.old.items ++ blanked (option_word label ∷ [])) }
-{
-    match label {
-        Some(label) => add_label(text, label),
-        None => text.extend_from_slice(b" -"),
     }
 }
 
-// Adds two numbers, each after a blank.
-fn add_pair(text: &mut Vec<u8>, m: i64, n: i64) -> Result<(), OutOfMemory>
-    ensures added { OnOk result (text.new.items ≡ text.old.items ++ blanked (signed_decimal m ∷ signed_decimal n ∷ [])) }
+// Adds the words of the entry, each after a blank.
+fn add_entry(text: &mut Vec<u8>, entry: Entry) -> Result<(), OutOfMemory>
+    ensures added { OnOk result (text.new.items ≡ text.old.items ++ blanked (entry_words entry.entry)) }
 {
-    add_number(text, m)?;
-    add_number(text, n)
+    match entry {
+        Entry::Counts(counts) => add_counts(text, counts),
+        Entry::Label(label) => text.extend_from_slice(&[b' ', letter(label)]),
+        Entry::Option(label) => match label {
+            Some(label) => text.extend_from_slice(&[b' ', letter(label)]),
+            None => text.extend_from_slice(b" -"),
+        },
+        Entry::Dir(d) => add_signed(text, &[d.x(), d.y(), d.z()]),
+        Entry::Point(p) => add_signed(text, &[p.x(), p.y(), p.z(), p.w()]),
+        Entry::Plane(h) => add_signed(text, &[h.a(), h.b(), h.c(), h.d()]),
+    }
 }
 
-/// Adds the three numbers of the direction, each after a blank.
-pub(crate) fn add_dir(text: &mut Vec<u8>, d: &Dir) -> Result<(), OutOfMemory>
-    ensures added { OnOk result (text.new.items ≡ text.old.items ++ blanked (dir_words d.now)) }
+/// Adds the line of the first word and the words of the entries.
+pub(crate) fn add_line(
+    text: &mut Vec<u8>,
+    first: &[u8],
+    entries: &[Entry],
+) -> Result<(), OutOfMemory>
+    ensures added { OnOk result (text.new.items ≡ text.old.items ++ line (first.now ∷ flat_map entry_words entries.now)) }
 {
-    add_pair(text, d.x(), d.y())?;
-    add_number(text, d.z())?;
-    Ok(())
-}
-
-/// Adds the four numbers of the point, each after a blank.
-pub(crate) fn add_point(text: &mut Vec<u8>, p: &Point) -> Result<(), OutOfMemory>
-    ensures added { OnOk result (text.new.items ≡ text.old.items ++ blanked (point_words p.now)) }
-{
-    add_pair(text, p.x(), p.y())?;
-    add_pair(text, p.z(), p.w())?;
-    Ok(())
-}
-
-/// Adds the four numbers of the plane, each after a blank.
-pub(crate) fn add_plane(text: &mut Vec<u8>, h: &Plane) -> Result<(), OutOfMemory>
-    ensures added { OnOk result (text.new.items ≡ text.old.items ++ blanked (plane_words h.now)) }
-{
-    add_pair(text, h.a(), h.b())?;
-    add_pair(text, h.c(), h.d())?;
-    Ok(())
+    text.extend_from_slice(first)?;
+    for entry in entries {
+        add_entry(text, *entry)?;
+    }
+    text.extend_from_slice(b"\n")
 }

@@ -1,13 +1,25 @@
 -- The row of a key, and a test of all keys that computes.
-use Rattle.nef_case.proofs.Prelude.{◌≡◌, ℕ, zero, suc, ◌+◌, ◌*◌, ◌^◌, ◌<◌, ◌≤◌, ℤ, pos, negsuc, List, [], ◌∷◌, length, Bool, true, false, cond, arith, pow_more, ints, All, IsSign, digit_of}
+use Rattle.nef_case.proofs.Prelude.{◌≡◌, ℕ, zero, suc, ◌+◌, ◌*◌, ◌^◌, ◌<◌, ◌≤◌, ℤ, pos, negsuc, List, [], ◌∷◌, length, Bool, true, false, cond, refl, arith, pow_more, ints, w8, to_z, of_z, unsigned_abs, All, IsSign, digit_of}
+use lib.IntN.{◌+ℤ◌}
 use Rattle.std.proofs.Math.Nat.{pow-le-pow_right}
 use lib.Dec.{T}
 
-pub row_step : (row i N n : ℕ) → row < 3 ^ i → i < N → n ≡ 3 ^ N → row * 3 + 2 < n
-row_step row i N n h k e = omega (arith, pow_more 3 i, pow-le-pow_right {n = 3} (omega arith) {i = i + 1} {j = N} (omega arith))
+pub row_step : (row i N n : ℕ) → row < 3 ^ i → i < N → n ≡ 3 ^ N → n < 2 ^ 64 → row * 3 + 2 < 2 ^ 64
+row_step row i N n h k e l = omega (arith, pow_more 3 i, pow-le-pow_right {n = 3} (omega arith) {i = i + 1} {j = N} (omega arith))
+
+pub row_below : (row i N n : ℕ) → row < 3 ^ i → i ≡ N → n ≡ 3 ^ N → row < n
+row_below row i N n h e f = rw (f, ← e) h
 
 pub digit_small : (z : ℤ) → IsSign z → digit_of z ≤ 2
 digit_small z s = omega (arith, ints, s.low, s.high)
+
+-- a digit as the machine makes it of a sign of eight bits
+pub digit_read : (z : ℤ) → IsSign z → unsigned_abs (to_z w8 (of_z w8 (to_z w8 (of_z w8 z) +ℤ pos 1))) ≡ digit_of z
+digit_read (pos zero) s = refl
+digit_read (pos (suc zero)) s = refl
+digit_read (pos (suc (suc m))) s = absurd (omega (arith, ints, s.high))
+digit_read (negsuc zero) s = refl
+digit_read (negsuc (suc m)) s = absurd (omega (arith, ints, s.low))
 
 -- ---- every key of n signs passes a test
 abbrev pub every_key : ℕ → (List ℤ → Bool) → Bool

@@ -16,7 +16,9 @@ pub use complex::{
     find_vertex, plane_items, point_spans, vertex_at, vertex_holders,
 };
 pub use indexing::vertex_rows;
-pub use nef_index::{Bounds, Edge, SortedCarriers, Span, Table, holds, may_meet};
+pub use nef_index::{
+    Bounds, Edge, Index as PlaneIndex, SortedCarriers, Span, Table, holds, may_meet,
+};
 pub use parts::{Cycle, Facet, Parts, Shell, Side};
 pub use std::alloc::AllocError as OutOfMemory;
 pub use taken_rows::vertex_rows_from;

@@ -24,32 +24,6 @@ pub fn both<
     Ok((first?, second?))
 }
 
-// Works three tasks as `all_four` works four.
-fn all_three<
-    R: Threads,
-    A: Send + Drop,
-    B: Send + Drop,
-    C: Drop,
-    F: FnOnce() -> Result<A, OutOfMemory> + Send,
-    G: FnOnce() -> Result<B, OutOfMemory> + Send,
-    H: FnOnce() -> Result<C, OutOfMemory>,
->(rt: &R, first: F, second: G, third: H) -> Result<(A, B, C), OutOfMemory>
-    requires first { F.pre first }
-    requires second { G.pre second }
-    requires third { H.pre third }
-    ensures first { IfOk result (λ p. F.post first (Ok p.0)) }
-    ensures second { IfOk result (λ p. G.post second (Ok p.1)) }
-    ensures third { IfOk result (λ p. H.post third (Ok p.2)) }
-{
-    let others = move || -> Result<(B, C), OutOfMemory>
-        requires { G.pre second × H.pre third }
-        ensures second { IfOk result (λ p. G.post second (Ok p.0)) }
-        ensures third { IfOk result (λ p. H.post third (Ok p.1)) }
-    { both(rt, second, third) };
-    let (a, (b, c)) = both(rt, first, others)?;
-    Ok((a, b, c))
-}
-
 /// Works four tasks, each but the last in a thread of its own where one can be made, and returns what all give.
 ///
 /// `OutOfMemory` says that one of them wanted memory and found none.
@@ -74,12 +48,19 @@ pub fn all_four<
     ensures fourth { IfOk result (λ p. K.post fourth (Ok p.3)) }
 {
     // The calling thread starts all others, since one that a new thread starts begins on the processor of its maker.
-    let others = move || -> Result<(B, C, D), OutOfMemory>
+    let others = move || -> Result<(B, (C, D)), OutOfMemory>
         requires { G.pre second × H.pre third × K.pre fourth }
         ensures second { IfOk result (λ p. G.post second (Ok p.0)) }
-        ensures third { IfOk result (λ p. H.post third (Ok p.1)) }
-        ensures fourth { IfOk result (λ p. K.post fourth (Ok p.2)) }
-    { all_three(rt, second, third, fourth) };
-    let (a, (b, c, d)) = both(rt, first, others)?;
+        ensures third { IfOk result (λ p. H.post third (Ok p.1.0)) }
+        ensures fourth { IfOk result (λ p. K.post fourth (Ok p.1.1)) }
+    {
+        let last_two = move || -> Result<(C, D), OutOfMemory>
+            requires { H.pre third × K.pre fourth }
+            ensures third { IfOk result (λ p. H.post third (Ok p.0)) }
+            ensures fourth { IfOk result (λ p. K.post fourth (Ok p.1)) }
+        { both(rt, third, fourth) };
+        both(rt, second, last_two)
+    };
+    let (a, (b, (c, d))) = both(rt, first, others)?;
     Ok((a, b, c, d))
 }

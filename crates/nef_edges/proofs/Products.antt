@@ -56,6 +56,9 @@ scaled-fits n v h k = fits_of (moment_limit ∷ direction_limit ∷ []) (n ∷ v
 pub kept : (n : ℤ) → nat_abs n ≤ moment_limit → to_z w128 (of_z w128 n) ≡ n
 kept n h = exact_of (moment_limit ∷ []) (n ∷ []) (wrap w128 (load 0)) (h, tt) tt
 
+pub handed-small : (n : ℤ) → nat_abs n ≤ moment_limit → nat_abs (to_z w128 (of_z w128 n)) ≤ moment_limit
+handed-small n h = rw (kept n h) h
+
 pub ratio-is : (a b : EdgeEnd) (part : EdgeEnd → ℤ) (x y : ℤ) (o : Ordering) → x ≡ part a → y ≡ part b → nat_abs x ≤ moment_limit → nat_abs y ≤ moment_limit
     → o ≡ int_cmp (to_z w128 (of_z w128 x) *ℤ b.point.w) (to_z w128 (of_z w128 y) *ℤ a.point.w) → o ≡ ratio_order part a b
 ratio-is a b part x y o ex ey hx hy e =

@@ -61,9 +61,10 @@ fn is_multiple(x: i128, y: i128, z: i128, dir: &Dir) -> bool
 fn is_along_way(p: &Point, dir: &Dir, q: &Point) -> bool
     ensures along { IsTrue result → IsZero (cross (toward (point_of p.now) (point_of q.now)) (vector_of dir.now)) }
 {
-    let x = minor(q.x(), p.x(), q.w(), p.w());
-    let y = minor(q.y(), p.y(), q.w(), p.w());
-    let z = minor(q.z(), p.z(), q.w(), p.w());
+    let (v, w) = (q.w(), p.w());
+    let x = minor(q.x(), p.x(), v, w);
+    let y = minor(q.y(), p.y(), v, w);
+    let z = minor(q.z(), p.z(), v, w);
     is_multiple(x, y, z, dir)
 }
 

@@ -136,15 +136,9 @@ fn tied_cmp(a: &EdgeEnd, b: &EdgeEnd) -> Ordering
     line_cmp(a, b).then(a.vertex.cmp(&b.vertex))
 }
 
-fn key_cmp(a: &EdgeEnd, b: &EdgeEnd) -> Ordering
-    ensures order { result ≡ int_cmp a.now.key b.now.key }
-{
-    a.key.cmp(&b.key)
-}
-
 // Compares the lines of two ends, and then the numbers of their vertices.
 pub(crate) fn end_cmp(a: &EdgeEnd, b: &EdgeEnd) -> Ordering
     ensures order { result ≡ end_order a.now b.now }
 {
-    key_cmp(a, b).then_with(|| tied_cmp(a, b))
+    a.key.cmp(&b.key).then_with(|| tied_cmp(a, b))
 }

@@ -90,10 +90,14 @@ fn join(edges: &mut Vec<Edge>, vertices: &[Vertex], number: usize, end: &EdgeEnd
 }
 
 // The first arriving end after leading end `number` in the order of ends.
-fn first_after(arriving: &[EdgeEnd], leading: &[EdgeEnd], number: usize) -> Option<EdgeEnd> {
+fn first_after<'a>(
+    arriving: &'a [EdgeEnd],
+    leading: &[EdgeEnd],
+    number: usize,
+) -> Option<&'a EdgeEnd> {
     let from = leading.get(number)?;
     let next = arriving.partition_point(|end| end_cmp(end, from).is_le());
-    arriving.get(next).copied()
+    arriving.get(next)
 }
 
 // Leads each of the edges with these numbers, whose lower ends are `leading`, to the first arriving end after its own.
@@ -113,7 +117,7 @@ fn join_loose(
         let Some(end) = first_after(arriving, leading, j) else {
             return false;
         };
-        if !join(edges, vertices, number, &end) {
+        if !join(edges, vertices, number, end) {
             return false;
         }
     }
@@ -131,6 +135,38 @@ fn are_apart(marks: &mut Vec<bool>, starts: &[usize], edges: &[Edge]) -> bool
         }
     }
     true
+}
+
+// Leads the loose edges to their higher ends, and says whether the edges then are all edges between the vertices. They
+// aren't where a guess is wrong, or where guesses don't pay, since more than half of the ends have none.
+fn are_completed(
+    alloc: Global,
+    vertices: &[Vertex],
+    starts: &[usize],
+    count: usize,
+    loose: &mut Loose,
+    edges: &mut Vec<Edge>,
+) -> Result<bool, OutOfMemory>
+    requires joined { AreJoined (map vertex_of vertices.now) }
+    requires laid { AreLaid vertices.now (IsEarlierSvertex (length vertices.now) 0) edges.old.items loose.old.numbers.items 0 }
+    ensures edges { IfOk result (λ b. IsTrue b → Edges (map vertex_of vertices.now) (map edge_of edges.new.items)) }
+{
+    if loose.len() > count / 2 {
+        return Ok(false);
+    }
+    part_edges(alloc, loose, vertices, edges.as_slice())?;
+    let is_joined = join_loose(
+        edges,
+        vertices,
+        loose.numbers.as_slice(),
+        loose.leading.as_slice(),
+        loose.arriving.as_slice(),
+    );
+    if !is_joined {
+        return Ok(false);
+    }
+    let mut marks = vec![in alloc; false; count]?;
+    Ok(are_apart(&mut marks, starts, edges.as_slice()))
 }
 
 /// All edges between the vertices, in order, by guesses: most are edges of the two complexes. `None` says that a guess
@@ -152,23 +188,9 @@ pub(crate) fn edges_guessed(
     let starts = starts.as_slice();
     let mut loose = Loose::none(alloc);
     let mut edges = lay_edges(alloc, vertices, starts, count, &mut sources, &mut loose)?;
-    if loose.len() > count / 2 {
-        return Ok(None);
+    if are_completed(alloc, vertices, starts, count, &mut loose, &mut edges)? {
+        Ok(Some(edges))
+    } else {
+        Ok(None)
     }
-    part_edges(alloc, &mut loose, vertices, edges.as_slice())?;
-    let is_joined = join_loose(
-        &mut edges,
-        vertices,
-        loose.numbers.as_slice(),
-        loose.leading.as_slice(),
-        loose.arriving.as_slice(),
-    );
-    if !is_joined {
-        return Ok(None);
-    }
-    let mut marks = vec![in alloc; false; count]?;
-    if !are_apart(&mut marks, starts, edges.as_slice()) {
-        return Ok(None);
-    }
-    Ok(Some(edges))
 }

@@ -103,17 +103,6 @@ fn lay_edge(
     Ok(())
 }
 
-// Adds an end at which an edge arrives.
-fn add_end(arriving: &mut Vec<EdgeEnd>, high: &End) -> Result<(), OutOfMemory> {
-    arriving.push(EdgeEnd::of(
-        high.vertex.point,
-        high.svertex.dir.back(),
-        high.vertex_number,
-        high.svertex_number,
-    ))?;
-    Ok(())
-}
-
 // Adds an end at which an edge arrives, if no guess leads there.
 fn add_arrival(
     arriving: &mut Vec<EdgeEnd>,
@@ -126,7 +115,12 @@ fn add_arrival(
         None => false,
     };
     if !is_met {
-        add_end(arriving, high)?;
+        arriving.push(EdgeEnd::of(
+            high.vertex.point,
+            high.svertex.dir.back(),
+            high.vertex_number,
+            high.svertex_number,
+        ))?;
     }
     Ok(())
 }

@@ -13,8 +13,20 @@ use std::cmp::Ordering;
 // How many vertices are tried one by one before the search halves.
 const NEAR: usize = 8;
 
-// The number of the first vertex that isn't below the point, where all vertices before number `from` are below.
+// Whether the vertex with this number stands at the point.
+fn stands_at(vertices: &[Vertex], number: usize, point: &Point) -> bool {
+    match vertices.get(number) {
+        Some(vertex) => vertex.point == *point,
+        None => false,
+    }
+}
+
+// The number of the first vertex that isn't below the point, where all vertices before number `from` are below, and
+// mostly vertex `from` stands at the point.
 fn next_vertex(vertices: &[Vertex], from: usize, point: &Point) -> usize {
+    if stands_at(vertices, from, point) {
+        return from;
+    }
     let end = from.saturating_add(NEAR).min(vertices.len());
     for number in from..end {
         if lex_cmp(&vertices[number].point, point).is_ge() {
@@ -27,49 +39,19 @@ fn next_vertex(vertices: &[Vertex], from: usize, point: &Point) -> usize {
     vertices.partition_point(|vertex| lex_cmp(&vertex.point, point).is_lt())
 }
 
-// Whether the vertex with this number stands at the point.
-fn stands_at(vertices: &[Vertex], number: usize, point: &Point) -> bool {
-    match vertices.get(number) {
-        Some(vertex) => vertex.point == *point,
-        None => false,
-    }
-}
-
-// The number of the vertex at the point, or `Err` with the number of the first vertex above the point. All vertices
-// before number `from` are below the point, and mostly vertex `from` stands there.
-fn find_from(vertices: &[Vertex], from: usize, point: &Point) -> Result<usize, usize> {
-    if stands_at(vertices, from, point) {
-        return Ok(from);
-    }
-    let number = next_vertex(vertices, from, point);
-    if stands_at(vertices, number, point) {
-        return Ok(number);
-    }
-    Err(number)
-}
-
-// The number of the vertex at the point, or `usize::MAX` where none stands there. All vertices before number `next` are
-// below the point; `next` then serves for a later point.
-fn number_at(vertices: &[Vertex], next: &mut usize, point: &Point) -> usize {
-    match find_from(vertices, *next, point) {
-        Ok(number) => {
-            *next = number.saturating_add(1);
-            number
-        }
-        Err(number) => {
-            *next = number;
-            usize::MAX
-        }
-    }
-}
-
 // For each old vertex the number of the new vertex at its point, or `usize::MAX` where none stands there. Both lists
 // are in order, so one pass is enough.
 fn numbers_of(alloc: Global, old: &[Vertex], new: &[Vertex]) -> Result<Vec<usize>, OutOfMemory> {
     let mut numbers = Vec::with_capacity(alloc, old.len())?;
     let mut next: usize = 0;
     for vertex in old {
-        numbers.push(number_at(new, &mut next, &vertex.point))?;
+        next = next_vertex(new, next, &vertex.point);
+        if stands_at(new, next, &vertex.point) {
+            numbers.push(next)?;
+            next = next.saturating_add(1);
+        } else {
+            numbers.push(usize::MAX)?;
+        }
     }
     Ok(numbers)
 }
@@ -148,20 +130,17 @@ impl<'a> KeptEdges<'a> {
     }
 }
 
-// The direction of the edge, which leads on from the vertex. An old vertex whose map was moved has no svertices any
-// more: the new vertex at its point has them.
-fn dir_of(source: &KeptEdges, edge: &Edge, vertex: &Vertex) -> Option<Dir> {
-    let old = source.old.get(edge.low)?;
-    match old.map.svertices.as_slice().get(edge.low_svertex) {
-        Some(svertex) => Some(svertex.dir),
-        None => Some(vertex.map.svertices.as_slice().get(edge.low_svertex)?.dir),
-    }
-}
-
-// Compares the direction of the edge, which leads on from the vertex of `low`, with the direction of `low`.
+// Compares the direction of the edge, which leads on from the vertex of `low`, with the direction of `low`. An old
+// vertex whose map was moved has no svertices any more: the new vertex at its point has them.
 fn dir_order(source: &KeptEdges, edge: &Edge, low: &End) -> Ordering {
-    match dir_of(source, edge, low.vertex) {
-        Some(dir) => dir.cmp(&low.svertex.dir),
+    let mut svertices = low.vertex.map.svertices.as_slice();
+    if let Some(old) = source.old.get(edge.low) {
+        if !old.map.svertices.as_slice().is_empty() {
+            svertices = old.map.svertices.as_slice();
+        }
+    }
+    match svertices.get(edge.low_svertex) {
+        Some(svertex) => svertex.dir.cmp(&low.svertex.dir),
         None => Ordering::Less,
     }
 }
@@ -188,6 +167,23 @@ fn edge_along(source: &mut KeptEdges, low: &End) -> Option<Edge> {
     None
 }
 
+// The end with these numbers, where it matches `low`.
+fn matched_end(
+    vertices: &[Vertex],
+    low: &End,
+    number: usize,
+    svertex_number: usize,
+) -> Option<(usize, usize)>
+    ensures leads { IfSome result (λ t. LeadsTo vertices.now low.now t.0 t.1) }
+{
+    let high = end_at(vertices, number, svertex_number)?;
+    if are_matched(low, &high) {
+        Some((high.vertex_number, high.svertex_number))
+    } else {
+        None
+    }
+}
+
 // As `kept_end`, where maps differ: svertices are searched by their directions.
 #[inline(never)]
 fn searched_end(source: &mut KeptEdges, vertices: &[Vertex], low: &End) -> Option<(usize, usize)>
@@ -197,11 +193,7 @@ fn searched_end(source: &mut KeptEdges, vertices: &[Vertex], low: &End) -> Optio
     let number = number_of(source.numbers.as_slice(), edge.high);
     let svertices = vertices.get(number)?.map.svertices.as_slice();
     let to = svertex_along(svertices, edge.high_svertex, &low.svertex.dir.back())?;
-    let high = end_at(vertices, number, to)?;
-    if !are_matched(low, &high) {
-        return None;
-    }
-    Some((high.vertex_number, high.svertex_number))
+    matched_end(vertices, low, number, to)
 }
 
 // As `kept_end`, where the next edge leads on from `low` and its svertices have their old numbers. This edge is passed.
@@ -214,16 +206,18 @@ fn same_end(source: &mut KeptEdges, vertices: &[Vertex], low: &End) -> Option<(u
         return None;
     }
     let number = number_of(source.numbers.as_slice(), edge.high);
-    let high = end_at(vertices, number, edge.high_svertex)?;
-    if !are_matched(low, &high) {
-        return None;
-    }
+    let end = matched_end(vertices, low, number, edge.high_svertex)?;
     pass(source, source.passed.saturating_add(1), low.vertex_number);
-    Some((high.vertex_number, high.svertex_number))
+    Some(end)
 }
 
-// As `kept_end`, where the next edge doesn't lead on from a later vertex.
-fn near_end(source: &mut KeptEdges, vertices: &[Vertex], low: &End) -> Option<(usize, usize)>
+/// The end to which an edge of the operand leads from `low`, as the numbers of vertex and svertex, where the two ends
+/// still match. Mostly both maps were taken over, so that svertices have their old numbers.
+pub(crate) fn kept_end(
+    source: &mut KeptEdges,
+    vertices: &[Vertex],
+    low: &End,
+) -> Option<(usize, usize)>
     ensures leads { IfSome result (λ t. LeadsTo vertices.now low.now t.0 t.1) }
 {
     if source.low < low.vertex_number {
@@ -237,19 +231,4 @@ fn near_end(source: &mut KeptEdges, vertices: &[Vertex], low: &End) -> Option<(u
         return end;
     }
     searched_end(source, vertices, low)
-}
-
-/// The end to which an edge of the operand leads from `low`, as the numbers of vertex and svertex, where the two ends
-/// still match. Mostly both maps were taken over, so that svertices have their old numbers.
-pub(crate) fn kept_end(
-    source: &mut KeptEdges,
-    vertices: &[Vertex],
-    low: &End,
-) -> Option<(usize, usize)>
-    ensures leads { IfSome result (λ t. LeadsTo vertices.now low.now t.0 t.1) }
-{
-    if source.low > low.vertex_number {
-        return None;
-    }
-    near_end(source, vertices, low)
 }

@@ -182,10 +182,11 @@ fn given(oriented: &Oriented) -> (i64, i64, i64, i64)
     ensures given { form result.0 result.1 result.2 result.3 ≡ given_form oriented.now }
 {
     let plane = oriented.plane();
+    let (a, b, c, d) = (plane.a(), plane.b(), plane.c(), plane.d());
     if oriented.flipped() {
-        (-plane.a(), -plane.b(), -plane.c(), -plane.d())
+        (-a, -b, -c, -d)
     } else {
-        (plane.a(), plane.b(), plane.c(), plane.d())
+        (a, b, c, d)
     }
 }
 

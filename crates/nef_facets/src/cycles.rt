@@ -71,8 +71,8 @@ fn add_next(
     }
 }
 
-/// For each corner the number of the next corner of its cycle.
-pub(crate) fn next_corners(
+// For each corner the number of the next corner of its cycle.
+fn next_corners(
     alloc: Global,
     c: &Complex,
     corners: &[Corner],

@@ -89,32 +89,26 @@ fn first_corners(
     Ok(firsts)
 }
 
-// The plane of each corner's item.
-fn planes(alloc: Global, c: &Complex, corners: &[Corner]) -> Result<List<Plane>, OutOfMemory>
+// The plane and the mark of each corner's item.
+fn planes_and_marks(
+    alloc: Global,
+    c: &Complex,
+    corners: &[Corner],
+) -> Result<(List<Plane>, List<Label>), OutOfMemory>
     requires shows { (s : Set) × ShowsSet s c.now }
     requires corners { AreListed (complex_of c.now) corners.now }
-    ensures as_many { IfOk result (λ hs. length hs ≡ length corners.now) }
-    ensures planes { IfOk result (λ hs. ArePlanesAt (complex_of c.now) corners.now hs) }
+    ensures as_many { IfOk result (λ l. (length l.0 ≡ length corners.now) × (length l.1 ≡ length corners.now)) }
+    ensures planes { IfOk result (λ l. ArePlanesAt (complex_of c.now) corners.now l.0) }
+    ensures marks { IfOk result (λ l. AreMarksAt (complex_of c.now) corners.now l.1) }
 {
     let mut planes = List::new(alloc);
-    for corner in corners {
-        planes.push(*c.carriers.at(carrier_of(c, corner)))?;
-    }
-    Ok(planes)
-}
-
-// The mark of each corner's item.
-fn marks(alloc: Global, c: &Complex, corners: &[Corner]) -> Result<List<Label>, OutOfMemory>
-    requires corners { AreListed (complex_of c.now) corners.now }
-    ensures as_many { IfOk result (λ ls. length ls ≡ length corners.now) }
-    ensures marks { IfOk result (λ ls. AreMarksAt (complex_of c.now) corners.now ls) }
-{
     let mut marks = List::new(alloc);
     for corner in corners {
+        planes.push(*c.carriers.at(carrier_of(c, corner)))?;
         let map = &c.vertices.at(corner.vertex).map;
         marks.push(map.item_at(corner.item).mark())?;
     }
-    Ok(marks)
+    Ok((planes, marks))
 }
 
 /// The facets of a complex, numbered by first appearance over the vertices in order and the items of each in order. The
@@ -138,8 +132,7 @@ pub fn facets_of_ties(alloc: Global, c: &Complex, ties: &[Tie]) -> Result<FacetP
     let facet_of = facet_numbers(alloc, c, ties)?;
     let (corners, starts) = corners(alloc, c)?;
     let firsts = first_corners(alloc, &facet_of, &corners)?;
-    let planes = planes(alloc, c, &firsts)?;
-    let marks = marks(alloc, c, &firsts)?;
+    let (planes, marks) = planes_and_marks(alloc, c, &firsts)?;
     let cycles = facet_cycles(alloc, c, &facet_of, &corners, &starts, firsts.len())?;
     Ok(FacetParts {
         planes,

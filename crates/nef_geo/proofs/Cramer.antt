@@ -37,6 +37,10 @@ form_poly i x y z w = at (i + 0) ⊗ x ⊕ at (i + 1) ⊗ y ⊕ at (i + 2) ⊗ z
 abbrev planes : Form → Form → Form → List ℤ → List ℤ
 planes p q r xs = p.a ∷ p.b ∷ p.c ∷ p.d ∷ q.a ∷ q.b ∷ q.c ∷ q.d ∷ r.a ∷ r.b ∷ r.c ∷ r.d ∷ xs
 
+-- the normals' triple product with two of them exchanged
+pub exchanged_w : (p q r : Form) → neg_ℤ (dot (normal_of p) (cross (normal_of r) (normal_of q))) ≡ meet_w p q r
+exchanged_w p q r = ring (planes p q r []) (neg (at 0 ⊗ cross_poly 8 4 1 2 ⊕ at 1 ⊗ cross_poly 8 4 2 0 ⊕ at 2 ⊗ cross_poly 8 4 0 1)) w_poly tt
+
 -- the solution lies on the plane h
 abbrev Solves : Form → Form → Form → Form → Type 0
 Solves h p q r = form_value h (neg_ℤ (meet_x p q r)) (neg_ℤ (meet_y p q r)) (neg_ℤ (meet_z p q r)) (meet_w p q r) ≡ pos 0
@@ -149,15 +153,15 @@ IsSameRatios-from_point x y z w x' y' z' w' p q s = record {
     plain : (n n' : ℤ) → n *ℤ pos (nat_abs w') ≡ n' *ℤ pos (nat_abs w) → n *ℤ w' ≡ n' *ℤ w
     plain n n' e = ap (λ (m : ℤ). n *ℤ m) (sym (pos-abs w' q)) ∙ e ∙ ap (λ (m : ℤ). n' *ℤ m) (pos-abs w p)
 
-pub IsSameRatios-turned : (x y z w x' y' z' w' : ℤ) → IsSameRatios (neg_ℤ x) (neg_ℤ y) (neg_ℤ z) (neg_ℤ w) x' y' z' w' → IsSameRatios x y z w x' y' z' w'
+pub IsSameRatios-turned : (x y z w x' y' z' w' : ℤ) → IsSameRatios (neg_ℤ x) (neg_ℤ y) (neg_ℤ z) w x' y' z' w' → IsSameRatios x y z (neg_ℤ w) x' y' z' w'
 IsSameRatios-turned x y z w x' y' z' w' s = record {
   along_x = plain x x' w w' s.along_x;
   along_y = plain y y' w w' s.along_y;
   along_z = plain z z' w w' s.along_z;
 }
   where
-    plain : (n n' w w' : ℤ) → neg_ℤ n *ℤ w' ≡ n' *ℤ neg_ℤ w → n *ℤ w' ≡ n' *ℤ w
-    plain n n' w w' e = follows (n ∷ n' ∷ w ∷ w' ∷ []) (at 0 ⊗ at 3) (at 1 ⊗ at 2) (given (num (negsuc 0)) (neg (at 0) ⊗ at 3) (at 1 ⊗ neg (at 2)) e none) tt
+    plain : (n n' w w' : ℤ) → neg_ℤ n *ℤ w' ≡ n' *ℤ w → n *ℤ w' ≡ n' *ℤ neg_ℤ w
+    plain n n' w w' e = follows (n ∷ n' ∷ w ∷ w' ∷ []) (at 0 ⊗ at 3) (at 1 ⊗ neg (at 2)) (given (num (negsuc 0)) (neg (at 0) ⊗ at 3) (at 1 ⊗ at 2) e none) tt
 
 -- the three cross products, as the code holds them
 pub record Steps (p q r : Form) (rq pr qp : Vector) : Type 0 where

@@ -1,12 +1,6 @@
 -- Directions: positive multiples of one another, and their opposites.
-use Rattle.nef_geo.proofs.Prelude.{◌≡◌, ℕ, zero, suc, ◌≤◌, ℤ, pos, negsuc, neg_ℤ, ◌-ℤ◌, ◌*ℤ◌, ◌<ℤ◌, nat_abs, List, [], ◌∷◌, inl, inr, ◌⊎◌, arith, refl, ap, ◌∙◌, subst, w64, to_z, of_z, ◌∣◌, ints, direction_limit, IsLowest, Vector, vector, dot, IsAtMost, IsDirection, SameDirection, load, const, wrap, ◌⊟◌, exact_of, mul_pos, at, num, ◌⊕◌, ◌⊖◌, ◌⊗◌, ring, IsStretched, self-pos}
+use Rattle.nef_geo.proofs.Prelude.{◌≡◌, ℕ, zero, ◌≤◌, ℤ, pos, neg_ℤ, ◌-ℤ◌, ◌*ℤ◌, ◌<ℤ◌, nat_abs, List, [], ◌∷◌, arith, ap, ◌∙◌, subst, w64, to_z, of_z, ◌∣◌, ints, direction_limit, IsLowest, Vector, vector, dot, IsAtMost, IsDirection, SameDirection, load, const, wrap, ◌⊟◌, exact_of, mul_pos, at, num, ◌⊕◌, ◌⊖◌, ◌⊗◌, ring, IsStretched, self-pos}
 use Rattle.nef_geo.proofs.Divisors.{part_small, whole_zero}
-
--- ---- the product of a direction with itself is positive
-square_positive : (n : ℤ) → (n ≡ pos 0) ⊎ (pos 0 <ℤ (n *ℤ n))
-square_positive (pos zero) = inl refl
-square_positive (pos (suc n)) = inr (omega (arith, ints))
-square_positive (negsuc n) = inr (omega (arith, ints))
 
 -- ---- positive multiples
 pub IsDirection-part : (a b : Vector) → IsStretched a b → IsDirection a → IsDirection b

@@ -1,5 +1,5 @@
 -- Products of vectors, their sizes, and how the machine computes them.
-use Rattle.nef_geo.proofs.Prelude.{◌≡◌, ℕ, ◌+◌, ◌*◌, ◌^◌, ◌≤◌, ℤ, ◌+ℤ◌, ◌-ℤ◌, ◌*ℤ◌, nat_abs, List, [], ◌∷◌, w64, to_z, of_z, arith, refl, ap, ◌∙◌, point_limit, normal_limit, svertex_limit, direction_limit, Vector, vector, dot, cross, IsAtMost, normal_of, Dir, Plane, form_of, vector_of, Code, load, wrap, ◌⊞◌, ◌⊟◌, ◌⊠◌, Limited, exact_of, abs_plus, abs_times, abs_minors, ◌⊕◌, ◌⊖◌, ◌⊗◌}
+use Rattle.nef_geo.proofs.Prelude.{◌≡◌, ℕ, ◌+◌, ◌*◌, ◌^◌, ◌≤◌, ℤ, ◌+ℤ◌, ◌-ℤ◌, ◌*ℤ◌, nat_abs, List, [], ◌∷◌, w64, to_z, of_z, arith, refl, sym, ap, subst, ◌∙◌, point_limit, normal_limit, svertex_limit, direction_limit, Vector, vector, dot, cross, IsAtMost, normal_of, Dir, Plane, form_of, vector_of, Code, load, wrap, ◌⊞◌, ◌⊟◌, ◌⊠◌, Limited, exact_of, abs_plus, abs_times, abs_minors, ◌⊕◌, ◌⊖◌, ◌⊗◌}
 use mir.Syntax.{Width, w128}
 
 -- ---- two vectors as six variables
@@ -49,6 +49,13 @@ kept_small v k s l = rw (kept_wide v (wide_enough v k s l)) s
 -- ---- sizes
 pub IsAtMost-weaken : (k l : ℕ) (v : Vector) → k ≤ l → IsAtMost k v → IsAtMost l v
 IsAtMost-weaken k l v h s = record { of_x = omega (arith, s.of_x); of_y = omega (arith, s.of_y); of_z = omega (arith, s.of_z) }
+
+pub kept_vector : (k : ℕ) (v : Vector) → k ≤ point_limit → IsAtMost k v → vector (to_z w64 (of_z w64 v.x)) (to_z w64 (of_z w64 v.y)) (to_z w64 (of_z w64 v.z)) ≡ v
+kept_vector k v l s = same_vector _ _ _ _ _ _ (kept v.x (omega (arith, s.of_x, l))) (kept v.y (omega (arith, s.of_y, l))) (kept v.z (omega (arith, s.of_z, l)))
+
+-- numbers of a vector that passed through the machine's type
+pub passed_within : (k : ℕ) (v : Vector) → k ≤ point_limit → IsAtMost k v → IsAtMost k (vector (to_z w64 (of_z w64 v.x)) (to_z w64 (of_z w64 v.y)) (to_z w64 (of_z w64 v.z)))
+passed_within k v l s = subst (IsAtMost k) (sym (kept_vector k v l s)) s
 
 pub dot_size : (m n : ℕ) (a b : Vector) → IsAtMost m a → IsAtMost n b → nat_abs (dot a b) ≤ m * n + m * n + m * n
 dot_size m n a b h k =

@@ -83,12 +83,16 @@ impl Plane {
         requires side { k < 6 }
         ensures frame { IsAt side_forms k (form_of result) }
     {
-        let d = if k % 2 == 0 { HALF_SIDE } else { -HALF_SIDE };
-        match k / 2 {
-            0 => Plane::reduced(1, 0, 0, d),
-            1 => Plane::reduced(0, 1, 0, d),
-            _ => Plane::reduced(0, 0, 1, d),
-        }
+        let forms = [
+            [1, 0, 0, HALF_SIDE],
+            [1, 0, 0, -HALF_SIDE],
+            [0, 1, 0, HALF_SIDE],
+            [0, 1, 0, -HALF_SIDE],
+            [0, 0, 1, HALF_SIDE],
+            [0, 0, 1, -HALF_SIDE],
+        ];
+        let [a, b, c, d] = forms[k];
+        Plane { a, b, c, d }
     }
 
     // The plane of four numbers of which the first nonzero one is positive.

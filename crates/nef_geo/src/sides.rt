@@ -1,7 +1,7 @@
 //! The side of a plane on which a point lies, and the common point of three planes.
 
 ghost use Rattle.std.specs.Prelude.{◌≡◌, ◌≢◌, ◌≤◌, ◌↔◌, ◌+ℤ◌, ◌*ℤ◌};
-ghost use Rattle.nef_geo.specs.Prelude.{pos, nat_abs, IsNone, IfSome, form_at, normal_of, normal_limit, point_limit, weight_limit, vector, IsAtMost, form_of, given_form, point_of, hit_point, far_point, IsPointAtMost, sign_of, point_form_limit, hit_form_limit, upright_limit, upright_weight_limit, upright_form_limit, far_limit, far_weight_limit, far_form_limit, HasDependentNormals, IsOnlyCommon, IsSameRatios, triple_vector};
+ghost use Rattle.nef_geo.specs.Prelude.{pos, neg_ℤ, nat_abs, IsNone, IfSome, form_at, normal_of, normal_limit, point_limit, weight_limit, vector, IsAtMost, form_of, given_form, point_of, hit_point, far_point, IsPointAtMost, sign_of, point_form_limit, hit_form_limit, upright_limit, upright_weight_limit, upright_form_limit, far_limit, far_weight_limit, far_form_limit, HasDependentNormals, IsOnlyCommon, IsSameRatios, triple_vector};
 
 use crate::hit::{FarHit, Hit};
 use crate::plane::{Oriented, Plane};
@@ -76,17 +76,17 @@ fn normal(h: &Plane) -> (i64, i64, i64)
     (h.a, h.b, h.c)
 }
 
-// The point with these numbers, of which the last may be negative, but isn't zero.
+// The point `(-x/w, -y/w, -z/w)`, where w isn't zero.
 fn turned(x: i64, y: i64, z: i64, w: i64) -> Point
     requires small { IsAtMost point_limit (vector x y z) }
     requires w_small { nat_abs w ≤ weight_limit }
     requires some { w ≢ pos 0 }
-    ensures same { IsSameRatios x y z w result.x result.y result.z result.w }
+    ensures same { IsSameRatios x y z (neg_ℤ w) result.x result.y result.z result.w }
 {
-    if w > 0 {
-        Point::of(x, y, z, w)
+    if w < 0 {
+        Point::of(x, y, z, -w)
     } else {
-        Point::of(-x, -y, -z, -w)
+        Point::of(-x, -y, -z, w)
     }
 }
 
@@ -99,11 +99,11 @@ pub fn meet(p: &Plane, q: &Plane, r: &Plane) -> Option<Point>
     let np = normal(p);
     let nq = normal(q);
     let nr = normal(r);
-    let w = dot_narrow(&np, &cross_narrow(&nq, &nr));
+    let rq = cross_narrow(&nr, &nq);
+    let w = dot_narrow(&np, &rq);
     if w == 0 {
         return None;
     }
-    let rq = cross_narrow(&nr, &nq);
     let pr = cross_narrow(&np, &nr);
     let qp = cross_narrow(&nq, &np);
     let d = (p.d, q.d, r.d);

@@ -61,7 +61,7 @@ fn axis(h: &Plane) -> (i64, i64, i64)
     ensures axis { triple_vector result ≡ plane_axis (normal_of (form_of h.now)) }
 {
     if h.c == 0 && h.b == 0 {
-        (-h.c, 0, h.a)
+        (0, 0, h.a)
     } else {
         (0, h.c, -h.b)
     }

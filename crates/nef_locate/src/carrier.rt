@@ -9,7 +9,7 @@ ghost use Rattle.nef_locate.specs.Frames.{IsFramedIn, LiesBetween};
 ghost use Rattle.nef_locate.specs.Orders.{PartsOn, AreThroughEnds};
 ghost use Rattle.nef_locate.specs.Rays.{IsSkeletonAt};
 
-use crate::facet::{has_item, in_facet_among};
+use crate::facet::in_facet_among;
 use crate::point::Place;
 use nef_complex::{Bounds, Complex, PlaneItems, Span, carrier_items, carrier_spans, point_spans};
 use nef_geo::{HALF_SIDE, Hit, Plane, Point};
@@ -24,11 +24,11 @@ fn lies_between(n: i128, w: i128, bounds: &Bounds) -> bool
     ensures between { IsTrue result ↔ LiesBetween bounds.now n w }
 {
     let low = bounds.low.clamp(-HALF_SIDE, HALF_SIDE + 1);
-    if n < i128::from(low) * w {
+    if n < low as i128 * w {
         return false;
     }
     let high = bounds.high.clamp(-HALF_SIDE - 1, HALF_SIDE);
-    n <= i128::from(high) * w
+    n <= high as i128 * w
 }
 
 // Whether the hit lies within the span, and within the closed frame's bounds, in y and in z.
@@ -171,7 +171,8 @@ pub(crate) fn place_beside_vertices(
     if let Some(edge) = edge_among(c, &items, q, next) {
         return Some(Place::OnEdge(edge));
     }
-    if !has_item(c, number) {
+    // each facet has items in its plane
+    if !*c.has_item.at(number) {
         return None;
     }
     let corner = in_facet_among(c, h, items, q)?;

@@ -1,6 +1,6 @@
 //! The facet of a plane in which a point lies.
 
-ghost use Rattle.nef_complex.specs.Prelude.{ℕ, length, pos, Some, IsTrue, IsNone, IfSome, form_at, normal_of, InClosedFrame, Set, SameDirection, dot, Item, item_normal, IsPointAtMost, form_of, vector_of, hit_point, upright_limit, upright_weight_limit, Corner as PlainCorner, IsCorner, IsFlatIn, PlaneMeet as PlainMeet, Meets, IsCornerAt, HasCorner, complex_of, corner_of, meet_of, vertex_of, ShowsSet, HasItemIn, IsAt, Plane as PlaneValue};
+ghost use Rattle.nef_complex.specs.Prelude.{ℕ, length, pos, Some, IsTrue, IsNone, IfSome, form_at, normal_of, InClosedFrame, Set, SameDirection, dot, Item, item_normal, IsPointAtMost, form_of, vector_of, hit_point, upright_limit, upright_weight_limit, Corner as PlainCorner, IsCorner, IsFlatIn, PlaneMeet as PlainMeet, Meets, IsCornerAt, HasCorner, complex_of, corner_of, meet_of, vertex_of, ShowsSet};
 ghost use Rattle.nef_plane.specs.Asked.{AreItems};
 ghost use Rattle.std.specs.Prelude.{MatchOption, ◌≡◌, ◌<◌, ◌⊎◌, ◌↔◌};
 ghost use Rattle.law_complex.specs.Complexes.{Vertex as PlainVertex};
@@ -59,15 +59,6 @@ pub fn corner_toward(c: &Complex, h: &Plane, d: &Dir, met: PlaneMeet) -> Option<
             Some(Corner { vertex, item })
         }
     }
-}
-
-// Whether some vertex has an item in the carrier with this number: each facet has items in its plane.
-pub(crate) fn has_item(c: &Complex, number: usize) -> bool
-    requires shows { (s : Set) × ShowsSet s c.now }
-    requires within { number < length c.now.carriers }
-    ensures item { (h : PlaneValue) → IsAt c.now.carriers number h → (IsTrue result ↔ HasItemIn c.now.vertices (form_of h)) }
-{
-    *c.has_item.at(number)
 }
 
 // As `in_facet`, where the plane's edges and vertices are known.

@@ -4,8 +4,8 @@
 //! set or outside of it, by less than one for each plane that they come from. No clause says so, since none needs it: what
 //! is worked by such a guess is right whatever is guessed.
 
-ghost use Rattle.std.specs.Prelude.{◌≡◌, ◌<◌, ◌≤◌};
-ghost use Rattle.nef_plan.specs.Prelude.{ℕ, All, IfOk, OnOk, length, nat_abs, normal_limit, offset_limit, vec_len, NamesBelow, axis_limit, term_limit};
+ghost use Rattle.std.specs.Prelude.{◌<◌, ◌≤◌};
+ghost use Rattle.nef_plan.specs.Prelude.{ℕ, All, OnOk, length, nat_abs, normal_limit, offset_limit, term_limit};
 
 use crate::OutOfMemory;
 use nef_expr::{Node, Nodes};
@@ -96,7 +96,7 @@ impl Range {
 
 impl Block {
     /// The closed frame.
-    const FRAME: Block = Block {
+    pub(crate) const FRAME: Block = Block {
         x: Range::WHOLE,
         y: Range::WHOLE,
         z: Range::WHOLE,
@@ -107,7 +107,8 @@ impl Block {
         self.x.meets(other.x) && self.y.meets(other.y) && self.z.meets(other.z)
     }
 
-    fn common(&self, other: &Block) -> Block {
+    /// The points of both.
+    pub(crate) fn common(&self, other: &Block) -> Block {
         Block {
             x: self.x.common(other.x),
             y: self.y.common(other.y),
@@ -115,7 +116,8 @@ impl Block {
         }
     }
 
-    fn hull(&self, other: &Block) -> Block {
+    /// The least block that holds both.
+    pub(crate) fn hull(&self, other: &Block) -> Block {
         Block {
             x: self.x.hull(other.x),
             y: self.y.hull(other.y),
@@ -123,8 +125,8 @@ impl Block {
         }
     }
 
-    // The block of what it has of the half-space.
-    fn within(&self, half: &Oriented) -> Block {
+    /// The block of what it has of the half-space.
+    pub(crate) fn within(&self, half: &Oriented) -> Block {
         let (a, b, c, d) = given(half);
         let (x, y, z) = (self.x.least(a), self.y.least(b), self.z.least(c));
         Block {
@@ -151,8 +153,12 @@ fn given(half: &Oriented) -> (i64, i64, i64, i64)
     }
 }
 
-// Lists the node, and what it's an intersection of.
-fn list_operands(nodes: &Nodes, node: usize, listed: &mut Vec<usize>) -> Result<(), OutOfMemory>
+/// Lists the node, and what it's an intersection of.
+pub(crate) fn list_operands(
+    nodes: &Nodes,
+    node: usize,
+    listed: &mut Vec<usize>,
+) -> Result<(), OutOfMemory>
     requires node { node < length nodes.now }
     ensures listed { OnOk result (All (λ k. k < length nodes.now) listed.new.items) }
 {
@@ -183,8 +189,8 @@ fn within_all(nodes: &Nodes, listed: &[usize], block: Block) -> Block
     block
 }
 
-// The same, until no half-space makes it less.
-fn tightened(nodes: &Nodes, listed: &[usize], block: Block) -> Block
+/// The block of what it has of all listed half-spaces, one after the other, until none makes it less.
+pub(crate) fn tightened(nodes: &Nodes, listed: &[usize], block: Block) -> Block
     requires listed { All (λ k. k < length nodes.now) listed.now }
 {
     let mut block = block;
@@ -196,29 +202,6 @@ fn tightened(nodes: &Nodes, listed: &[usize], block: Block) -> Block
         block = less;
     }
     block
-}
-
-/// A block for each node.
-pub(crate) fn blocks_of(alloc: Global, nodes: &Nodes) -> Result<Vec<Block>, OutOfMemory>
-    ensures count { IfOk result (λ v. vec_len v ≡ length nodes.now) }
-{
-    let mut blocks: Vec<Block> = Vec::with_capacity(alloc, nodes.len())?;
-    let mut listed: Vec<usize> = Vec::new(alloc);
-    for node in 0..nodes.len() {
-        let block = match nodes.get(node) {
-            Node::Half { oriented, .. } => Block::FRAME.within(oriented),
-            Node::And(i, j) => {
-                list_operands(nodes, node, &mut listed)?;
-                let both = blocks[*i].common(&blocks[*j]);
-                tightened(nodes, listed.as_slice(), both)
-            }
-            Node::Or(i, j) | Node::Xor(i, j) => blocks[*i].hull(&blocks[*j]),
-            Node::Diff(i, _) => blocks[*i],
-            _ => Block::FRAME,
-        };
-        blocks.push(block)?;
-    }
-    Ok(blocks)
 }
 
 // Whether none of those behind the first that meet it meet each other. They are sorted by their low sides along x. It says no

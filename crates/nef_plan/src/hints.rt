@@ -180,16 +180,6 @@ fn hint_row(
     Ok(())
 }
 
-// Whether an operand, if there is one, is made by an operation of a row that goes on.
-fn row_goes_on(notes: &[Note], operand: Option<usize>) -> bool
-    requires operand { IfSome operand (λ k. k < length notes.now) }
-{
-    match operand {
-        Some(node) => notes[node].goes_on(),
-        None => false,
-    }
-}
-
 // The node before this one in its row.
 fn node_before(nodes: &Nodes, notes: &[Note], node: usize) -> Option<usize>
     requires node { node < length nodes.now }
@@ -197,7 +187,7 @@ fn node_before(nodes: &Nodes, notes: &[Note], node: usize) -> Option<usize>
     ensures before { IfSome result (λ k. k < node) }
 {
     let (first, _) = nodes.get(node).operands();
-    if row_goes_on(notes, first) {
+    if operand_note(notes, first)?.goes_on() {
         first
     } else {
         None
@@ -226,16 +216,6 @@ fn list_row(
     Ok(())
 }
 
-fn first_hints(alloc: Global, count: usize) -> Result<Vec<Hint>, OutOfMemory>
-    ensures count { IfOk result (λ v. vec_len v ≡ count) }
-{
-    let mut hints = Vec::with_capacity(alloc, count)?;
-    for _ in 0..count {
-        hints.push(Hint::Made)?;
-    }
-    Ok(hints)
-}
-
 /// A hint for each node of the script.
 pub(crate) fn hints_of(alloc: Global, script: &Script) -> Result<Vec<Hint>, OutOfMemory>
     requires within { All (SpeaksOfFirst (length script.now.nodes)) script.now.commands }
@@ -243,7 +223,7 @@ pub(crate) fn hints_of(alloc: Global, script: &Script) -> Result<Vec<Hint>, OutO
 {
     let nodes = &script.nodes;
     let notes = notes_of(alloc, script)?;
-    let mut hints = first_hints(alloc, nodes.len())?;
+    let mut hints = vec![in alloc; Hint::Made; nodes.len()]?;
     let mut row: Vec<usize> = Vec::new(alloc);
     for end in 0..nodes.len() {
         if let Some(kind) = notes[end].ended() {

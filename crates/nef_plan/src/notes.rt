@@ -5,7 +5,7 @@ ghost use Rattle.std.specs.Prelude.{◌≡◌, ◌<◌};
 ghost use Rattle.nef_plan.specs.Prelude.{ℕ, All, IfOk, IfSome, length, vec_len, NamesBelow, SpeaksOfFirst};
 
 use crate::OutOfMemory;
-use crate::blocks::{Block, blocks_of};
+use crate::blocks::{Block, list_operands, tightened};
 use crate::planning::asked_nodes;
 use crate::row::RowKind;
 use nef_expr::{Node, Nodes};
@@ -64,11 +64,22 @@ fn link_of(node: &Node) -> Option<RowKind> {
 fn first_notes(alloc: Global, nodes: &Nodes) -> Result<Vec<Note>, OutOfMemory>
     ensures count { IfOk result (λ v. vec_len v ≡ length nodes.now) }
 {
-    let blocks = blocks_of(alloc, nodes)?;
-    let mut notes = Vec::with_capacity(alloc, blocks.len())?;
-    for block in &blocks {
+    let mut notes: Vec<Note> = Vec::with_capacity(alloc, nodes.len())?;
+    let mut listed: Vec<usize> = Vec::new(alloc);
+    for node in 0..nodes.len() {
+        let block = match nodes.get(node) {
+            Node::Half { oriented, .. } => Block::FRAME.within(oriented),
+            Node::And(i, j) => {
+                list_operands(nodes, node, &mut listed)?;
+                let both = notes[*i].block.common(&notes[*j].block);
+                tightened(nodes, listed.as_slice(), both)
+            }
+            Node::Or(i, j) | Node::Xor(i, j) => notes[*i].block.hull(&notes[*j].block),
+            Node::Diff(i, _) => notes[*i].block,
+            _ => Block::FRAME,
+        };
         notes.push(Note {
-            block: *block,
+            block,
             is_own: false,
             link: None,
             looks: Looks::None,

@@ -1,11 +1,11 @@
 //! Drafts of steps, and those that make the sets of nodes.
 
 ghost use Rattle.std.specs.Prelude.{◌≡◌, ◌<◌, ◌≤◌, ◌∷◌, ◌++◌, ◌⊎◌};
-ghost use Rattle.nef_plan.specs.Prelude.{ℕ, IfOk, IfSome, OnOk, length, Some, true, [], node_set, set_of, sets_after, IsOperand, PartsAreReady, ArePlanned, GoesOn, AddsOnly, HasGrown, IsBoundIn, IsFree, IsNodeReady, IsRowOf, AreOfOneKind, BeginsWith, combined, joined, row_parts, spare, SpeaksOfFirst, AreDrafts, IsMade, IsRightDraft, DraftLooksAt, Makes, MayFollow, asked, AsksAbout, is_question, Drafts as State};
+ghost use Rattle.nef_plan.specs.Prelude.{ℕ, IfOk, IfSome, OnOk, length, Some, [], node_set, set_of, sets_after, IsOperand, PartsAreReady, ArePlanned, GoesOn, AddsOnly, HasGrown, IsBoundIn, IsFree, IsNodeReady, IsRowOf, AreOfOneKind, BeginsWith, combined, joined, row_parts, spare, AreDrafts, IsMade, IsRightDraft, DraftLooksAt, Makes, MayFollow, asked, Drafts as State};
 
 use crate::OutOfMemory;
 use crate::hints::Hint;
-use crate::planning::looked_at;
+use crate::planning::{looked_at, made_by};
 use crate::row::{Bound, Row, RowKind};
 use nef_expr::{Node, Nodes};
 use nef_script::Command;
@@ -132,36 +132,28 @@ fn demand(plan: &mut Drafts, bounds: &mut [Bound], wanted: Option<usize>) -> Res
     Ok(())
 }
 
-// Makes the sets that the step looks at, which are bound.
-fn demand_all(plan: &mut Drafts, bounds: &mut [Bound], step: &Draft) -> Result<(), OutOfMemory>
-    requires planned { ArePlanned plan.old bounds.old }
-    requires looks { (k : ℕ) → DraftLooksAt step.now k → IsBoundIn bounds.old k }
-    ensures goes_on { OnOk result (GoesOn plan.old bounds.old plan.new bounds.new []) }
-    ensures only { OnOk result ((k : ℕ) → IsBoundIn bounds.new k → IsBoundIn bounds.old k) }
-    ensures made { OnOk result ((k : ℕ) → DraftLooksAt step.now k → IsMade plan.new.steps.items k) }
-{
-    let (first, second) = looked_at(step);
-    demand(plan, bounds, first)?;
-    demand(plan, bounds, second)?;
-    Ok(())
-}
-
-/// Adds the question behind the steps that make what it asks about, which is bound.
-pub(crate) fn add_question<'a>(
+/// Adds the step behind those that make what it looks at, which is bound. A node whose set it makes wasn't bound, and is
+/// bound then.
+pub(crate) fn add_draft<'a>(
     plan: &mut Drafts<'a>,
     bounds: &mut [Bound],
-    command: &'a Command,
+    step: Draft<'a>,
 ) -> Result<(), OutOfMemory>
     requires planned { ArePlanned plan.old bounds.old }
-    requires asks { (k : ℕ) → AsksAbout command.now k → IsBoundIn bounds.old k }
-    requires question { is_question command.now ≡ true }
-    requires within { SpeaksOfFirst (length plan.old.nodes) command.now }
-    ensures goes_on { OnOk result (GoesOn plan.old bounds.old plan.new bounds.new (command.entry.now ∷ [])) }
-    ensures only { OnOk result ((k : ℕ) → IsBoundIn bounds.new k → IsBoundIn bounds.old k) }
+    requires looks { (k : ℕ) → DraftLooksAt step k → IsBoundIn bounds.old k }
+    requires right { IsRightDraft plan.old.nodes step }
+    requires unbound { (k : ℕ) → Makes step k → (k < length bounds.old) × (IsBoundIn bounds.old k → ⊥) }
+    ensures goes_on { OnOk result (GoesOn plan.old bounds.old plan.new bounds.new (asked (step.entry ∷ []))) }
+    ensures bound { OnOk result ((k : ℕ) → Makes step.entry k → IsBoundIn bounds.new k) }
+    ensures only { OnOk result ((k : ℕ) → IsBoundIn bounds.new k → IsBoundIn bounds.old k ⊎ Makes step.entry k) }
 {
-    let step = Draft::Ask(command);
-    demand_all(plan, bounds, &step)?;
+    let (first, second) = looked_at(&step);
+    demand(plan, bounds, first)?;
+    demand(plan, bounds, second)?;
     add_step(plan, step)?;
+    if let Some(node) = made_by(&step) {
+        bounds[node] = Bound::Made;
+    }
     Ok(())
 }
 
@@ -246,29 +238,6 @@ fn bind_row(
     Ok(())
 }
 
-/// Binds the node, which isn't bound, and whose set the step makes.
-pub(crate) fn bind_made<'a>(
-    plan: &mut Drafts<'a>,
-    bounds: &mut [Bound],
-    node: usize,
-    step: Draft<'a>,
-) -> Result<(), OutOfMemory>
-    requires planned { ArePlanned plan.old bounds.old }
-    requires looks { (k : ℕ) → DraftLooksAt step k → IsBoundIn bounds.old k }
-    requires right { IsRightDraft plan.old.nodes step }
-    requires makes { Makes step node }
-    requires node { node < length bounds.old }
-    requires unbound { IsBoundIn bounds.old node → ⊥ }
-    ensures goes_on { OnOk result (GoesOn plan.old bounds.old plan.new bounds.new []) }
-    ensures bound { OnOk result (IsBoundIn bounds.new node) }
-    ensures only { OnOk result ((k : ℕ) → IsBoundIn bounds.new k → IsBoundIn bounds.old k ⊎ (k ≡ node)) }
-{
-    demand_all(plan, bounds, &step)?;
-    add_step(plan, step)?;
-    bounds[node] = Bound::Made;
-    Ok(())
-}
-
 /// Binds the node, which isn't bound, and whose set is the one that `made` makes.
 pub(crate) fn bind(
     alloc: Global,
@@ -293,7 +262,7 @@ pub(crate) fn bind(
         Node::Or(i, j) => (RowKind::Union, i, j),
         Node::Xor(i, j) => (RowKind::Exclusive, i, j),
         Node::Diff(i, j) => (RowKind::Difference { from: i }, i, j),
-        _ => return bind_made(plan, bounds, node, Draft::Make { node, made }),
+        _ => return add_draft(plan, bounds, Draft::Make { node, made }),
     };
     bind_row(alloc, plan, bounds, hints, node, kind, first, second)
 }

@@ -1,7 +1,8 @@
 //! The plan of a script.
 
 ghost use Rattle.std.specs.Prelude.{◌≡◌, ◌↔◌, ◌⊎◌, ◌<◌, ◌∷◌};
-ghost use Rattle.nef_plan.specs.Prelude.{ℕ, true, Some, IfOk, IfSome, OnOk, filter, length, vec_len, slice_get, [], Binds, TurnsRight, SpeaksOfFirst, ArePlanned, GoesOn, IsBoundIn, AreNeeded, AreDrafts, AreTimely, HasMore, IsDraftBelow, DraftLooksAt, asked, AreWorkable, AsksAbout, first_asked, is_question, second_asked, IsPlanOf};
+ghost use Rattle.nef_plan.specs.Prelude.{ℕ, true, Some, IfOk, IfSome, OnOk, filter, length, vec_len, slice_get, [], Binds, TurnsRight, SpeaksOfFirst, ArePlanned, GoesOn, IsBoundIn, AreDrafts, AreTimely, HasMore, IsDraftBelow, DraftLooksAt, Makes, asked, AreWorkable, AsksAbout, first_asked, is_question, second_asked, IsPlanOf};
+ghost use Rattle.nef_expr.specs.Nodes.{IsOrdered};
 ghost use Rattle.nef_script.specs.Commands.{LooksAt};
 ghost use Rattle.nef_plan.specs.declared.row.Bound.TheVariants as bound;
 
@@ -9,7 +10,7 @@ use crate::OutOfMemory;
 use crate::hints::{Hint, hints_of};
 use crate::needed::as_needed;
 use crate::numbering::{ended, tasks_of};
-use crate::planner::{Draft, Drafts, add_question, bind, bind_made};
+use crate::planner::{Draft, Drafts, add_draft, bind};
 use crate::row::Bound;
 use crate::step::Plan;
 use nef_expr::Nodes;
@@ -77,6 +78,16 @@ pub(crate) fn looked_at(step: &Draft) -> (Option<usize>, Option<usize>)
     }
 }
 
+/// The node whose set the step makes, if it makes one.
+pub(crate) fn made_by(step: &Draft) -> Option<usize>
+    ensures made { (k : ℕ) → Makes step.now k ↔ (result ≡ Some k) }
+{
+    match step {
+        Draft::Make { node, .. } | Draft::Turn { node, .. } => Some(*node),
+        Draft::Ask(_) => None,
+    }
+}
+
 // Adds the steps of the command: none, where it binds a name to a node that is bound.
 fn add_command<'a>(
     alloc: Global,
@@ -86,6 +97,7 @@ fn add_command<'a>(
     nodes: &Nodes,
     command: &'a Command,
 ) -> Result<(), OutOfMemory>
+    requires ordered { IsOrdered nodes.now }
     requires within { SpeaksOfFirst (length nodes.now) command.now }
     requires turned { TurnsRight nodes.now command.now }
     requires looks { (k : ℕ) → LooksAt nodes.now command.now k → IsBoundIn bounds.old k }
@@ -114,13 +126,11 @@ fn add_command<'a>(
             if is_bound(bounds, *node) {
                 Ok(())
             } else {
-                // Each node names earlier ones, so the image of a node has the turned set.
-                let _count = nodes.len();
                 let (node, from, turn) = (*node, *from, *turn);
-                bind_made(plan, bounds, node, Draft::Turn { node, from, turn })
+                add_draft(plan, bounds, Draft::Turn { node, from, turn })
             }
         }
-        _ => add_question(plan, bounds, command),
+        _ => add_draft(plan, bounds, Draft::Ask(command)),
     }
 }
 
@@ -132,6 +142,7 @@ fn add_commands<'a>(
     hints: &[Hint],
     script: &'a Script,
 ) -> Result<(), OutOfMemory>
+    requires ordered { IsOrdered script.now.nodes }
     requires workable { AreWorkable script.now.nodes script.now.commands }
     requires planned { ArePlanned plan.old bounds.old }
     requires count { length bounds.old ≡ length script.now.nodes }

@@ -1,5 +1,5 @@
 //! The workers, and the caller that finishes what the workers leave.
-ghost use Rattle.std.specs.Prelude.{◌≡◌, ℕ, ◌<◌, ◌≤◌, IfOk, Some, None, slice_get, All, vec_len, vec_capacity, ◌++◌, ◌∷◌, []};
+ghost use Rattle.std.specs.Prelude.{◌≡◌, ℕ, ◌≤◌, IfOk, Some, None, slice_get, All, vec_len};
 
 use nef_core::{Board, Claim, Job, OutOfMemory};
 use nef_io::Gate;
@@ -39,27 +39,6 @@ fn work_all<J: Job, B: Board<J>, G: Gate>(
     pass
 }
 
-// Makes `count` passes of the pass.
-fn passes_of<J: Job, B: Board<J>>(
-    alloc: Global,
-    board: &B,
-    pass: &mut B::Pass,
-    count: u32,
-) -> Result<Vec<B::Pass>, OutOfMemory>
-    requires of { B.belongs board.now pass.old }
-    requires spare { count ≤ B.spare pass.old }
-    requires free { B.hand pass.old ≡ None }
-    ensures of { B.belongs board.now pass.new × (B.hand pass.new ≡ None) }
-    ensures each { IfOk result (λ v. All (λ p. B.belongs board.now p × (B.hand p ≡ None)) v.items) }
-    ensures len { IfOk result (λ v. vec_len v ≡ count) }
-{
-    let mut passes = Vec::with_capacity(alloc, count as usize)?;
-    for _ in 0..count {
-        passes.push(board.split(pass))?;
-    }
-    Ok(passes)
-}
-
 // Works the jobs by all passes, and takes the other passes in. Each other pass works in a thread of its own where one
 // can be made. `pass` works in this thread, which starts all other threads itself: a thread that a new thread starts
 // often waits for its starter's processor, while another is free. Without other passes no thread starts.
@@ -95,30 +74,6 @@ fn work_by_threads<R: Threads + Sync, J: Job, B: Board<J>, G: Gate + Sync>(
     pass
 }
 
-// Adds the result in the slot, or else the result of the job, which is worked now.
-fn add_result<J: Job>(
-    alloc: Global,
-    job: &J,
-    slot: Option<J::Out>,
-    outs: &mut Vec<J::Out>,
-) -> Result<(), OutOfMemory>
-    requires workable { J.workable job.now }
-    requires number { vec_len outs.old < J.count job.now }
-    requires room { vec_len outs.old < vec_capacity outs.old }
-    requires right { (out : _) → slot ≡ Some out → J.right job.now (vec_len outs.old) out }
-    ensures added { IfOk result (λ _. (out : _) × J.right job.now (vec_len outs.old) out × (outs.new.items ≡ outs.old.items ++ out ∷ [])) }
-    ensures room { IfOk result (λ _. vec_capacity outs.new ≡ vec_capacity outs.old) }
-{
-    match slot {
-        Some(out) => outs.push_reserved(out),
-        None => {
-            let out = job.work(alloc, outs.len() as u64)?;
-            outs.push_reserved(out);
-        }
-    }
-    Ok(())
-}
-
 // The results in the slots, where each job without a result is worked now.
 fn filled<J: Job>(
     alloc: Global,
@@ -133,7 +88,11 @@ fn filled<J: Job>(
 {
     let mut outs = Vec::with_capacity(alloc, slots.len())?;
     for slot in slots {
-        add_result(alloc, job, slot, &mut outs)?;
+        let out = match slot {
+            Some(out) => out,
+            None => job.work(alloc, outs.len() as u64)?,
+        };
+        outs.push_reserved(out);
     }
     Ok(outs)
 }
@@ -162,8 +121,11 @@ pub fn finish<R: Threads + Sync, J: Job, B: Board<J>, G: Gate + Sync>(
     ensures len { IfOk result (λ v. vec_len v ≡ J.count job.now) }
     ensures right { IfOk result (λ v. (i : ℕ) (out : _) → slice_get v.items i ≡ Some out → J.right job.now i out) }
 {
-    let others = passes_of(alloc, &board, &mut pass, workers.saturating_sub(1))?;
+    let count = workers.saturating_sub(1);
+    let mut others = Vec::with_capacity(alloc, count as usize)?;
+    for _ in 0..count {
+        others.push_reserved(board.split(&mut pass));
+    }
     let pass = work_by_threads(rt, alloc, &board, pass, others, job, gate);
-    let slots = board.close(alloc, pass)?;
-    filled(alloc, job, slots)
+    filled(alloc, job, board.close(alloc, pass)?)
 }

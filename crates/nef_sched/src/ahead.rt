@@ -236,7 +236,7 @@ fn all_of<X: Drop>(alloc: Global, list: Vec<Option<X>>) -> Result<Vec<X>, OutOfM
     let mut outs = Vec::with_capacity(alloc, list.len())?;
     for slot in list {
         if let Some(out) = slot {
-            outs.push(out)?;
+            outs.push_reserved(out);
         }
     }
     Ok(outs)

@@ -223,17 +223,6 @@ fn passes_of(
     Ok(list)
 }
 
-// Appends the numbers to the list, which has room for them.
-fn append(list: &mut Vec<usize>, more: &[usize])
-    requires room { vec_len list.old + length more.now ≤ vec_capacity list.old }
-    ensures items { list.new.items ≡ list.old.items ++ more.now }
-    ensures capacity { vec_capacity list.new ≡ vec_capacity list.old }
-{
-    for number in more {
-        list.push_reserved(*number);
-    }
-}
-
 // Takes the other pass in, with what it took.
 fn joined(queue: &RoundQueue, into: RoundPass, other: RoundPass) -> RoundPass
     requires of { IsPassOf queue.now into.pass × IsPassOf queue.now other.pass }
@@ -248,10 +237,13 @@ fn joined(queue: &RoundQueue, into: RoundPass, other: RoundPass) -> RoundPass
         mut taken,
         ended,
     } = into;
-    let more = other.taken;
+    let mut more = other.taken;
     queue.absorb::<Cut>(&mut pass, other.pass);
     queue.learn_as::<Takes>(&mut pass);
-    append(&mut taken, &more);
+    // the list has room for all numbers
+    let Ok(()) = taken.append(&mut more) else {
+        unreachable!()
+    };
     RoundPass {
         pass,
         taken,

@@ -49,8 +49,7 @@ impl<'a> Reader<'a> {
         match statement {
             Statement::Bind { name, node } => {
                 let node = self.sets.push(node)?;
-                self.bind(name, node, Command::Bind { line, node })?;
-                Ok(())
+                self.bind(name, node, Command::Bind { line, node })
             }
             Statement::Turn { name, from, turn } => {
                 let node = self.sets.turn(alloc, from, usize::from(turn))?;
@@ -60,17 +59,12 @@ impl<'a> Reader<'a> {
                     from,
                     turn,
                 };
-                self.bind(name, node, command)?;
-                Ok(())
+                self.bind(name, node, command)
             }
-            Statement::Ask(question) => {
-                self.commands.push(question)?;
-                Ok(())
-            }
+            Statement::Ask(question) => self.commands.push(question),
             Statement::Print { node, name } => {
                 let name = Name::new(alloc, name)?;
-                self.commands.push(Command::Print { line, node, name })?;
-                Ok(())
+                self.commands.push(Command::Print { line, node, name })
             }
         }
     }
@@ -85,8 +79,7 @@ impl<'a> Reader<'a> {
     {
         self.names.push(name)?;
         self.bound.push(node)?;
-        self.commands.push(command)?;
-        Ok(())
+        self.commands.push(command)
     }
 }
 

@@ -31,7 +31,10 @@ pub(crate) struct Early {
 pub(crate) fn of_block(table: &[Option<usize>], now: usize, value: Option<usize>) -> Option<usize>
     ensures entry { IfSome result (λ n. (k o : ℕ) × (value ≡ Some k) × (k ≡ now + o) × (slice_get table.now o ≡ Some (Some n))) }
 {
-    *table.get(value?.checked_sub(now)?)?
+    match value {
+        Some(value) if now <= value && value - now < table.len() => table[value - now],
+        _ => None,
+    }
 }
 
 // The task of the step with this number.

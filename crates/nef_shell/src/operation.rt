@@ -54,7 +54,10 @@ fn on_two<'a>(
 ) -> Option<Operation<'a>>
     ensures makes { (s t : Set) → IsShown s (option_copied first.entry) → IsShown t (option_copied second.entry) → IsSomeAnd result (λ o. MakesSet o (op_set op s t)) }
 {
-    Some(Operation::Binary(op, first?, second?))
+    match (first, second) {
+        (Some(first), Some(second)) => Some(Operation::Binary(op, first, second)),
+        _ => None,
+    }
 }
 
 // The operation of the expression, if its operands are there.

@@ -23,10 +23,8 @@ pub fn build(alloc: Global, raw: RawStars) -> Result<SphereMap, OutOfMemory>
     ensures only { IfOk result (λ m. (N : Map) → Valid N → Least N → Ordered N → N.mark ≡ raw.mark → SameLabels (map_of m) N → map_of m ≡ N) }
 {
     let simple = RawStars {
-        mark: raw.mark,
         stars: simplified(raw.stars),
-        sloop: raw.sloop,
-        ground: raw.ground,
+        ..raw
     };
     map_of_simple(alloc, simple)
 }

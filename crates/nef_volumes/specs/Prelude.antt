@@ -5,8 +5,6 @@ pub use Rattle.nef_facets.specs.Prelude.{Adds, Any, AreTied, AreTiedWithin, Face
 pub use Rattle.law_links.specs.Links.{LinkInSface, LinkOutside}
 pub use Rattle.nef_classes.specs.Tables.{AreNumbers, HasCounts, IsCellIn}
 pub use Rattle.nef_classes.specs.declared.table.Tie.{Tie}
-pub use Rattle.nef_core.specs.Work.{crew_of}
-pub use Rattle.nef_core.specs.declared.work.Work.TheVariants.{Parts}
 pub use Rattle.nef_complex.specs.declared.parts.Cycle.{Cycle}
 pub use Rattle.nef_volumes.specs.Joining.{AreNumberLinks, AreRenumbered, HaveNumbers, IsRenumbered, TableIsBelow}
 pub use Rattle.nef_volumes.specs.Joins.{AreCounted, FacetsAreComponents, IsPartAt, VolumesAreComponents}

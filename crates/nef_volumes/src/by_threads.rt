@@ -1,7 +1,7 @@
 //! All parts of a complex, made by several threads.
 
 ghost use Rattle.std.specs.Prelude.{◌≡◌, ◌≤◌, ◌++◌};
-ghost use Rattle.nef_volumes.specs.Prelude.{length, IfOk, Set, complex_of, ShowsSet, IsParts, SfaceNumbers, crew_of, Parts as MakingParts, FacetsAreComponents, VolumesAreComponents, AreCounted, AreFacetPieces, AreDownBetween};
+ghost use Rattle.nef_volumes.specs.Prelude.{length, IfOk, Set, complex_of, ShowsSet, IsParts, SfaceNumbers, FacetsAreComponents, VolumesAreComponents, AreCounted, AreFacetPieces, AreDownBetween};
 
 use crate::OutOfMemory;
 use crate::all::{parts, parts_of_pieces};
@@ -72,24 +72,17 @@ fn parts_by_four<R: Threads>(rt: &R, alloc: Global, c: &Complex) -> Result<Parts
     parts_of_pieces(alloc, c, facets, sface_of, down)
 }
 
-// How many threads make the parts.
-fn threads_for(c: &Complex, workers: u32) -> u32
-    ensures threads { result ≡ crew_of (MakingParts (length c.now.vertices)) workers }
-{
-    Work::Parts(c.vertices.len()).crew(workers)
-}
-
 // The parts, made by one, two or four threads.
 fn parts_by<R: Threads>(
     rt: &R,
     alloc: Global,
     c: &Complex,
-    threads: u32,
+    workers: u32,
 ) -> Result<Parts, OutOfMemory>
     requires shows { (s : Set) × ShowsSet s c.now }
     ensures parts { IfOk result (λ p. IsParts (complex_of c.now) p) }
 {
-    match threads {
+    match Work::Parts(c.vertices.len()).crew(workers) {
         1 => parts(alloc, c),
         2 => parts_by_two(rt, alloc, c),
         _ => parts_by_four(rt, alloc, c),
@@ -112,5 +105,5 @@ pub fn parts_by_threads<R: Threads + Sync>(
     ensures sides_joined { IfOk result (λ p. VolumesAreComponents c.now p) }
     ensures counted { IfOk result (λ p. AreCounted c.now p) }
 {
-    parts_by(rt, alloc, c, threads_for(c, workers))
+    parts_by(rt, alloc, c, workers)
 }

@@ -1,6 +1,6 @@
-use Rattle.nef_canon.proofs.Prelude.{List, ℕ, codes, decimal, get_or, flat_map, side_words}
+use Rattle.nef_canon.proofs.Prelude.{List, ℕ, [], ◌∷◌, ◌++◌, codes, on_ok_weaker, flat_map, side_words}
 use Rattle.nef_complex.specs.declared.parts.Side.{Side}
-use Rattle.nef_canon.proofs.Lines.{line-begun, more-elements, all-elements, both-words, line-ended}
+use Rattle.nef_canon.proofs.Lines.{appended, line-begun, more-elements, all-elements, line-ended}
 use Rattle.nef_canon.proofs.text.add_shell.Goals as goal
 
 pub loop-s-init : goal.loop-s-init
@@ -11,9 +11,8 @@ loop-s-preserved c =
     let xs : List Side = c.as_slice-s-items.result.now in
     let i = c.loop-s.s-index in
     let d : Side = record { vertex = 0; side = 0 } in
-    let k : Side = get_or xs i d in
     more-elements side_words xs c.args.shell.now.sides c.as_slice-s-items.ensures.all i d c.loop-s-test.true c.args.text.now.items (codes "h") _ _ c.loop-s.invariant
-    (both-words _ _ _ (decimal k.vertex) (decimal k.side) c.in_ok-add_count.ensures.added c.in_ok-add_count-2.ensures.added)
+    c.in_ok-add_counts.ensures.added
 
 pub returns : goal.returns
 returns c =
@@ -21,4 +20,5 @@ returns c =
     let xs : List Side = c.as_slice-s-items.result.now in
     let ks : List Side = c.args.shell.now.sides in
     let all = all-elements side_words xs ks c.as_slice-s-items.ensures.all c.loop-s.s-index c.loop-s-test.false o (codes "h") _ c.loop-s.invariant in
-    record { added = line-ended o (codes "h") _ _ (flat_map side_words ks) all (c.in_ok-push-2.ensures.items) }
+    let t : List ℕ = c.loop-s.text.items in
+    record { added = on_ok_weaker c.extend_from_slice.result (λ h. line-ended o (codes "h") t _ (flat_map side_words ks) all h) (appended c.extend_from_slice.result _ (t ++ 10 ∷ []) t c.extend_from_slice.ensures.items) }

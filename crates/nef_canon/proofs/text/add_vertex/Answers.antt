@@ -1,22 +1,17 @@
-use Rattle.nef_canon.proofs.Prelude.{◌≡◌, List, ℕ, [], ◌∷◌, ◌++◌, codes, ap, ◌∙◌, on_ok_weaker, flat_map, label_word, option_word, point_words, vertex_line, svertex_line, arc_line, sloop_line}
+use Rattle.nef_canon.proofs.Prelude.{◌≡◌, List, ℕ, ◌++◌, ap, ◌∙◌, on_ok_weaker, flat_map, vertex_line, svertex_line, arc_line, sloop_line}
 use Rattle.nef_smap.specs.declared.map.SVertex.{SVertex}
 use Rattle.nef_smap.specs.declared.map.SArc.{SArc}
 use Rattle.nef_smap.specs.declared.map.SLoop.{SLoop}
-use Rattle.nef_canon.proofs.Lines.{line-begun, more-words, line-ended, four-pieces, as-list}
+use Rattle.nef_canon.proofs.Lines.{four-pieces, as-list}
 use Rattle.nef_canon.proofs.text.add_vertex.Goals as goal
 
 pub returns : goal.returns
 returns c =
     let o : List ℕ = c.args.text.now.items in
     let v = c.args.v.now in
-    let w : List ℕ = codes "v" in
-    let e0 = line-begun o w _ (c.in_ok-push.ensures.items) in
-    let e1 = more-words o w _ _ ([]) (point_words v.point) e0 (c.in_ok-add_point.ensures.added) in
-    let e2 = more-words o w _ _ (point_words v.point) (label_word v.map.mark ∷ []) e1 (c.in_ok-add_label.ensures.added) in
-    let e3 = more-words o w _ _ ((point_words v.point) ++ (label_word v.map.mark ∷ [])) (option_word v.map.ground ∷ []) e2 (c.in_ok-add_option.ensures.added) in
-    let s : List ℕ = c.push-2.new.self.items in
+    let s : List ℕ = c.add_line.new.text.items in
     let t : List ℕ = c.add_each.new.text.items in
-    let apex : s ≡ o ++ vertex_line v = line-ended o w _ _ (((point_words v.point) ++ (label_word v.map.mark ∷ [])) ++ (option_word v.map.ground ∷ [])) e3 (c.in_ok-push-2.ensures.items) in
+    let apex : s ≡ o ++ vertex_line v = c.in_ok-add_line.ensures.added in
     let svertices = c.in_ok-add_each.ensures.added svertex_line (λ before item outcome after p. p) ∙ ap (λ (vs : List SVertex). s ++ flat_map svertex_line vs) c.as_slice.ensures.all in
     let arcs = c.in_ok-add_each-2.ensures.added arc_line (λ before item outcome after p. p) ∙ ap (λ (ks : List SArc). t ++ flat_map arc_line ks) c.as_slice-2.ensures.all in
     let u : List ℕ = c.add_each-2.new.text.items in

@@ -1,6 +1,6 @@
-use Rattle.nef_canon.proofs.Prelude.{◌≡◌, List, ℕ, [], ◌∷◌, ◌++◌, codes, arith, ap, ◌∙◌, flat_map, label_word, volume_line, shell_line}
+use Rattle.nef_canon.proofs.Prelude.{◌≡◌, List, ℕ, ◌++◌, arith, ap, ◌∙◌, flat_map, volume_line, shell_line}
 use Rattle.nef_complex.specs.declared.parts.Shell.{Shell}
-use Rattle.nef_canon.proofs.Lines.{line-begun, more-words, line-ended, versioned, row-more, rows-all, first-version, second-version, volumes-all}
+use Rattle.nef_canon.proofs.Lines.{versioned, row-more, rows-all, first-version, second-version, volumes-all}
 use Rattle.nef_canon.proofs.text.add_volumes.Goals as goal
 use Rattle.nef_canon.proofs.text.add_volumes.Goals.{in-One, in-Two+in_ok-add_each-in-Two}
 
@@ -13,11 +13,8 @@ loop-number-preserved c =
     let x = c.at-label.result.now in
     let row : List Shell = c.at.result.now in
     let s : List ℕ = c.loop-number.text.items in
-    let u : List ℕ = c.push-in-loop-number.new.self.items in
-    let word : List ℕ = codes "w" in
-    let e0 = line-begun s word _ (c.in_ok-push.ensures.items) in
-    let e1 = more-words s word _ _ ([]) (label_word x ∷ []) e0 (c.in_ok-add_label.ensures.added) in
-    let written : u ≡ s ++ volume_line x = line-ended s word _ _ (label_word x ∷ []) e1 (c.in_ok-push-2.ensures.items) in
+    let u : List ℕ = c.add_line.new.text.items in
+    let written : u ≡ s ++ volume_line x = c.in_ok-add_line.ensures.added in
     row-more (versioned volume_line (flat_map shell_line) version) c.args.parts.now.volumes c.args.parts.now.shells c.loop-number.number x row c.at-label.ensures.element c.at.ensures.element
     (let n = c.len-number-end.ensures.len in let t = c.loop-number-test.true in omega arith) c.args.text.now.items s c.match-version.text.items c.loop-number.invariant
     (elim c.match-version.branch [

@@ -4,17 +4,11 @@ use mir.Syntax.{w128}
 use Rattle.std.proofs.lemmas.Bool.{eqb-true}
 use Rattle.nef_edges.proofs.along.is_flat.Goals as goal
 
-pub scaled-requires-clause-n_small : goal.scaled-requires-clause-n_small
-scaled-requires-clause-n_small c = handed w128 moment_limit c.args.a c.ranges.a c.requires.a_small
+pub scaled-requires : goal.scaled-requires
+scaled-requires c = record { n_small = handed w128 moment_limit c.args.a c.ranges.a c.requires.a_small; m_small = handed w64 direction_limit c.args.f c.ranges.f c.requires.f_small }
 
-pub scaled-requires-clause-m_small : goal.scaled-requires-clause-m_small
-scaled-requires-clause-m_small c = handed w64 direction_limit c.args.f c.ranges.f c.requires.f_small
-
-pub scaled-requires-2-clause-n_small : goal.scaled-requires-2-clause-n_small
-scaled-requires-2-clause-n_small c = handed w128 moment_limit c.args.b c.ranges.b c.requires.b_small
-
-pub scaled-requires-2-clause-m_small : goal.scaled-requires-2-clause-m_small
-scaled-requires-2-clause-m_small c = handed w64 direction_limit c.args.e c.ranges.e c.requires.e_small
+pub scaled-requires-2 : goal.scaled-requires-2
+scaled-requires-2 c = record { n_small = handed w128 moment_limit c.args.b c.ranges.b c.requires.b_small; m_small = handed w64 direction_limit c.args.e c.ranges.e c.requires.e_small }
 
 pub returns : goal.returns
 returns c =

@@ -1,6 +1,15 @@
 use Rattle.nef_edges.proofs.Prelude.{ap, ◌∙◌, Ordering, ordering_then, moment_of, ratio_order}
-use Rattle.nef_edges.proofs.Products.{ratio-is}
+use Rattle.nef_edges.proofs.Products.{handed-small, ratio-is}
 use Rattle.nef_edges.proofs.arriving.moment_cmp.Goals as goal
+
+pub ratio_cmp-requires : goal.ratio_cmp-requires
+ratio_cmp-requires c = record { n_small = handed-small c.product-n.result.0 c.product-n.ensures.x_small; m_small = handed-small c.product-m.result.0 c.product-m.ensures.x_small }
+
+pub ratio_cmp-requires-2 : goal.ratio_cmp-requires-2
+ratio_cmp-requires-2 c = record { n_small = handed-small c.product-n.result.1 c.product-n.ensures.y_small; m_small = handed-small c.product-m.result.1 c.product-m.ensures.y_small }
+
+pub ratio_cmp-requires-3 : goal.ratio_cmp-requires-3
+ratio_cmp-requires-3 c = record { n_small = handed-small c.product-n.result.2 c.product-n.ensures.z_small; m_small = handed-small c.product-m.result.2 c.product-m.ensures.z_small }
 
 pub returns : goal.returns
 returns c =

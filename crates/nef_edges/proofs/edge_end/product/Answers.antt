@@ -3,41 +3,14 @@ use mir.Syntax.{w128}
 use Rattle.nef_edges.proofs.Ways.{handed, read, difference-read}
 use Rattle.nef_edges.proofs.edge_end.product.Goals as goal
 
-pub minor-requires-clause-a_small : goal.minor-requires-clause-a_small
-minor-requires-clause-a_small c = read point_limit c.y.result _ (record { sfits = c.y.type_inv }) c.y.ensures.y c.args.point.now.y_small
+pub minor-requires : goal.minor-requires
+minor-requires c = record { a_small = read point_limit c.y.result _ (record { sfits = c.y.type_inv }) c.y.ensures.y c.args.point.now.y_small; b_small = read point_limit c.z.result _ (record { sfits = c.z.type_inv }) c.z.ensures.z c.args.point.now.z_small; e_small = read direction_limit c.y-2.result _ (record { sfits = c.y-2.type_inv }) c.y-2.ensures.y c.args.dir.now.y_small; f_small = read direction_limit c.z-2.result _ (record { sfits = c.z-2.type_inv }) c.z-2.ensures.z c.args.dir.now.z_small }
 
-pub minor-requires-clause-b_small : goal.minor-requires-clause-b_small
-minor-requires-clause-b_small c = read point_limit c.z.result _ (record { sfits = c.z.type_inv }) c.z.ensures.z c.args.point.now.z_small
+pub minor-requires-2 : goal.minor-requires-2
+minor-requires-2 c = record { a_small = read point_limit c.z-3.result _ (record { sfits = c.z-3.type_inv }) c.z-3.ensures.z c.args.point.now.z_small; b_small = read point_limit c.x.result _ (record { sfits = c.x.type_inv }) c.x.ensures.x c.args.point.now.x_small; e_small = read direction_limit c.z-4.result _ (record { sfits = c.z-4.type_inv }) c.z-4.ensures.z c.args.dir.now.z_small; f_small = read direction_limit c.x-2.result _ (record { sfits = c.x-2.type_inv }) c.x-2.ensures.x c.args.dir.now.x_small }
 
-pub minor-requires-clause-e_small : goal.minor-requires-clause-e_small
-minor-requires-clause-e_small c = read direction_limit c.y-2.result _ (record { sfits = c.y-2.type_inv }) c.y-2.ensures.y c.args.dir.now.y_small
-
-pub minor-requires-clause-f_small : goal.minor-requires-clause-f_small
-minor-requires-clause-f_small c = read direction_limit c.z-2.result _ (record { sfits = c.z-2.type_inv }) c.z-2.ensures.z c.args.dir.now.z_small
-
-pub minor-requires-2-clause-a_small : goal.minor-requires-2-clause-a_small
-minor-requires-2-clause-a_small c = read point_limit c.z-3.result _ (record { sfits = c.z-3.type_inv }) c.z-3.ensures.z c.args.point.now.z_small
-
-pub minor-requires-2-clause-b_small : goal.minor-requires-2-clause-b_small
-minor-requires-2-clause-b_small c = read point_limit c.x.result _ (record { sfits = c.x.type_inv }) c.x.ensures.x c.args.point.now.x_small
-
-pub minor-requires-2-clause-e_small : goal.minor-requires-2-clause-e_small
-minor-requires-2-clause-e_small c = read direction_limit c.z-4.result _ (record { sfits = c.z-4.type_inv }) c.z-4.ensures.z c.args.dir.now.z_small
-
-pub minor-requires-2-clause-f_small : goal.minor-requires-2-clause-f_small
-minor-requires-2-clause-f_small c = read direction_limit c.x-2.result _ (record { sfits = c.x-2.type_inv }) c.x-2.ensures.x c.args.dir.now.x_small
-
-pub minor-requires-3-clause-a_small : goal.minor-requires-3-clause-a_small
-minor-requires-3-clause-a_small c = read point_limit c.x-3.result _ (record { sfits = c.x-3.type_inv }) c.x-3.ensures.x c.args.point.now.x_small
-
-pub minor-requires-3-clause-b_small : goal.minor-requires-3-clause-b_small
-minor-requires-3-clause-b_small c = read point_limit c.y-3.result _ (record { sfits = c.y-3.type_inv }) c.y-3.ensures.y c.args.point.now.y_small
-
-pub minor-requires-3-clause-e_small : goal.minor-requires-3-clause-e_small
-minor-requires-3-clause-e_small c = read direction_limit c.x-4.result _ (record { sfits = c.x-4.type_inv }) c.x-4.ensures.x c.args.dir.now.x_small
-
-pub minor-requires-3-clause-f_small : goal.minor-requires-3-clause-f_small
-minor-requires-3-clause-f_small c = read direction_limit c.y-4.result _ (record { sfits = c.y-4.type_inv }) c.y-4.ensures.y c.args.dir.now.y_small
+pub minor-requires-3 : goal.minor-requires-3
+minor-requires-3 c = record { a_small = read point_limit c.x-3.result _ (record { sfits = c.x-3.type_inv }) c.x-3.ensures.x c.args.point.now.x_small; b_small = read point_limit c.y-3.result _ (record { sfits = c.y-3.type_inv }) c.y-3.ensures.y c.args.point.now.y_small; e_small = read direction_limit c.x-4.result _ (record { sfits = c.x-4.type_inv }) c.x-4.ensures.x c.args.dir.now.x_small; f_small = read direction_limit c.y-4.result _ (record { sfits = c.y-4.type_inv }) c.y-4.ensures.y c.args.dir.now.y_small }
 
 pub returns-clause-x : goal.returns-clause-x
 returns-clause-x c = difference-read c.minor.result c.y.result c.z-2.result c.z.result c.y-2.result _ _ _ _ (record { sfits = c.minor.type_inv }) (record { sfits = c.y.type_inv }) (record { sfits = c.z-2.type_inv }) (record { sfits = c.z.type_inv }) (record { sfits = c.y-2.type_inv }) c.y.ensures.y c.z-2.ensures.z c.z.ensures.z c.y-2.ensures.y c.minor.ensures.minor

@@ -8,6 +8,6 @@ returns-then-flipped c =
     let o = c.args.oriented.now in let g = c.plane-plane.result in
     let a = g.a_small in let b = g.b_small in let e = g.c_small in let d = g.d_small in
     record {
-      given = same-form _ _ _ _ _ _ _ _ (minus-word c.a.result g.a c.a.ensures.a (omega (arith, a))) (minus-word c.b.result g.b c.b.ensures.b (omega (arith, b))) (minus-word c.c.result g.c c.c.ensures.c (omega (arith, e))) (minus-word c.d.result g.d c.d.ensures.d d)
+      given = same-form _ _ _ _ _ _ _ _ (minus-word c.a-a.result g.a c.a-a.ensures.a (omega (arith, a))) (minus-word c.b-b.result g.b c.b-b.ensures.b (omega (arith, b))) (minus-word c.c-c.result g.c c.c-c.ensures.c (omega (arith, e))) (minus-word c.d-d.result g.d c.d-d.ensures.d d)
           ∙ given-flipped o g c.plane-plane.ensures.plane (sym c.flipped.ensures.flipped ∙ c.if-flipped.true);
     }

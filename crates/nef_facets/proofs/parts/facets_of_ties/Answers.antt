@@ -8,14 +8,14 @@ facet_cycles-requires-clause-count c =
     let js : List Corner = c.in_ok-firsts.firsts.items in
     let F : AreFirsts rows c.in_ok-corners.corners.items js = subst (λ (ks : List Corner). AreFirsts rows ks js) c.deref.ensures.value c.in_ok-firsts.ensures.firsts in
     λ i k n a f.
-    let b = F.all i n k (subst (λ (ks : List Corner). IsAt ks i k) c.deref-4.ensures.value a) f in
+    let b = F.all i n k (subst (λ (ks : List Corner). IsAt ks i k) c.deref-3.ensures.value a) f in
     let e = c.len.ensures in let o = c.in_ok-firsts.firsts.ok in
     omega arith
 
 pub facet_cycles-requires-clause-starts : goal.facet_cycles-requires-clause-starts
 facet_cycles-requires-clause-starts c =
-    subst (λ (ks : List Corner). StandFrom ks c.deref-5.result.now) (sym c.deref-4.ensures.value)
-    (subst (λ (fs : List ℕ). StandFrom c.in_ok-corners.corners.items fs) (sym c.deref-5.ensures.value) c.in_ok-corners.ensures.starts)
+    subst (λ (ks : List Corner). StandFrom ks c.deref-4.result.now) (sym c.deref-3.ensures.value)
+    (subst (λ (fs : List ℕ). StandFrom c.in_ok-corners.corners.items fs) (sym c.deref-4.ensures.value) c.in_ok-corners.ensures.starts)
 
 pub returns : goal.returns
 returns c =
@@ -26,12 +26,12 @@ returns c =
     let e = c.len.ensures in let o = c.in_ok-firsts.firsts.ok in
     let many : c.len.result ≡ length js = omega arith in
     record {
-      parts = facet-parts S.0 (complex_of c.args.c.now) (record { planes = c.in_ok-planes.planes; marks = c.in_ok-marks.marks; cycles = c.in_ok-cycles.cycles; facet_of = rows }) c.in_ok-corners.corners.items js S.1.shows
+      parts = facet-parts S.0 (complex_of c.args.c.now) (record { planes = c.in_ok-planes.planes; marks = c.in_ok-planes.marks; cycles = c.in_ok-cycles.cycles; facet_of = rows }) c.in_ok-corners.corners.items js S.1.shows
           c.in_ok-facet_of.ensures.numbers c.in_ok-corners.ensures.all F
-          (c.in_ok-planes.ensures.as_many ∙ ap (λ (ks : List Corner). length ks) c.deref-2.ensures.value)
-          (c.in_ok-marks.ensures.as_many ∙ ap (λ (ks : List Corner). length ks) c.deref-3.ensures.value)
+          (c.in_ok-planes.ensures.as_many.0 ∙ ap (λ (ks : List Corner). length ks) c.deref-2.ensures.value)
+          (c.in_ok-planes.ensures.as_many.1 ∙ ap (λ (ks : List Corner). length ks) c.deref-2.ensures.value)
           (c.in_ok-cycles.ensures.as_many ∙ many)
           (λ n h k a b. c.in_ok-planes.ensures.planes n h k a (subst (λ (ks : List Corner). IsAt ks n k) (sym c.deref-2.ensures.value) b))
-          (λ n l k a b. c.in_ok-marks.ensures.marks n l k a (subst (λ (ks : List Corner). IsAt ks n k) (sym c.deref-3.ensures.value) b))
+          (λ n l k a b. c.in_ok-planes.ensures.marks n l k a (subst (λ (ks : List Corner). IsAt ks n k) (sym c.deref-2.ensures.value) b))
           c.in_ok-cycles.ensures.cycles;
     }

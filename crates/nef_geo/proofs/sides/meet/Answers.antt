@@ -1,6 +1,6 @@
-use Rattle.nef_geo.proofs.Prelude.{rules, ◌≡◌, ◌≢◌, ℕ, ◌≤◌, ℤ, pos, nat_abs, to_z, of_z, w64, arith, refl, sym, ap, subst, ◌∙◌, lit≤, normal_limit, offset_limit, svertex_limit, point_limit, weight_limit, Form, normal_of, Vector, vector, dot, cross, IsAtMost, form_of, triple_vector, Plane}
-use Rattle.nef_geo.proofs.Products.{kept, dot_kept, dot_size, cross_is, IsAtMost-weaken}
-use Rattle.nef_geo.proofs.Cramer.{constants, meet_w, Steps, steps_x, steps_y, steps_z, IsOnlyCommon-from_ratios}
+use Rattle.nef_geo.proofs.Prelude.{rules, ◌≡◌, ◌≢◌, ◌≤◌, ℤ, pos, neg_ℤ, nat_abs, to_z, of_z, w64, arith, ints, refl, sym, ap, subst, ◌∙◌, lit≤, normal_limit, offset_limit, svertex_limit, point_limit, weight_limit, Form, normal_of, Vector, vector, dot, cross, IsAtMost, form_of, triple_vector, Plane}
+use Rattle.nef_geo.proofs.Products.{kept, passed_within, dot_kept, dot_size, cross_is, IsAtMost-weaken}
+use Rattle.nef_geo.proofs.Cramer.{constants, meet_w, exchanged_w, Steps, steps_x, steps_y, steps_z, IsOnlyCommon-from_ratios}
 use Rattle.nef_geo.proofs.sides.meet.Goals as goal
 
 constants_within : (p q r : Plane) → IsAtMost offset_limit (constants (form_of p) (form_of q) (form_of r))
@@ -18,29 +18,25 @@ size n a b h k e = subst (λ (m : ℤ). nat_abs m ≤ point_limit) (sym e) (let 
 kept_size : (n : ℤ) → nat_abs n ≤ point_limit → nat_abs (to_z w64 (of_z w64 n)) ≤ point_limit
 kept_size n h = rw (kept n h) h
 
--- numbers of a vector that passed through the machine's type
-passed_within : (k : ℕ) (v : Vector) → k ≤ point_limit → IsAtMost k v → IsAtMost k (vector (to_z w64 (of_z w64 v.x)) (to_z w64 (of_z w64 v.y)) (to_z w64 (of_z w64 v.z)))
-passed_within k v l s = record {
-  of_x = rw (kept v.x (omega (arith, s.of_x, l))) s.of_x;
-  of_y = rw (kept v.y (omega (arith, s.of_y, l))) s.of_y;
-  of_z = rw (kept v.z (omega (arith, s.of_z, l))) s.of_z;
-}
+-- the first dot product is the negative triple product of the normals
+triple_is : (p q r : Form) (np nq nr k : Vector) (w : ℤ) → np ≡ normal_of p → nq ≡ normal_of q → nr ≡ normal_of r → k ≡ cross nr nq → w ≡ dot np k → neg_ℤ w ≡ meet_w p q r
+triple_is p q r np nq nr k w ep eq er ek e =
+    ap neg_ℤ (e ∙ ap (λ (v : Vector). dot v k) ep ∙ ap (dot (normal_of p)) (cross_is (normal_of r) (normal_of q) _ _ _ er eq ek)) ∙ exchanged_w p q r
 
--- the first dot product is the triple product of the normals
-triple_is : (p q r : Form) (np nq nr k : Vector) (w : ℤ) → np ≡ normal_of p → nq ≡ normal_of q → nr ≡ normal_of r → k ≡ cross nq nr → w ≡ dot np k → w ≡ meet_w p q r
-triple_is p q r np nq nr k w ep eq er ek e = e ∙ ap (λ (v : Vector). dot v k) ep ∙ ap (dot (normal_of p)) (cross_is (normal_of q) (normal_of r) _ _ _ eq er ek)
+not_zero : (n : ℤ) → n ≢ pos 0 → neg_ℤ n ≢ pos 0
+not_zero n h e = h (omega (arith, ints, e))
 
 pub dot_narrow-w-requires : goal.dot_narrow-w-requires
 dot_narrow-w-requires c = record {
   left = IsAtMost-weaken normal_limit offset_limit (triple_vector c.normal-np.result) (lit≤ tt) c.normal-np.ensures.small;
-  right = c.cross_narrow.ensures.small;
+  right = c.cross_narrow-rq.ensures.small;
 }
 
 pub returns-then-w-eq0-clause-none : goal.returns-then-w-eq0-clause-none
 returns-then-w-eq0-clause-none c =
-    let e = triple_is (form_of c.args.p.now) (form_of c.args.q.now) (form_of c.args.r.now) _ _ _ _ _ c.normal-np.ensures.normal c.normal-nq.ensures.normal c.normal-nr.ensures.normal c.cross_narrow.ensures.cross c.dot_narrow-w.ensures.dot in
+    let e = triple_is (form_of c.args.p.now) (form_of c.args.q.now) (form_of c.args.r.now) _ _ _ _ _ c.normal-np.ensures.normal c.normal-nq.ensures.normal c.normal-nr.ensures.normal c.cross_narrow-rq.ensures.cross c.dot_narrow-w.ensures.dot in
     let zero : c.dot_narrow-w.result ≡ pos 0 = search rules in
-    (λ none. sym e ∙ zero, λ h. refl)
+    (λ none. sym e ∙ ap neg_ℤ zero, λ h. refl)
 
 pub dot_narrow-x-requires : goal.dot_narrow-x-requires
 dot_narrow-x-requires c =
@@ -86,7 +82,7 @@ w_size n a b h k e = subst (λ (m : ℤ). nat_abs m ≤ weight_limit) (sym e) (l
 
 pub turned-requires-clause-w_small : goal.turned-requires-clause-w_small
 turned-requires-clause-w_small c =
-    let s : nat_abs c.dot_narrow-w.result ≤ weight_limit = w_size c.dot_narrow-w.result (triple_vector c.normal-np.result) (triple_vector c.cross_narrow.result) c.normal-np.ensures.small c.cross_narrow.ensures.small c.dot_narrow-w.ensures.dot in
+    let s : nat_abs c.dot_narrow-w.result ≤ weight_limit = w_size c.dot_narrow-w.result (triple_vector c.normal-np.result) (triple_vector c.cross_narrow-rq.result) c.normal-np.ensures.small c.cross_narrow-rq.ensures.small c.dot_narrow-w.ensures.dot in
     rw (kept c.dot_narrow-w.result (omega (arith, s))) s
 
 pub returns-clause-met : goal.returns-clause-met
@@ -108,19 +104,20 @@ returns-clause-met c =
     let ex : c.dot_narrow-x.result ≡ dot d (vector rq.0 pr.0 qp.0) = plain c.dot_narrow-x.result d (vector rq.0 pr.0 qp.0) h kx c.dot_narrow-x.ensures.dot in
     let ey : c.dot_narrow-y.result ≡ dot d (vector rq.1 pr.1 qp.1) = plain c.dot_narrow-y.result d (vector rq.1 pr.1 qp.1) h ky c.dot_narrow-y.ensures.dot in
     let ez : c.dot_narrow-z.result ≡ dot d (vector rq.2 pr.2 qp.2) = plain c.dot_narrow-z.result d (vector rq.2 pr.2 qp.2) h kz c.dot_narrow-z.ensures.dot in
-    let sw : nat_abs c.dot_narrow-w.result ≤ weight_limit = w_size c.dot_narrow-w.result (triple_vector c.normal-np.result) (triple_vector c.cross_narrow.result) c.normal-np.ensures.small c.cross_narrow.ensures.small c.dot_narrow-w.ensures.dot in
-    let w_is : c.dot_narrow-w.result ≡ meet_w p q r = triple_is p q r _ _ _ _ _ np nq nr c.cross_narrow.ensures.cross c.dot_narrow-w.ensures.dot in
-    let some : meet_w p q r ≢ pos 0 = subst (λ (n : ℤ). n ≢ pos 0) w_is (search rules) in
+    let sw : nat_abs c.dot_narrow-w.result ≤ weight_limit = w_size c.dot_narrow-w.result (triple_vector c.normal-np.result) (triple_vector c.cross_narrow-rq.result) c.normal-np.ensures.small c.cross_narrow-rq.ensures.small c.dot_narrow-w.ensures.dot in
+    let w_is : neg_ℤ c.dot_narrow-w.result ≡ meet_w p q r = triple_is p q r _ _ _ _ _ np nq nr c.cross_narrow-rq.ensures.cross c.dot_narrow-w.ensures.dot in
+    let some : meet_w p q r ≢ pos 0 = subst (λ (n : ℤ). n ≢ pos 0) w_is (not_zero c.dot_narrow-w.result (search rules)) in
     IsOnlyCommon-from_ratios p q r c.turned.result.x c.turned.result.y c.turned.result.z c.turned.result.w c.turned.result.proper some
     (rw (
       kept c.dot_narrow-x.result (size c.dot_narrow-x.result d _ h kx ex) ∙ ex ∙ steps_x p q r _ _ _ steps,
       kept c.dot_narrow-y.result (size c.dot_narrow-y.result d _ h ky ey) ∙ ey ∙ steps_y p q r _ _ _ steps,
       kept c.dot_narrow-z.result (size c.dot_narrow-z.result d _ h kz ez) ∙ ez ∙ steps_z p q r _ _ _ steps,
-      kept c.dot_narrow-w.result (omega (arith, sw)) ∙ w_is,
+      kept c.dot_narrow-w.result (omega (arith, sw)),
+      w_is,
     ) at c.turned.ensures.same)
 
 pub returns-clause-none : goal.returns-clause-none
 returns-clause-none c =
-    let e = triple_is (form_of c.args.p.now) (form_of c.args.q.now) (form_of c.args.r.now) _ _ _ _ _ c.normal-np.ensures.normal c.normal-nq.ensures.normal c.normal-nr.ensures.normal c.cross_narrow.ensures.cross c.dot_narrow-w.ensures.dot in
+    let e = triple_is (form_of c.args.p.now) (form_of c.args.q.now) (form_of c.args.r.now) _ _ _ _ _ c.normal-np.ensures.normal c.normal-nq.ensures.normal c.normal-nr.ensures.normal c.cross_narrow-rq.ensures.cross c.dot_narrow-w.ensures.dot in
     let some : c.dot_narrow-w.result ≢ pos 0 = search rules in
-    (λ none. absurd (cc), λ h. absurd (some (e ∙ h)))
+    (λ none. absurd (cc), λ h. absurd (not_zero c.dot_narrow-w.result some (e ∙ h)))

@@ -1,22 +1,18 @@
-use Rattle.nef_geo.proofs.Prelude.{◌≡◌, arith, subst, sym, to_z, of_z, w64, normal_limit, direction_limit, normal_of, Vector, vector, plane_axis, IsAtMost, IsDirection, IsStretched, form_of, vector_of, triple_vector}
+use Rattle.nef_geo.proofs.Prelude.{lit≤, arith, subst, sym, normal_limit, direction_limit, normal_of, Vector, plane_axis, IsAtMost, IsDirection, IsStretched, form_of, vector_of, triple_vector}
 use Rattle.nef_geo.proofs.Directions.{SameDirection-stretched, IsAtMost-part}
 use Rattle.nef_geo.proofs.InPlane.{pair_small, axis-direction, axis-in_plane, slope-whole}
-use Rattle.nef_geo.proofs.Products.{kept, same_vector, IsAtMost-weaken}
+use Rattle.nef_geo.proofs.Products.{kept_vector, IsAtMost-weaken}
 use Rattle.nef_geo.proofs.ways.plane_axis.Goals as goal
-
--- small numbers that pass through the machine's type
-passed : (v : Vector) → IsAtMost normal_limit v → vector (to_z w64 (of_z w64 v.x)) (to_z w64 (of_z w64 v.y)) (to_z w64 (of_z w64 v.z)) ≡ v
-passed v s = same_vector _ _ _ _ _ _ (kept v.x (omega (arith, s.of_x))) (kept v.y (omega (arith, s.of_y))) (kept v.z (omega (arith, s.of_z)))
 
 pub reduced-requires-clause-small : goal.reduced-requires-clause-small
 reduced-requires-clause-small c =
     let s : IsAtMost normal_limit (triple_vector c.axis-numbers.result) = subst (IsAtMost normal_limit) (sym c.axis-numbers.ensures.axis) (pair_small c.args.h.now).axis in
-    subst (IsAtMost direction_limit) (sym (passed (triple_vector c.axis-numbers.result) s)) (IsAtMost-weaken normal_limit direction_limit (triple_vector c.axis-numbers.result) (omega arith) s)
+    subst (IsAtMost direction_limit) (sym (kept_vector normal_limit (triple_vector c.axis-numbers.result) (lit≤ tt) s)) (IsAtMost-weaken normal_limit direction_limit (triple_vector c.axis-numbers.result) (omega arith) s)
 
 pub reduced-requires-clause-some : goal.reduced-requires-clause-some
 reduced-requires-clause-some c =
     let s : IsAtMost normal_limit (triple_vector c.axis-numbers.result) = subst (IsAtMost normal_limit) (sym c.axis-numbers.ensures.axis) (pair_small c.args.h.now).axis in
-    subst IsDirection (sym (passed (triple_vector c.axis-numbers.result) s)) (subst IsDirection (sym c.axis-numbers.ensures.axis) (axis-direction c.args.h.now))
+    subst IsDirection (sym (kept_vector normal_limit (triple_vector c.axis-numbers.result) (lit≤ tt) s)) (subst IsDirection (sym c.axis-numbers.ensures.axis) (axis-direction c.args.h.now))
 
 pub returns : goal.returns
 returns c =
@@ -24,7 +20,7 @@ returns c =
     let s : IsAtMost normal_limit (triple_vector c.axis-numbers.result) = subst (IsAtMost normal_limit) (sym c.axis-numbers.ensures.axis) (pair_small c.args.h.now).axis in
     let t : IsStretched (plane_axis n) (vector_of c.reduced.result) =
     subst (λ (v : Vector). IsStretched v (vector_of c.reduced.result)) c.axis-numbers.ensures.axis
-    (subst (λ (v : Vector). IsStretched v (vector_of c.reduced.result)) (passed (triple_vector c.axis-numbers.result) s) c.reduced.ensures.stretched) in
+    (subst (λ (v : Vector). IsStretched v (vector_of c.reduced.result)) (kept_vector normal_limit (triple_vector c.axis-numbers.result) (lit≤ tt) s) c.reduced.ensures.stretched) in
     record {
       axis = SameDirection-stretched (plane_axis n) (vector_of c.reduced.result) t c.reduced.result.some;
       in_plane = slope-whole (form_of c.args.h.now) (plane_axis n) (vector_of c.reduced.result) t (axis-in_plane c.args.h.now);

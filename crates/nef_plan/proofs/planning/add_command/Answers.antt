@@ -54,14 +54,17 @@ bind-requires-clause-set c =
     let names = names-wider k (length nodes) made (omega (arith, within)) c.get.ensures.operands in
     more.sets k within ∙ each-set nodes k made c.get.ensures.node c.get.ensures.operands ∙ sym (set-more nodes c.args.plan.now.nodes made more names)
 
-pub bind_made-requires-clause-looks : goal.bind_made-requires-clause-looks
-bind_made-requires-clause-looks c k looks = c.requires.looks k (subst (λ (z : Command). LooksAt c.args.nodes.now z k) (sym c.in-Turn.is) looks)
+pub add_draft-requires-clause-looks : goal.add_draft-requires-clause-looks
+add_draft-requires-clause-looks c k looks = c.requires.looks k (subst (λ (z : Command). LooksAt c.args.nodes.now z k) (sym c.in-Turn.is) looks)
 
-pub bind_made-requires-clause-makes : goal.bind_made-requires-clause-makes
-bind_made-requires-clause-makes c = refl
+pub add_draft-requires-clause-unbound : goal.add_draft-requires-clause-unbound
+add_draft-requires-clause-unbound c k e =
+    let within = subst (SpeaksOfFirst (length c.args.nodes.now)) c.in-Turn.is c.requires.within in
+    let count = c.requires.count in
+    (omega (arith, e, within.0, count), λ is. let f : false ≡ true = sym c.if-is_bound-2.false ∙ c.is_bound-in-Turn.ensures.bound.1 (subst (IsBoundIn c.args.bounds.now) e is) in cc)
 
-pub bind_made-requires-clause-right : goal.bind_made-requires-clause-right
-bind_made-requires-clause-right c =
+pub add_draft-requires-clause-right : goal.add_draft-requires-clause-right
+add_draft-requires-clause-right c =
     let nodes = c.args.nodes.now in
     let more = c.requires.more in
     let node = c.in-Turn.node in
@@ -73,31 +76,34 @@ bind_made-requires-clause-right c =
       within = omega (arith, within.0, more.as_many);
       operand = omega (arith, within.1, more.as_many);
       turn = within.2;
-      set = more.sets node within.0 ∙ node-turned nodes c.len-count.ensures.ordered turn from node turned ∙ ap (turned_set turn) (sym (more.sets from within.1));
+      set = more.sets node within.0 ∙ node-turned nodes c.requires.ordered turn from node turned ∙ ap (turned_set turn) (sym (more.sets from within.1));
     } in
     is
 
-pub add_question-requires-clause-asks : goal.add_question-requires-clause-asks
-add_question-requires-clause-asks c k asks = c.requires.looks k (asked-looks c.args.nodes.now c.args.command.now k asks)
+pub add_draft-requires-in_default-clause-looks : goal.add_draft-requires-in_default-clause-looks
+add_draft-requires-in_default-clause-looks c k asks = c.requires.looks k (asked-looks c.args.nodes.now c.args.command.now k asks)
 
-pub add_question-requires-clause-question : goal.add_question-requires-clause-question
-add_question-requires-clause-question c = is-question c.args.command.now c.in_default.not-Bind c.in_default.not-Turn
-
-pub add_question-requires-clause-within : goal.add_question-requires-clause-within
-add_question-requires-clause-within c = within-wider (length c.args.nodes.now) (length c.args.plan.now.nodes) c.args.command.now c.requires.more.as_many c.requires.within
+pub add_draft-requires-in_default-clause-right : goal.add_draft-requires-in_default-clause-right
+add_draft-requires-in_default-clause-right c = (
+  is-question c.args.command.now c.in_default.not-Bind c.in_default.not-Turn,
+  within-wider (length c.args.nodes.now) (length c.args.plan.now.nodes) c.args.command.now c.requires.more.as_many c.requires.within,
+)
 
 pub returns-in_default-clause-goes_on : goal.returns-in_default-clause-goes_on
 returns-in_default-clause-goes_on c =
     let alone = question-alone c.args.command.now (is-question c.args.command.now c.in_default.not-Bind c.in_default.not-Turn) in
-    on_ok_weaker c.add_question.result (λ on. subst (GoesOn c.args.plan.now c.args.bounds.now c.add_question.new.plan c.add_question.new.bounds) (sym alone) on) c.add_question.ensures.goes_on
+    on_ok_weaker c.add_draft-in_default.result (λ on. subst (GoesOn c.args.plan.now c.args.bounds.now c.add_draft-in_default.new.plan c.add_draft-in_default.new.bounds) (sym alone) on) c.add_draft-in_default.ensures.goes_on
 
 pub returns-else-is_bound-clause-only : goal.returns-else-is_bound-clause-only
 returns-else-is_bound-clause-only c =
     on_ok_weaker c.bind.result (λ only k is. subst (λ (z : Command). IsBoundIn c.args.bounds.now k ⊎ Binds z k) (sym c.in-Bind.is) (only k is)) c.bind.ensures.only
 
 pub returns-in_default-clause-only : goal.returns-in_default-clause-only
-returns-in_default-clause-only c = on_ok_weaker c.add_question.result (λ only k is. inl (only k is)) c.add_question.ensures.only
+returns-in_default-clause-only c = on_ok_weaker c.add_draft-in_default.result (λ only k is. ⊎_elim (λ before. inl before) (λ none. absurd none) (only k is)) c.add_draft-in_default.ensures.only
 
 pub returns-else-is_bound-2-clause-only : goal.returns-else-is_bound-2-clause-only
 returns-else-is_bound-2-clause-only c =
-    on_ok_weaker c.bind_made.result (λ only k is. subst (λ (z : Command). IsBoundIn c.args.bounds.now k ⊎ Binds z k) (sym c.in-Turn.is) (only k is)) c.bind_made.ensures.only
+    on_ok_weaker c.add_draft.result (λ only k is. subst (λ (z : Command). IsBoundIn c.args.bounds.now k ⊎ Binds z k) (sym c.in-Turn.is) (only k is)) c.add_draft.ensures.only
+
+pub returns-else-is_bound-2-clause-bound : goal.returns-else-is_bound-2-clause-bound
+returns-else-is_bound-2-clause-bound c = on_ok_weaker c.add_draft.result (λ bound k binds. bound k (subst (λ (z : Command). Binds z k) c.in-Turn.is binds)) c.add_draft.ensures.bound

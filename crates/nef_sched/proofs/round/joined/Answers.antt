@@ -8,14 +8,15 @@ absorb-requires-clause-rule c = merges _ _ _ _ c.args.into.some_part c.args.othe
 pub learn_as-requires-clause-rule : goal.learn_as-requires-clause-rule
 learn_as-requires-clause-rule c = sees _ _
 
-pub append-requires : goal.append-requires
-append-requires c =
+pub unreachable-requires : goal.unreachable-requires
+unreachable-requires c =
     let a = c.args.into in
     let b = c.args.other in
     let f = fits_in _ (view a.pass) (view b.pass) _ _ _ c.absorb.ensures.rule a.some_part a.same_taken b.same_taken a.room c.learn_as.ensures.rule in
     let k = a.taken.ok in
     let l = b.taken.ok in
-    record { room = omega arith }
+    let full = c.in_default.ensures.full in
+    omega arith
 
 pub invariant_of-result-clause-same_end : goal.invariant_of-result-clause-same_end
 invariant_of-result-clause-same_end c =
@@ -36,3 +37,6 @@ invariant_of-result-clause-took_each c e all =
     let same = c.learn_as.ensures.queue.1 in
     let end = joined_ended (view a.pass) (view b.pass) (view c.learn_as.new.pass) a.ended b.ended (same ∙ c.absorb.ensures.rule) a.same_end b.same_end ∙ e in
     ended_took (view c.learn_as.new.pass) c.learn_as.ensures.rule.0 end (subst (λ (v : View). SawItems v c.learn_as.ensures.rule.0) (sym same) c.learn_as.ensures.rule.1) all
+
+pub returns-clause-taken : goal.returns-clause-taken
+returns-clause-taken c = c.in-Ok.ensures.items

@@ -1,9 +1,0 @@
-use Rattle.nef_pool.proofs.Prelude.{◌≡◌, ◌+◌, ◌≤◌, None, All, vec_len}
-use Rattle.nef_pool.proofs.pool.passes_of.Given as goal
-
-abbrev pub invariant-loop : goal.invariant-loop
-invariant-loop g l =
-    g.B.Board.belongs l.board l.pass × (g.B.Board.hand l.pass ≡ None)
-    × All (λ p. g.B.Board.belongs l.board p × (g.B.Board.hand p ≡ None)) l.passes.items
-    × (l.count ≤ g.B.Board.spare l.pass + l.counter)
-    × (vec_len l.passes ≡ l.counter)
