@@ -6,3 +6,4 @@ pub mod Belongs
 pub mod Rays
 pub mod Laws
 pub mod Spans
+pub mod links

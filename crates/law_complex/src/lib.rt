@@ -5,6 +5,7 @@
 
 mod facets;
 mod laws;
+pub mod links;
 
 pub use facets::facet_laws;
 pub use laws::{candidate_laws, edge_laws, skeleton_laws, span_laws};

@@ -1,6 +1,6 @@
 -- The names that most proofs cite, passed on from one place. Declares nothing.
 pub use Rattle.law_near.proofs.Prelude.{Bool, Flat, FlatDim, Form, Germ, HasFlat, HasLabel, IsDirection, IsZero, Label, Lies, List, Poly, SameDirection, Set, Sign, SpacePoint, Vector, [], ap, arith, at, blend, by_order, cancel_eq, cancel_lt, carriers, cases_lt, cond, cross, cross-none, cross-self, cross-turned, cross_of, direction-left, direction-right, direction_form, dot, dot-comm, dot-zero, dot_of, each, false, follows, follows_times, form_amount, form_on, given, in-span, inl, inr, ints, level-both, level_cross_second, lies-each, lies-left, lies-right, minus, minus-is, mul-le, mul-pos, mul_le_right, mul_nonneg, mul_pos, nat_abs, neg, neg_ℤ, negsuc, none, normal_of, nought, nought-if, nought-is, nought-or, num, numbers, of_direction, opposite, plus, plus-is, pos, refl, ring, scaled-coordinates, self-pos, sign, sign-minus, sign-plus, sign-scaled, square-cross, square_pos, subst, suc, sym, triple, triple-dot, triple-in_plane, triple-middle, triple_poly, true, unsigned_abs-mul, vec, vector, vector-same, zero, zero-decided, zero-dot, ℕ, ℤ, ⊎_elim, ◌*ℤ◌, ◌*◌, ◌++◌, ◌+ℤ◌, ◌+◌, ◌-ℤ◌, ◌<ℤ◌, ◌<◌, ◌↔◌, ◌∙◌, ◌∷◌, ◌≡◌, ◌≤ℤ◌, ◌≤◌, ◌⊎◌, ◌⊕◌, ◌⊖◌, ◌⊗◌}
-pub use Rattle.law_cyclic.proofs.Prelude.{IsOnCircle, IsStrictlyOn, Passes, SameDirection-trans, SameDirection-turned, crossed, direction-opposite, dot-scaled, dot_poly, level-opposite, level-opposite-back, level-way, parallel-in_plane, triple-opposite}
+pub use Rattle.law_sphere.proofs.cyclic.Prelude.{IsOnCircle, IsStrictlyOn, Passes, SameDirection-trans, SameDirection-turned, crossed, direction-opposite, dot-scaled, dot_poly, level-opposite, level-opposite-back, level-way, parallel-in_plane, triple-opposite}
 pub use Rattle.std.proofs.Common.{None, Option, Some, length}
 pub use Rattle.nef_space.specs.Lists.{IsAt}
 pub use Rattle.nef_space.proofs.Lists.{is-at_first, is-at_none, is-at_one}

@@ -1,6 +1,6 @@
 -- What bounds the sector of a svertex in which a direction lies sees all that is close to the svertex toward it; and something bounds it.
 use Rattle.law_sphere.proofs.Prelude.{◌≡◌, ℕ, zero, suc, ◌≤◌, pos, ◌<ℤ◌, arith, refl, sym, ◌∙◌, ◌⊎◌, inl, inr, ⊎_elim, List, ◌∷◌, subst, [], ints, Vector, IsDirection, dot, cross, opposite, SameDirection, blend, Label, Passes, IsOnCircle, Decided, IsAt, MapVertex, Arc, Map, arc_item, IsClear, Side, around_svertex, HasSide, dir_of, Sees, HasArc, Shaped, ArcRay, end_left, end_side, ray_left, ray_side, Unrayed, IsLastRay, IsLastSide, BoundsSector, forms, dot-comm, level-way, opposite-dot, square-cross, level_cross_second, SameDirection-turned, SameDirection-trans, dir-self, direction-left, blend-turned, is-at_none, is-at_first}
-use Rattle.law_cyclic.proofs.Cyclic.{ways_glue}
+use Rattle.law_sphere.proofs.cyclic.Cyclic.{ways_glue}
 use Rattle.law_sphere.proofs.Generic.{amount, far-keeps}
 use Rattle.law_sphere.proofs.Places.{IsStrictlyOn-decided}
 use Rattle.law_sphere.proofs.Shot.{dir-at}

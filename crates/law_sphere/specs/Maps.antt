@@ -3,7 +3,7 @@ use Rattle.std.specs.Prelude.{◌≡◌, ℕ, zero, suc, ◌<◌, ◌≤◌, pos
 use Rattle.nef_space.specs.Vectors.{Vector, IsDirection, vector, dot, SameDirection, IsOpposite, IsNormal, blend}
 use Rattle.nef_space.specs.declared.label.Label.{Label}
 use Rattle.nef_space.specs.Lists.{IsAt}
-use Rattle.law_cyclic.specs.Arcs.{IsOnCircle, IsStrictlyOn}
+use Rattle.law_sphere.specs.cyclic.Arcs.{IsOnCircle, IsStrictlyOn}
 
 -- ---- the parts of a map
 pub record MapVertex : Type 0 where

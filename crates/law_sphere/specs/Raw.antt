@@ -2,7 +2,7 @@
 use Rattle.std.specs.Prelude.{◌≡◌, ℕ, suc, pos, List, [], ◌∷◌, length, Option, Some, None, ◌⊎◌, true, false}
 use Rattle.nef_space.specs.Vectors.{Vector, IsDirection, cross, dot, SameDirection, IsNormal}
 use Rattle.nef_space.specs.declared.label.Label.{Label}
-use Rattle.law_cyclic.specs.Arcs.{IsOnCircle}
+use Rattle.law_sphere.specs.cyclic.Arcs.{IsOnCircle}
 use Rattle.law_sphere.specs.Vectors.{IsPrimitive, VectorBelow}
 use Rattle.nef_space.specs.Lists.{IsAt}
 use Rattle.law_sphere.specs.Maps.{MapSloop}

@@ -2,7 +2,7 @@
 use Rattle.std.specs.Prelude.{◌≡◌, ℕ, ◌⊎◌}
 use Rattle.std.proofs.Common.{inl, inr}
 use Rattle.nef_space.specs.Vectors.{Vector, IsDirection, cross, opposite, SameDirection}
-use Rattle.law_cyclic.specs.Arcs.{Passes}
+use Rattle.law_sphere.specs.cyclic.Arcs.{Passes}
 use Rattle.nef_space.specs.Lists.{IsAt}
 use Rattle.law_sphere.specs.Maps.{MapVertex, Arc, Map, Side, around_svertex, pos_item, neg_item, HasArc}
 

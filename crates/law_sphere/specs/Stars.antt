@@ -4,7 +4,7 @@ use Rattle.nef_space.specs.Vectors.{Vector, IsDirection, cross, dot, SameDirecti
 use Rattle.nef_space.specs.declared.label.Label.{Label}
 use Rattle.nef_space.specs.Lists.{IsAt}
 use Rattle.law_sphere.specs.Maps.{Map, MapLabel, NearLabel}
-use Rattle.law_cyclic.specs.Arcs.{IsStrictlyOn}
+use Rattle.law_sphere.specs.cyclic.Arcs.{IsStrictlyOn}
 
 pub record Ray : Type 0 where
   pub normal : Vector

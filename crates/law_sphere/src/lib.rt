@@ -6,6 +6,10 @@
 //! is a clause of a function with an empty body.
 #![tactic(auto)]
 
+pub mod border;
+pub mod building;
+pub mod cones;
+pub mod cyclic;
 mod laws;
 
 pub use laws::{build_laws, label_laws, least_laws, place_laws};

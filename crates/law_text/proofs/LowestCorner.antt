@@ -2,7 +2,7 @@
 use Rattle.law_text.proofs.Prelude.{◌≡◌, ℕ, ◌+◌, ◌≤◌, ℤ, pos, neg_ℤ, ◌+ℤ◌, ◌*ℤ◌, ◌<ℤ◌, arith, refl, sym, ◌∙◌, ap, ◌⊎◌, inl, inr, ⊎_elim, cond, Some, None, subst, ints, Sign, minus, nought, plus, sign, Lies, mul_pos, minus-is, sign-minus, sign-plus, sign-neg, sign_turned, by_order, HasLabel, Germ, SpacePoint, slope, Set, Vector, dot, cross, triple, blend, IsDirection, IsZero, SameDirection, IsNormal, Label, Out, IsStrictlyOn, sign_at, carriers, frame-minus, Germ-unique, Near, by_side, NearPlain, NearStraight, Least, Cone, IsAt, MapVertex, Arc, Map, Item, arc_item, items, item_normal, item_pos, item_mark, item_neg, dir_of, OnItem, IsFree, MapLabel, NearLabel, HasArc, ArcBetween, Shaped, amount, dir-at, at-map, IsFrameCornerAt, axes, Axis, on_x, on_y, on_z, wall, wall-listed, IsOneLabelSet, germ-inward, germ-outward, is_high_on, inward_way, through, leads-in, axis_of, dot-zero}
 use Rattle.law_near.proofs.Decisions.{near-germ_one}
 use Rattle.law_sphere.specs.Labelling.{Agrees}
-use Rattle.law_cones.proofs.Signs.{leading, leading-level, far-leading}
+use Rattle.law_sphere.proofs.cones.Signs.{leading, leading-level, far-leading}
 use Rattle.law_sphere.proofs.Built.{agrees-label}
 use Rattle.law_sphere.proofs.Labellings.{normals_of, germ-labelling, cone-from_agrees}
 use Rattle.nef_case.specs.Between.{is_positive}

@@ -1,6 +1,6 @@
 -- Each corner has one next corner.
 use Rattle.law_text.proofs.Prelude.{◌≡◌, ℕ, pos, neg_ℤ, ◌<ℤ◌, inl, inr, [], ◌∷◌, arith, refl, sym, ◌∙◌, subst, ints, ring, at, num, neg, ◌⊕◌, ◌⊖◌, ◌⊗◌, toward, Set, Vector, dot, cross, triple, IsDirection, SameDirection, IsAt, Arc, arc_item, normal-is, same-minus, at-one, at-arc, turn-same, Vertex, Edge, Complex, Corner, IsCorner, Shows, end-level, close_way, on-close, Leads, IsNextArc, turned-level, arc-no_sloop, self-pos, cross-turned, nought-if, SameDirection-turned, SameDirection-trans, dir-self, direction-right}
-use Rattle.law_links.proofs.EdgeEnds.{corner_of_numbers}
+use Rattle.law_complex.proofs.links.EdgeEnds.{corner_of_numbers}
 use Rattle.nef_facets.proofs.EdgeViews.{EdgeFrom, edge-from, one-vertex, one-svertex}
 use Rattle.nef_facets.proofs.NextCorners.{corner-same}
 use Rattle.law_text.proofs.OneCycles.{HasOneNext}

@@ -15,7 +15,7 @@ pub use Rattle.std.specs.Fmt.{decimal, digit_glyph, digits_onto, signed_decimal}
 pub use Rattle.std.specs.List.{flat_map}
 pub use Rattle.nef_space.specs.Limits.{offset_limit}
 pub use Rattle.law_complex.specs.Belongs.{Belongs, SeesSpot, SpotMark, Towards, off_skeleton, on_skeleton}
-pub use Rattle.law_links.specs.Links.{LinkAlongEdge}
+pub use Rattle.law_complex.specs.links.Links.{LinkAlongEdge}
 pub use Rattle.law_turns.proofs.Bools.{Both, each-bool, each-three, of_three}
 pub use Rattle.law_turns.proofs.TurnedMaps.{cone-turned, image, image_back, item-on, least-turned}
 pub use Rattle.nef_core.specs.declared.work.TextVersion.{TextVersion}

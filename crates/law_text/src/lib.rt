@@ -2,6 +2,7 @@
 //! list of bytes; nothing runs. Each law is a clause of a function with an empty body.
 #![tactic(auto)]
 
+pub mod existence;
 mod laws;
 
 pub use laws::{determined_laws, frame_text_laws, text_laws};

@@ -1,7 +1,7 @@
 -- Each ordered map that is well shaped has a turned image whose lists are in order.
 use Rattle.law_turns.proofs.Prelude.{◌≡◌, ℕ, zero, Bool, true, false, cond, refl, ap, sym, ◌∙◌, subst, inl, inr, ⊎_elim, List, map, Option, Some, None, cases_order, Lies, Vector, SameDirection, IsNormal, Form, normal_of, negated_if, IsPrimitive, VectorBelow, IsAt, MapVertex, Arc, MapSloop, Item, arc_item, sloop_item, Map, items, item_normal, Shaped, InOrder, ArcBelow, Ordered, at-one, lies-at, at-lies, arc-at, sloop-at, at-sloop, at-arc, normal-is, below-itself, at-map, map-at, Mapped, map-list, Sorted, sort, chain-order, signed_form, turned_plane, turned_vector, unturned_vector, differ, is_odd, signed, turned_svertex, IsTurnedArc, IsTurnedOption, HasTurnedLists, dir-self}
-use Rattle.law_cones.proofs.Lowest.{below-trans, below-either}
-use Rattle.law_cones.proofs.Rays.{arc-either, arc-trans, SameArc}
+use Rattle.law_sphere.proofs.cones.Lowest.{below-trans, below-either}
+use Rattle.law_sphere.proofs.cones.Rays.{arc-either, arc-trans, SameArc}
 use Rattle.law_turns.proofs.Carriers.{same-form}
 use Rattle.law_turns.proofs.Vectors.{back-vector, direction-turned, signed-turned, signed-twice}
 use Rattle.law_turns.proofs.Numbers.{normal-choice, primitive-turned}

@@ -1,6 +1,6 @@
 -- A map whose lists have another map's turned items, in order, is the turned map.
 use Rattle.law_turns.proofs.Prelude.{◌≡◌, ℕ, zero, suc, pos, neg_ℤ, Bool, true, false, refl, ap, sym, ◌∙◌, subst, arith, inl, inr, ⊎_elim, List, [], ◌∷◌, Option, Some, None, ints, cases_order, Vector, IsNormal, IsAt, MapVertex, Arc, MapSloop, Item, arc_item, sloop_item, Map, items, items_then, InOrder, ArcBelow, arc-at, sloop-at, at-sloop, at-arc, turned_vector, signed, IsTurnedArc, IsTurnedItem, IsTurnedOption, IsTurnedMap, HasTurnedLists, is-at_none, is-at_first}
-use Rattle.law_build.proofs.BuiltArcs.{arc-below_not}
+use Rattle.law_sphere.proofs.building.BuiltArcs.{arc-below_not}
 
 -- ---- what is chosen for each element, by its number
 abbrev pub chosen : {A B : Type 0} (xs : List A) → B → ((i : ℕ) (x : A) → IsAt xs i x → B) → ℕ → B

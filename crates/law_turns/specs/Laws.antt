@@ -5,7 +5,7 @@ use Rattle.nef_case.specs.Turns.{negated_if, Undoes, IsComposition}
 use Rattle.nef_space.specs.declared.label.Label.{Label}
 use Rattle.law_near.specs.Cells.{carriers}
 use Rattle.law_near.specs.Cones.{NearGerm}
-use Rattle.law_cyclic.specs.Arcs.{IsStrictlyOn}
+use Rattle.law_sphere.specs.cyclic.Arcs.{IsStrictlyOn}
 use Rattle.law_sphere.specs.Prelude.{IsAt, Arc, Map, MapLabel, NearLabel, Shaped, Valid, Least, Ordered, Cone}
 use Rattle.law_sphere.specs.Vectors.{IsPrimitive}
 use Rattle.law_complex.specs.Complexes.{Vertex, Complex}

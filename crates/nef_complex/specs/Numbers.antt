@@ -6,7 +6,7 @@ use Rattle.nef_space.specs.declared.label.Label.TheVariants.{Out}
 use Rattle.nef_smap.specs.Prelude.{Item, items, item_normal, item_mark, pos_item, neg_item, sides_of}
 use Rattle.law_complex.specs.Prelude.{Vertex, Complex, Corner, IsCorner, VertexSide, HasSideLabel}
 use Rattle.nef_complex.specs.Complexes.{corner_of}
-use Rattle.law_links.specs.Links.{FacetLink, VolumeLink}
+use Rattle.law_complex.specs.links.Links.{FacetLink, VolumeLink}
 use Rattle.nef_complex.specs.Cycles.{IsCornerBelow, Cycles}
 use Rattle.nef_complex.specs.Sides.{IsSideNumber}
 use Rattle.nef_complex.specs.Shells.{SfaceNumbers, Shells}

@@ -4,7 +4,7 @@ use Rattle.nef_space.specs.Prelude.{ℕ, pos, List, [], length, IsAt, Chained, I
 use Rattle.law_sphere.specs.Prelude.{InOrder}
 use Rattle.nef_smap.specs.Sides.{AreSfaces}
 use Rattle.law_complex.specs.Prelude.{Vertex, Complex, VertexSide}
-use Rattle.law_links.specs.Links.{LinkInSface, LinkAlongEdge, LinkAcrossFacet}
+use Rattle.law_complex.specs.links.Links.{LinkInSface, LinkAlongEdge, LinkAcrossFacet}
 use Rattle.nef_complex.specs.Sides.{IsSideNumber}
 use Rattle.nef_complex.specs.declared.parts.Side.{Side}
 

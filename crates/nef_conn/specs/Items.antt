@@ -5,8 +5,8 @@ use Rattle.law_sphere.specs.Maps.{Arc, arc_item, Item, item_normal}
 use Rattle.law_complex.specs.Prelude.{Vertex, Edge, Complex, Corner, IsCorner, Shows}
 use Rattle.law_complex.specs.Laws.{IsFlatIn}
 use Rattle.law_complex.specs.Skeleton.{item_plane, RayNames}
-use Rattle.law_links.specs.Links.{LinkAlong, FacetLink}
-use Rattle.law_links.specs.Components.{IsAtItem}
+use Rattle.law_complex.specs.links.Links.{LinkAlong, FacetLink}
+use Rattle.law_complex.specs.links.Components.{IsAtItem}
 
 -- the arc begins or ends at the svertex s
 abbrev pub EndsAt : Arc → ℕ → Type 0

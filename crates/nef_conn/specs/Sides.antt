@@ -4,8 +4,8 @@ use Rattle.nef_space.specs.Prelude.{Chained, FlatDim, IsEven, Joined, SpacePoint
 use Rattle.nef_space.specs.declared.label.Label.{Label}
 use Rattle.nef_space.specs.declared.label.Label.TheVariants.{Out}
 use Rattle.law_complex.specs.Prelude.{Complex, Shows, VertexSide, HasSideLabel, RayDown}
-use Rattle.law_links.specs.Links.{VolumeLink}
-use Rattle.law_links.specs.Components.{IsAtSide, IsUpright}
+use Rattle.law_complex.specs.links.Links.{VolumeLink}
+use Rattle.law_complex.specs.links.Components.{IsAtSide, IsUpright}
 use Rattle.nef_conn.specs.Items.{AreLinkedWhereJoined}
 
 -- sides with points that are joined are of one class of links, if up is above each item

@@ -1,7 +1,7 @@
 -- Linked items have one normal and one mark, and the vertices lie in one plane of that normal.
 use Rattle.nef_facets.proofs.Prelude.{◌≡◌, ℕ, pos, sym, ◌∙◌, inl, inr, ⊎_elim, [], ◌∷◌, List, subst, ring, at, num, neg, ◌⊕◌, ◌⊗◌, IsChain, Chained, SpacePoint, Form, form_at, normal_of, slope, plane_through, SamePoint, toward, Set, Vector, opposite, dot, SameDirection, plane_dir, Label, ahead, joined-germs, labels-by_germs, label-one, IsAt, Item, arc_item, items, item_normal, item_mark, on-level, at-one, at-arc, Vertex, Edge, Complex, HasEnds, IsCorner, Shows, item_plane, PlaneMeet, meets_vertex, meets_edge, IsFirstInPlane, IsCornerAt, plane-onward, plane-back, plane-ahead, ahead-same, through-at, through-level, AreAlong, LinkAlong, LinkAcross, FacetLink, facet-near, AreTiedItems, EdgeWays, edge-ways, end-level, along-tied, across-tied, dot-comm, SameDirection-turned, SameDirection-trans, level-way}
 use Rattle.law_complex.specs.Complexes.{Corner}
-use Rattle.law_links.proofs.EdgeEnds.{corner_of_numbers}
+use Rattle.law_complex.proofs.links.EdgeEnds.{corner_of_numbers}
 
 -- a corner has one item
 pub corner-one : (C : Complex) (k : Corner) (v w : Vertex) (x y : Item) → IsCorner C k v x → IsCorner C k w y → (P : Vertex → Item → Type 0) → P v x → P w y

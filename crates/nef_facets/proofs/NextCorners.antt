@@ -3,7 +3,7 @@ use Rattle.nef_facets.proofs.Prelude.{◌≡◌, ℕ, ◌+◌, pos, ◌<ℤ◌, 
 use Rattle.nef_space.proofs.Vectors.{back-triple}
 use Rattle.law_complex.specs.Complexes.{Corner}
 use Rattle.law_complex.proofs.FacetCorners.{ItemAt, item-at}
-use Rattle.law_links.proofs.EdgeEnds.{corner_of_numbers, left-turn}
+use Rattle.law_complex.proofs.links.EdgeEnds.{corner_of_numbers, left-turn}
 use Rattle.nef_facets.proofs.EdgeViews.{EdgeFrom, edge-from, one-vertex, one-svertex}
 
 pub turned-level : (n m d : Vector) → SameDirection n m → dot n d ≡ pos 0 → dot m d ≡ pos 0

@@ -7,7 +7,7 @@ use Rattle.law_complex.specs.Prelude.{Vertex, Edge, Complex, Corner, HasEnds, Ra
 use Rattle.nef_complex.specs.declared.complex.Corner.{Corner as ProgramCorner}
 use Rattle.nef_classes.specs.declared.table.Cell.{Cell}
 use Rattle.nef_classes.specs.declared.table.Tie.{Tie}
-use Rattle.law_links.specs.Links.{LinkAcross}
+use Rattle.law_complex.specs.links.Links.{LinkAcross}
 
 -- the corner as an element of the table that has a row for each vertex and an element for each of its items
 abbrev pub cell_of : Corner → Cell

@@ -3,7 +3,7 @@ use Rattle.nef_locate.proofs.Prelude.{◌≡◌, ℕ, pos, refl, sym, ◌∙◌,
 use Rattle.law_complex.specs.Complexes.{Complex}
 use Rattle.law_complex.proofs.FacetPoints.{facet-point}
 use Rattle.law_complex.proofs.FacetSides.{flats-one, flats-carried}
-use Rattle.law_links.proofs.Across.{through-same}
+use Rattle.law_complex.proofs.links.Across.{through-same}
 use Rattle.nef_conn.proofs.WayInward.{names-same}
 use Rattle.nef_locate.proofs.SameAxis.{axis-same}
 

@@ -3,7 +3,7 @@ use Rattle.nef_locate.proofs.Prelude.{◌≡◌, ℕ, zero, suc, ℤ, pos, negsu
 use Rattle.nef_space.proofs.Vectors.{dot-opposite, opposite-itself}
 use Rattle.law_sphere.proofs.Kind.{flat-parallel}
 use Rattle.law_sphere.proofs.FlatMaps.{flat-onward, flat-straight}
-use Rattle.law_build.proofs.Chosen.{chosen, chosen-is, chosen-labelling, map-labels}
+use Rattle.law_sphere.proofs.building.Chosen.{chosen, chosen-is, chosen-labelling, map-labels}
 
 -- opposite directions lie on opposite sides, so both sides have the label
 both-sides : (a m b : Label) (x y : ℤ) → sign x ≡ sign (neg_ℤ y) → (x ≡ pos 0 → ⊥) → by_side a m b (sign x) ≡ m → by_side a m b (sign y) ≡ m → (a ≡ m) × (b ≡ m)

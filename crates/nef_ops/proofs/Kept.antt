@@ -1,7 +1,7 @@
 -- A vertex of an operand that is one of the result, with its map or with that of the complement.
 use Rattle.nef_ops.proofs.Prelude.{◌≡◌, refl, sym, subst, ap, List, ℕ, Bool, true, false, IsVertex, Germ, SpacePoint, SamePoint, Set, Vector, Label, Out, Not, In, point_of, FlatDim-by_germs, germ-not, germ_of, Germ-unique, IsAt, Cone, complement, exchanged_map, topology-cone, IsVertexPoint, map_of, IsLeastMap, at-map, map-at, Vertex, Complex, vertex_of, complex_of, ShowsSet, Operand, First, Second, operand_of, cone-same, moved_if, of_operand, StandsAt, IsOutcomeAt, Op, op_set, One, Input, Share, Part, AreTold, IsAsIn, IsInput, movable, kept_outcome, IsOutcomeOf, either_of, complement_if, HasShare, IsRightChoice}
 use Rattle.law_near.specs.Cones.{label_not}
-use Rattle.law_border.proofs.ExchangedLabels.{exchanged-laws}
+use Rattle.law_sphere.proofs.border.ExchangedLabels.{exchanged-laws}
 use Rattle.law_complex.specs.Complexes.{Vertex as PlainVertex}
 use Rattle.nef_result.proofs.Vertices.{vertex-flat, flat-vertex, vertex-same}
 use Rattle.nef_ops.specs.declared.operations.UnaryOp.TheVariants as unary

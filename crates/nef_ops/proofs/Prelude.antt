@@ -1,5 +1,5 @@
 -- The names that most proofs cite, passed on from one place. Declares nothing.
-pub use Rattle.law_border.proofs.Prelude.{boundary, closure, interior, is-at_first, is-at_none, whole}
+pub use Rattle.law_sphere.proofs.border.Prelude.{boundary, closure, interior, is-at_first, is-at_none, whole}
 pub use Rattle.law_complex.proofs.Prelude.{Germ-zero, IsMixed, SameGerms, germ_of, label-one, labels-by_germs, mixed-of, of_point}
 pub use Rattle.nef_stopo.proofs.Prelude.{Err, IfOk, Ok, Result, Topology, complement, exchanged_map, get-at, topology-cone, zero_vector}
 pub use Rattle.nef_complex.proofs.Prelude.{IsSpanOn, less-or-last}

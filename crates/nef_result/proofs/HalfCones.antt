@@ -4,7 +4,7 @@ use Rattle.nef_space.specs.Sets.{Holds}
 use Rattle.nef_geo.specs.declared.plane.Oriented.{Oriented}
 use Rattle.law_near.specs.Near.{span}
 use Rattle.law_near.proofs.Combine.{shorter}
-use Rattle.law_build.proofs.SideLabels.{side-same_way}
+use Rattle.law_sphere.proofs.building.SideLabels.{side-same_way}
 use Rattle.nef_result.specs.Halves.{inside_label, side_label, IsMapOfPlane}
 
 -- ---- the label of a half

@@ -2,7 +2,7 @@
 use Rattle.std.specs.Prelude.{◌≡◌, ◌<ℤ◌}
 use Rattle.nef_geo.specs.Prelude.{ℕ, pos, Option, Some, None, Vector, dot, cross, triple, opposite, Label, IsAt}
 use Rattle.nef_space.specs.declared.label.Label.TheVariants.{Out}
-use Rattle.law_cyclic.specs.Arcs.{IsOnCircle}
+use Rattle.law_sphere.specs.cyclic.Arcs.{IsOnCircle}
 use Rattle.law_sphere.specs.Maps.{MapVertex, Arc, MapSloop, Map, sloop_item, items, dir_of, Side, around_svertex, pos_item, neg_item, whole}
 use Rattle.nef_smap.specs.Above.{IsFirst, over_forms, Stands}
 

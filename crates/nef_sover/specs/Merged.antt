@@ -4,7 +4,7 @@ use Rattle.nef_geo.specs.Prelude.{List, Vector, IsDirection, cross, Label, vecto
 use Rattle.std.specs.List.{AllZip}
 use Rattle.nef_geo.specs.declared.dir.Dir.{Dir}
 use Rattle.law_sphere.specs.Prelude.{Map, Item, item_normal, item_mark, item_pos, item_neg, StarLabel, ByOp}
-use Rattle.law_build.specs.Overlays.{NearByOp}
+use Rattle.law_sphere.specs.building.Overlays.{NearByOp}
 use Rattle.nef_star.specs.declared.rounds.CircleLabels.{CircleLabels}
 use Rattle.nef_star.specs.declared.star.Star.{Star}
 use Rattle.nef_star.specs.Stars.{star_of, IsStar}

@@ -4,7 +4,7 @@ use Rattle.law_sphere.specs.Stars.{Ray as PlainRay, Star as PlainStar}
 use Rattle.nef_spair.proofs.OneKind.{no-sloop-was, none-was}
 use Rattle.nef_spair.proofs.Places.{all-at}
 use Rattle.nef_spair.proofs.Built.{first-same, kept-stars, plain-from, plain-needed, plain-all, plain-ordered}
-use Rattle.law_build.proofs.BuiltAxes.{map-empty as map-none}
+use Rattle.law_sphere.proofs.building.BuiltAxes.{map-empty as map-none}
 use Rattle.nef_smap.proofs.MapLists.{sloop-was}
 
 module _ (q : RawStars) (p : Pieces) (m : SphereMap) (pieces : ArePiecesOf q p) (made : IsMadeOf q p m) where

@@ -5,7 +5,7 @@ use Rattle.law_sphere.specs.Maps.{MapSloop}
 use Rattle.law_sphere.specs.Stars.{Star as PlainStar, IsPlain, IsStraight, IsSimplified}
 use Rattle.law_sphere.specs.Builds.{Proper}
 use Rattle.law_sphere.specs.Raw.{IsBare}
-use Rattle.law_build.specs.From.{sloop_at, IsRawLabel}
+use Rattle.law_sphere.specs.building.From.{sloop_at, IsRawLabel}
 use Rattle.nef_star.specs.declared.star.Star.{Star}
 use Rattle.nef_star.specs.Stars.{star_of, IsStar, KeepsLabels}
 use Rattle.nef_smap.specs.declared.map.SLoop.{SLoop}

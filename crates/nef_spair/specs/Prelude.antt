@@ -7,8 +7,8 @@ pub use Rattle.law_sphere.specs.Labelling.{ByOp}
 pub use Rattle.law_sphere.specs.Least.{Cone, InOrder, Least, Ordered, SameLabels}
 pub use Rattle.law_sphere.specs.Maps.{Map, Valid}
 pub use Rattle.law_sphere.specs.Raw.{IsBare, IsLabelling, IsRawOf}
-pub use Rattle.law_build.specs.From.{IsArcFrom, IsFirstAfter, around_of, svertex_at}
-pub use Rattle.law_build.specs.Overlays.{Raw}
+pub use Rattle.law_sphere.specs.building.From.{IsArcFrom, IsFirstAfter, around_of, svertex_at}
+pub use Rattle.law_sphere.specs.building.Overlays.{Raw}
 pub use Rattle.nef_smap.specs.Maps.{IsRawStars, raw_of, sloop_of, svertex_of}
 pub use Rattle.nef_spair.specs.Arcs.{AreApart, AreArcs, AreTwoEnds, IsArcBelow, IsTwin, LeavesAlong}
 pub use Rattle.nef_spair.specs.Kinds.{IsKind, KindFits}

@@ -6,7 +6,7 @@ use Rattle.law_text.proofs.SameText.{same-parts, same-set_text, text-set, spelle
 use Rattle.nef_statement.proofs.Counts.{count-same, counted-by}
 use Rattle.nef_statement.proofs.Edged.{sorted-edges, belongs-edged}
 use Rattle.nef_complex.specs.declared.complex.Vertex.{Vertex as ComplexVertex}
-use Rattle.law_exist.proofs.Shown.{shown-maps}
+use Rattle.law_text.proofs.existence.Shown.{shown-maps}
 use Rattle.nef_volumes.proofs.Components.{shown-counted}
 use Rattle.nef_statement.proofs.Alike.{same-alike, same-turned, same-trans}
 use Rattle.nef_statement.proofs.Told.{HasWeights, vertices-told, weights-told}

@@ -9,7 +9,7 @@ pub use Rattle.nef_cand.proofs.Prelude.{Complex, IsOrder, got-at, one-order, poi
 pub use Rattle.std.proofs.lemmas.List.{get_or-set_other, get_or-set_same}
 pub use Rattle.std.proofs.lemmas.List.Sorted.{length_permutation}
 pub use Rattle.nef_geo.proofs.Orders.{dir_order, never-below}
-pub use Rattle.law_build.proofs.BuiltAxes.{number-order}
+pub use Rattle.law_sphere.proofs.building.BuiltAxes.{number-order}
 pub use Rattle.law_turns.proofs.Exists.{image-number, one-arc, one-plane}
 pub use Rattle.law_turns.proofs.Numbers.{at_most-turned, lowest_form-turned, lowest_vector-turned, normal-choice}
 pub use Rattle.law_turns.specs.Turned.{negates_odd}

@@ -2,7 +2,7 @@
 use Rattle.std.specs.Prelude.{◌≡◌, ◌↔◌}
 use Rattle.nef_complex.specs.Prelude.{ℕ, length, Joined, SpacePoint, Set, IsVertexPoint, IsEdgePoint, HasCorner, complex_of, ShowsSet, IsFacetOf, IsVolumeOf}
 use Rattle.law_complex.specs.Prelude.{Complex as PlainComplex, Corner, VertexSide, HasVolumeSide}
-use Rattle.law_links.specs.Components.{IsAtItem, IsAtSide}
+use Rattle.law_complex.specs.links.Components.{IsAtItem, IsAtSide}
 use Rattle.nef_conn.specs.Components.{HasComponents}
 use Rattle.nef_complex.specs.declared.complex.Complex.{Complex}
 use Rattle.nef_complex.specs.declared.parts.Parts.{Parts}

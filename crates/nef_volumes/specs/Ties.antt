@@ -10,7 +10,7 @@ use Rattle.law_complex.specs.Prelude.{Vertex, Edge, Complex, Corner, VertexSide,
 use Rattle.nef_facets.specs.Prelude.{AreTied, cell_of}
 use Rattle.nef_classes.specs.declared.table.Cell.{Cell}
 use Rattle.nef_classes.specs.declared.table.Tie.{Tie}
-use Rattle.law_links.specs.Links.{IsSideOf, LinkAlong, LinkAcross, LinkDown, VolumeLink}
+use Rattle.law_complex.specs.links.Links.{IsSideOf, LinkAlong, LinkAcross, LinkDown, VolumeLink}
 use Rattle.nef_complex.specs.Numbers.{count_sides}
 use Rattle.nef_complex.specs.Shells.{ShellLink}
 
