@@ -1,5 +1,5 @@
 -- The points of a set with one flat direction are those strictly between the ends of edges.
-use Rattle.law_complex.proofs.Prelude.{◌≡◌, ℕ, zero, suc, pos, arith, refl, sym, inl, inr, ⊎_elim, ◌↔◌, subst, sign, HasLabel, Germ, Flat, FlatDim, IsVertex, IsEven, SpacePoint, toward, IsBetween, Set, Vector, zero_vector, opposite, dot, cross, IsZero, IsDirection, SameDirection, Label, carriers, NearGerm, IsOnSegment, Drop, label_of, germ_of, Flat-from_cone, FlatCone-from_flat, Germ-zero, signs-same, same-point_sym, slope-same, germs-by_cell, Flat-by_germs, FlatDim-by_germs, flat-germ, flat-plane, flat-line, germ-nearby, flat-toward, even-germs, labels-by_germs, span-1, span-3, flat_dim-of, near-by_signs, flat-by_signs, between-inner, start, start-close, start-between, start-toward, even-until, reach_all, between-same, at-one, dir-at, label-unique, by_side, NearPlain, NearStraight, Cone, IsAt, Map, MapVertex, MapLabel, at_svertex, NearLabel, dir_of, Item, items, Vertex, Edge, Complex, HasEnds, IsEdge, Corner, IsCorner, Shows, cross-turned, parallel-both, SameDirection-turned, SameDirection-trans, dir-self, direction-left}
+use Rattle.law_complex.proofs.Prelude.{◌≡◌, ℕ, zero, suc, pos, arith, refl, sym, inl, inr, ⊎_elim, ◌↔◌, subst, sign, HasLabel, Germ, Flat, FlatDim, IsVertex, IsEven, SpacePoint, toward, IsBetween, Set, Vector, zero_vector, opposite, dot, cross, IsZero, IsDirection, SameDirection, Label, carriers, NearGerm, IsOnSegment, Drop, label_of, germ_of, Flat-from_cone, FlatCone-from_flat, Germ-zero, signs-same, same-point_sym, slope-same, germs-by_cell, Flat-by_germs, FlatDim-by_germs, flat-germ, flat-plane, flat-line, germ-nearby, flat-toward, even-germs, labels-by_germs, span-1, span-3, flat_dim-of, near-by_signs, flat-by_signs, between-inner, start, start-close, start-between, start-toward, even-until, reach_all, between-same, is-at_one, dir-at, label-unique, by_side, NearPlain, NearStraight, Cone, IsAt, Map, MapVertex, MapLabel, at_svertex, NearLabel, dir_of, Item, items, Vertex, Edge, Complex, HasEnds, IsEdge, Corner, IsCorner, Shows, cross-turned, parallel-both, SameDirection-turned, SameDirection-trans, dir-self, direction-left}
 use Rattle.law_near.proofs.Topology.{near-germ_zero}
 use Rattle.law_complex.proofs.Ways.{between-way, between-rest, between-outer, same-itself}
 use Rattle.law_complex.proofs.Cones.{germ-label, near-germ, near-label, FlatAre, plane-sides}
@@ -172,8 +172,8 @@ edge-points_of s C S e E y b =
 pub edge-points : (s : Set) (C : Complex) (k : ℕ) (e : Edge) (v w : Vertex) (y : SpacePoint) → Shows s C → IsAt C.edges k e → HasEnds C e v w → IsBetween v.point y w.point → IsAlongEdge s e v y
 edge-points s C k e v w y S a H b =
     let E = S.edges.edges k e a in
-    let f = at-one C.vertices e.low E.low_vertex v E.is_low H.low in
-    let g = at-one C.vertices e.high E.high_vertex w E.is_high H.high in
+    let f = is-at_one C.vertices e.low E.low_vertex v E.is_low H.low in
+    let g = is-at_one C.vertices e.high E.high_vertex w E.is_high H.high in
     subst (λ (x : Vertex). IsAlongEdge s e x y) f (edge-points_of s C S e E y
     (subst (λ (x : Vertex). IsBetween E.low_vertex.point y x.point) (sym g) (subst (λ (x : Vertex). IsBetween x.point y w.point) (sym f) b)))
 
@@ -181,8 +181,8 @@ edge-points s C k e v w y S a H b =
 pub edge-way : (s : Set) (C : Complex) (k : ℕ) (e : Edge) (v w : Vertex) → Shows s C → IsAt C.edges k e → HasEnds C e v w → IsZero (cross (dir_of v.map.svertices e.low_svertex) (toward v.point w.point))
 edge-way s C k e v w S a H =
     let E = S.edges.edges k e a in
-    let f = at-one C.vertices e.low E.low_vertex v E.is_low H.low in
-    let g = at-one C.vertices e.high E.high_vertex w E.is_high H.high in
+    let f = is-at_one C.vertices e.low E.low_vertex v E.is_low H.low in
+    let g = is-at_one C.vertices e.high E.high_vertex w E.is_high H.high in
     subst (λ (x : Vertex). IsZero (cross (dir_of x.map.svertices e.low_svertex) (toward x.point w.point))) f
     (subst (λ (x : Vertex). IsZero (cross (dir_of E.low_vertex.map.svertices e.low_svertex) (toward E.low_vertex.point x.point))) g
     (subst (λ (d : Vector). IsZero (cross d (toward E.low_vertex.point E.high_vertex.point))) (sym (svertex-dir e E.low_vertex E.low_end E.leaves))
@@ -191,5 +191,5 @@ edge-way s C k e v w S a H =
 -- a corner has one vertex and one item
 pub corner-one : (C : Complex) (k : Corner) (v w : Vertex) (x z : Item) → IsCorner C k v x → IsCorner C k w z → x ≡ z
 corner-one C k v w x z a b =
-    let f = at-one C.vertices k.vertex v w a.vertex b.vertex in
-    at-one (items w.map) k.item x z (subst (λ (r : Vertex). IsAt (items r.map) k.item x) f a.item) b.item
+    let f = is-at_one C.vertices k.vertex v w a.vertex b.vertex in
+    is-at_one (items w.map) k.item x z (subst (λ (r : Vertex). IsAt (items r.map) k.item x) f a.item) b.item

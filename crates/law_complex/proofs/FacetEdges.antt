@@ -1,5 +1,5 @@
 -- Beside an edge point: the labels of its lower end near the edge are the germs close to it; and turned ways.
-use Rattle.law_complex.proofs.Prelude.{◌≡◌, ℕ, ℤ, pos, ◌-ℤ◌, ◌*ℤ◌, ◌+ℤ◌, ◌<ℤ◌, arith, sym, ◌∙◌, inl, inr, ⊎_elim, ◌∷◌, subst, [], ints, sign, ring, at, num, neg, ◌⊕◌, ◌⊖◌, ◌⊗◌, given, none, follows, by_order, Germ, Flat, FlatDim, SpacePoint, SamePoint, toward, IsBetween, Set, Vector, opposite, blend, dot, cross, triple, IsZero, IsDirection, IsNormal, SameDirection, Label, SameGerms, FlatDim-by_germs, FlatDim-one, FlatCone-from_flat, near-of_flat, factor-same, forms, IsAt, MapVertex, Arc, Item, arc_item, sloop_item, items, item_normal, dir_of, OnItem, NearLabel, Valid, normal-direction, dot-comb, same-plus, same-minus, amount, far-keeps, at-one, dir-at, arc-at, direction-around, turn-same, level-same, Vertex, Edge, Complex, HasEnds, Shows, IsArcOnSide, vector-same, SameDirection-turned, SameDirection-trans, dir-self, parallel-in_plane, opposite-same, direction-left, direction-right}
+use Rattle.law_complex.proofs.Prelude.{◌≡◌, ℕ, ℤ, pos, ◌-ℤ◌, ◌*ℤ◌, ◌+ℤ◌, ◌<ℤ◌, arith, sym, ◌∙◌, inl, inr, ⊎_elim, ◌∷◌, subst, [], ints, sign, ring, at, num, neg, ◌⊕◌, ◌⊖◌, ◌⊗◌, given, none, follows, by_order, Germ, Flat, FlatDim, SpacePoint, SamePoint, toward, IsBetween, Set, Vector, opposite, blend, dot, cross, triple, IsZero, IsDirection, IsNormal, SameDirection, Label, SameGerms, FlatDim-by_germs, FlatDim-one, FlatCone-from_flat, near-of_flat, factor-same, forms, IsAt, MapVertex, Arc, Item, arc_item, sloop_item, items, item_normal, dir_of, OnItem, NearLabel, Valid, normal-direction, dot-comb, same-plus, same-minus, amount, far-keeps, is-at_one, dir-at, arc-at, direction-around, turn-same, level-same, Vertex, Edge, Complex, HasEnds, Shows, IsArcOnSide, vector-same, SameDirection-turned, SameDirection-trans, dir-self, parallel-in_plane, opposite-same, direction-left, direction-right}
 use Rattle.law_complex.proofs.Cones.{FlatAre}
 use Rattle.law_complex.proofs.Edges.{edge-points, near_point, near-germs}
 use Rattle.law_complex.proofs.FacetSides.{IsSided}
@@ -41,7 +41,7 @@ module _ (s : Set) (C : Complex) (S : Shows s C) (i : ℕ) (e : Edge) (v w : Ver
   pub low-end : (u : MapVertex) × IsAt v.map.svertices e.low_svertex u
   low-end =
       let E = S.edges.edges i e a in
-      (E.low_end, subst (λ (x : Vertex). IsAt x.map.svertices e.low_svertex E.low_end) (at-one C.vertices e.low E.low_vertex v E.is_low H.low) E.leaves)
+      (E.low_end, subst (λ (x : Vertex). IsAt x.map.svertices e.low_svertex E.low_end) (is-at_one C.vertices e.low E.low_vertex v E.is_low H.low) E.leaves)
 
   abbrev u : MapVertex
   u = low-end.0

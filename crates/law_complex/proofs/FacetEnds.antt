@@ -1,5 +1,5 @@
 -- What a ray within a facet first meets has an item of the facet's plane on the ray's side; and where such an item lies behind what is first met, the point lies in a facet.
-use Rattle.law_complex.proofs.Prelude.{◌≡◌, ℕ, pos, arith, refl, sym, ◌∙◌, ⊎_elim, subst, ints, sign, HasLabel, Germ, Flat, FlatDim, SpacePoint, Form, form_at, normal_of, slope, SamePoint, toward, IsBetween, Set, Vector, opposite, dot, IsDirection, IsNormal, SameDirection, Drop, IsFlatBelow, SameGerms, even-germs, between-turned, between-inner, flat_way-end, even-until, between-same, by_side, IsAt, Item, arc_item, item_normal, item_pos, item_mark, item_neg, dir_of, at-one, at-arc, level-same, Vertex, Edge, Complex, Corner, HasEnds, IsCorner, Shows, IsVertexPoint, IsEdgePoint, PlaneMeet, meets_vertex, meets_edge, Meets, LiesIn, IsFirstInPlane, IsCornerAt, IsFlatIn, dot-comm, cross-turned, SameDirection-turned, SameDirection-trans, in-span, dot-opposite, level-way, direction-left, direction-right}
+use Rattle.law_complex.proofs.Prelude.{◌≡◌, ℕ, pos, arith, refl, sym, ◌∙◌, ⊎_elim, subst, ints, sign, HasLabel, Germ, Flat, FlatDim, SpacePoint, Form, form_at, normal_of, slope, SamePoint, toward, IsBetween, Set, Vector, opposite, dot, IsDirection, IsNormal, SameDirection, Drop, IsFlatBelow, SameGerms, even-germs, between-turned, between-inner, flat_way-end, even-until, between-same, by_side, IsAt, Item, arc_item, item_normal, item_pos, item_mark, item_neg, dir_of, is-at_one, at-arc, level-same, Vertex, Edge, Complex, Corner, HasEnds, IsCorner, Shows, IsVertexPoint, IsEdgePoint, PlaneMeet, meets_vertex, meets_edge, Meets, LiesIn, IsFirstInPlane, IsCornerAt, IsFlatIn, dot-comm, cross-turned, SameDirection-turned, SameDirection-trans, in-span, dot-opposite, level-way, direction-left, direction-right}
 use Rattle.law_complex.proofs.Cones.{FlatAre, near-label}
 use Rattle.law_complex.proofs.Planes.{plane-way}
 use Rattle.law_complex.proofs.Ways.{between-way, between-start, between-ends, same-itself}
@@ -14,9 +14,9 @@ use Rattle.law_complex.proofs.FacetEdges.{ahead-back, ahead-same, low-end, way-i
 low-level : (s : Set) (C : Complex) (S : Shows s C) (h : Form) (i : ℕ) (e : Edge) (v w : Vertex) (z : SpacePoint) → (a : IsAt C.edges i e) (H : HasEnds C e v w) (b : IsBetween v.point z w.point) → LiesIn C h i
     → dot (normal_of h) (low-end s C S i e v w z a H b).0.dir ≡ pos 0
 low-level s C S h i e v w z a H b (g, x, y, c, G, p, q) =
-    let same = at-one C.edges i e g a c in
-    let f = at-one C.vertices e.low x v (subst (λ (r : Edge). IsAt C.vertices r.low x) (sym same) G.low) H.low in
-    let k = at-one C.vertices e.high y w (subst (λ (r : Edge). IsAt C.vertices r.high y) (sym same) G.high) H.high in
+    let same = is-at_one C.edges i e g a c in
+    let f = is-at_one C.vertices e.low x v (subst (λ (r : Edge). IsAt C.vertices r.low x) (sym same) G.low) H.low in
+    let k = is-at_one C.vertices e.high y w (subst (λ (r : Edge). IsAt C.vertices r.high y) (sym same) G.high) H.high in
     let on-v = subst (λ (r : Vertex). form_at h r.point ≡ pos 0) f p in
     let on-w = subst (λ (r : Vertex). form_at h r.point ≡ pos 0) k q in
     let way = edge-way s C i e v w S a H in
@@ -24,7 +24,7 @@ low-level s C S h i e v w z a H b (g, x, y, c, G, p, q) =
     subst (λ (d : Vector). dot (normal_of h) d ≡ pos 0) (way-is s C S i e v w z a H b) along
 
 -- a plane of the same normal has the same directions
-level-normal : (n m v : Vector) → SameDirection n m → dot n v ≡ pos 0 → dot m v ≡ pos 0
+pub level-normal : (n m v : Vector) → SameDirection n m → dot n v ≡ pos 0 → dot m v ≡ pos 0
 level-normal n m v w z = dot-comm m v ∙ level-way v n m w (dot-comm v n ∙ z)
 
 flats-normal : (s : Set) (q : SpacePoint) (n m : Vector) → SameDirection n m → FlatAre s q n → FlatAre s q m
@@ -120,7 +120,7 @@ module _ (s : Set) (C : Complex) (S : Shows s C) (h : Form) (y : SpacePoint) (no
     by-vertex : (i : ℕ) → IsVertexPoint C i z → IsCornerAt C h (opposite d) (meets_vertex i) k
         → IsFlatIn s h y × ((u : Vertex) (o : Item) → IsCorner C k u o → HasLabel s y (item_mark o) × ((e : Vector) → Germ s y e (by_side (item_pos o) (item_mark o) (item_neg o) (sign (dot (item_normal o) e)))))
     by-vertex i (u, a, e) (v, x, f, c, r, o) =
-        let same = at-one C.vertices i u v a (subst (λ (j : ℕ). IsAt C.vertices j v) f c.vertex) in
+        let same = is-at_one C.vertices i u v a (subst (λ (j : ℕ). IsAt C.vertices j v) f c.vertex) in
         let at-z = subst (λ (w : Vertex). SamePoint w.point z) same e in
         let p = v.point in
         let way = ahead-back y p d (ahead-same y z p d at-z I.ahead) in
@@ -131,9 +131,9 @@ module _ (s : Set) (C : Complex) (S : Shows s C) (h : Form) (y : SpacePoint) (no
     by-edge : (i : ℕ) → IsEdgePoint C i z × LiesIn C h i → IsCornerAt C h (opposite d) (meets_edge i) k
         → IsFlatIn s h y × ((u : Vertex) (o : Item) → IsCorner C k u o → HasLabel s y (item_mark o) × ((e : Vector) → Germ s y e (by_side (item_pos o) (item_mark o) (item_neg o) (sign (dot (item_normal o) e)))))
     by-edge i ((g, u, w, b, G, t), lies) (e, v, c, a, f, l, o, r, side) =
-        let same = at-one C.edges i g e b a in
+        let same = is-at_one C.edges i g e b a in
         let G' = subst (λ (j : Edge). HasEnds C j u w) same G in
-        let one = at-one C.vertices e.low u v G'.low l in
+        let one = is-at_one C.vertices e.low u v G'.low l in
         let H = subst (λ (j : Vertex). HasEnds C e j w) one G' in
         let t' = subst (λ (j : Vertex). IsBetween j.point z w.point) one t in
         let way = ahead-back y z d I.ahead in

@@ -12,13 +12,11 @@ use Rattle.law_complex.proofs.FacetEnds.{item-seen, facet-behind}
 use Rattle.law_complex.proofs.FacetAngles.{through-at, through-slope}
 use Rattle.law_complex.proofs.FacetSight.{sees-vertex}
 use Rattle.law_sphere.proofs.Builder.{normal-either}
+use Rattle.law_near.proofs.PointOrder.{weight}
 
 -- ---- the plane of an item
 scaled-nought : (k x : ℤ) → pos 0 <ℤ k → x *ℤ k ≡ pos 0 → x ≡ pos 0
 scaled-nought k x h e = ⊎_elim (λ z. z) (λ f. absurd (product-off k x h f (ring (k ∷ x ∷ []) (at 0 ⊗ at 1) (at 1 ⊗ at 0) tt ∙ e))) (nought-or x)
-
-pub weight : (p : SpacePoint) → pos 0 <ℤ pos p.w
-weight p = let l = p.proper in omega (arith, ints)
 
 pub normal-scaled : (n : Vector) (k : ℤ) → pos 0 <ℤ k → IsNormal n → IsNormal (vector (n.x *ℤ k) (n.y *ℤ k) (n.z *ℤ k))
 normal-scaled n k h N = record {

@@ -1,5 +1,5 @@
 -- Two vertices between which one direction is flat are the ends of an edge; so each point with one flat direction lies on an edge, and each svertex is an end of one.
-use Rattle.law_complex.proofs.Prelude.{◌≡◌, ℕ, ◌<◌, ℤ, pos, ◌-ℤ◌, ◌*ℤ◌, neg_ℤ, arith, refl, ap, sym, ◌∙◌, ◌⊎◌, inl, inr, ⊎_elim, ◌∷◌, subst, [], ints, cases_order, Sign, minus, nought, plus, sign, ring, at, num, neg, ◌⊕◌, ◌⊖◌, ◌⊗◌, Germ, FlatDim, IsVertex, SpacePoint, SamePoint, toward, IsBetween, Set, Vector, dot, cross, IsZero, IsDirection, SameDirection, IsOpposite, Label, label_of, FlatDim-one, FlatDim-by_germs, germs-by_cell, flat-germ, span-1, between-turned, ray-cell, carriers, reach_all, between-same, toward-point, point-toward, same-point_sym, signs-same, start-close, flat_way-end, edge-around, WayEnd, by_side, NearPlain, NearStraight, Least, Cone, IsAt, Map, MapVertex, MapLabel, Matched, neither-svertex, label-unique, at-one, circle-point, Vertex, Edge, Complex, IsEdge, Shows, IsEdgePoint, zero-decided, self-pos, SameDirection-turned, SameDirection-trans, dir-self, in-span, dot-comm, direction-right, IsOpposite-same}
+use Rattle.law_complex.proofs.Prelude.{◌≡◌, ℕ, ◌<◌, ℤ, pos, ◌-ℤ◌, ◌*ℤ◌, neg_ℤ, arith, refl, ap, sym, ◌∙◌, ◌⊎◌, inl, inr, ⊎_elim, ◌∷◌, subst, [], ints, cases_order, Sign, minus, nought, plus, sign, ring, at, num, neg, ◌⊕◌, ◌⊖◌, ◌⊗◌, Germ, FlatDim, IsVertex, SpacePoint, SamePoint, toward, IsBetween, Set, Vector, dot, cross, IsZero, IsDirection, SameDirection, IsOpposite, Label, label_of, FlatDim-one, FlatDim-by_germs, germs-by_cell, flat-germ, span-1, between-turned, ray-cell, carriers, reach_all, between-same, toward-point, point-toward, same-point_sym, signs-same, start-close, flat_way-end, edge-around, WayEnd, by_side, NearPlain, NearStraight, Least, Cone, IsAt, Map, MapVertex, MapLabel, Matched, neither-svertex, label-unique, is-at_one, circle-point, Vertex, Edge, Complex, IsEdge, Shows, IsEdgePoint, zero-decided, self-pos, SameDirection-turned, SameDirection-trans, dir-self, in-span, dot-comm, direction-right, IsOpposite-same}
 use Rattle.law_complex.proofs.Cones.{near-germ, sided-two}
 use Rattle.law_complex.proofs.Ways.{between-way, between-ends, between-cases, same-itself, onward, onward-way}
 use Rattle.law_complex.proofs.Edges.{near_point, near-between, near-germs, near-flat, way-near, near-one, label-near}
@@ -137,7 +137,7 @@ module _ (s : Set) (C : Complex) (S : Shows s C) where
       where
         apart : i ≡ j → ⊥
         apart e =
-            let same = at-one C.vertices j v w (subst (λ (k : ℕ). IsAt C.vertices k v) e a) b in
+            let same = is-at_one C.vertices j v w (subst (λ (k : ℕ). IsAt C.vertices k v) e a) b in
             leads (point-toward v.point w.point (subst (λ (x : Vertex). SamePoint v.point x.point) same (same-itself v.point)))
 
         turned : EdgeBetween C j i w v → EdgeBetween C i j v w

@@ -27,7 +27,6 @@ pub use Rattle.law_sphere.proofs.Compare.{Matched, normals-same}
 pub use Rattle.law_sphere.proofs.Forms.{OnItem-by_signs, PlaceOf, free_place, item-forms, item_place, on-direction, on-level, place_of, svertex_place}
 pub use Rattle.law_sphere.proofs.Generic.{amount, far-keeps, far-level}
 pub use Rattle.law_sphere.proofs.Labels.{far-from_near, label-by_signs, label-direction, label-exists, label-unique, near-exists, near-from_far, near-unique}
-pub use Rattle.law_sphere.proofs.Lists.{at-one}
 pub use Rattle.law_sphere.proofs.NearItems.{near-free, near-item}
 pub use Rattle.law_sphere.proofs.Parallel.{circle-point, row-level}
 pub use Rattle.law_sphere.proofs.Places.{SameDirection-decided, kept-minus, kept-plus, row_x, row_x-is, row_y, row_y-is, row_z, row_z-is}
@@ -39,3 +38,4 @@ pub use Rattle.law_complex.specs.Complexes.{Complex, Corner, Edge, HasEnds, IsCo
 pub use Rattle.law_complex.specs.Laws.{IsFlatIn, IsNearCut, IsSkeletonIn, IsVertexOfBoth}
 pub use Rattle.law_complex.specs.Shows.{SamePlane, Shows}
 pub use Rattle.law_complex.specs.Skeleton.{HasCorner, IsArcOnSide, IsCornerAt, IsEdgePoint, IsFacetPoint, IsFirstInPlane, IsOnEdges, IsSkeletonPoint, IsSpot, IsVertexPoint, LiesIn, Meets, PlaneMeet, RayNames, Spot, at_vertex, in_facet, item_plane, meets_edge, meets_vertex, on_edge}
+pub use Rattle.nef_space.proofs.Lists.{is-at_one}

@@ -1,5 +1,5 @@
 -- The skeleton points of a complex that shows a set are those where not all directions are flat; the labels between them are theirs.
-use Rattle.law_complex.proofs.Prelude.{◌≡◌, ℕ, zero, suc, ◌<◌, ℤ, pos, ◌+ℤ◌, ◌*ℤ◌, arith, refl, ap, sym, ◌∙◌, ◌⊎◌, inl, inr, ⊎_elim, ◌↔◌, List, ◌∷◌, subst, [], ints, Sign, minus, nought, plus, sign, sign-plus, sign-minus, by_order, ring, at, num, ◌⊕◌, ◌⊗◌, HasLabel, Germ, Flat, FlatDim, IsEven, SpacePoint, SamePoint, InFrame, InClosedFrame, toward, IsAhead, IsBetween, Set, Holds, Vector, vector, dot, IsDirection, SameDirection, Label, Out, In, carriers, IsOnSegment, IsFlatBelow, Drop, SameGerms, label_of, InFrame-decided, Germ-unique, label-one, Label-cells, germ-toward, signs-same, same-point_sym, germs-by_cell, FlatDim-by_germs, FlatDim-one, even-germs, labels-by_germs, span-3, flat_dim-of, between-turned, between-inner, start-close, start-toward, even-until, beyond, halfway, halfway-between, halfway-outside, leads, leads-somewhere, way_factor, way_factor-some, reach_all, toward-point, point-toward, factor-same, by_side, IsAt, MapVertex, Item, item_normal, item_pos, item_mark, item_neg, dir_of, MapLabel, NearLabel, label-exists, near-exists, at-one, dir-at, Vertex, Edge, Complex, Corner, IsCorner, Shows, IsFacetPoint, Spot, at_vertex, on_edge, in_facet, IsSpot, IsSkeletonPoint, SameDirection-trans, direction-left}
+use Rattle.law_complex.proofs.Prelude.{◌≡◌, ℕ, zero, suc, ◌<◌, ℤ, pos, ◌+ℤ◌, ◌*ℤ◌, arith, refl, ap, sym, ◌∙◌, ◌⊎◌, inl, inr, ⊎_elim, ◌↔◌, List, ◌∷◌, subst, [], ints, Sign, minus, nought, plus, sign, sign-plus, sign-minus, by_order, ring, at, num, ◌⊕◌, ◌⊗◌, HasLabel, Germ, Flat, FlatDim, IsEven, SpacePoint, SamePoint, InFrame, InClosedFrame, toward, IsAhead, IsBetween, Set, Holds, Vector, vector, dot, IsDirection, SameDirection, Label, Out, In, carriers, IsOnSegment, IsFlatBelow, Drop, SameGerms, label_of, InFrame-decided, Germ-unique, label-one, Label-cells, germ-toward, signs-same, same-point_sym, germs-by_cell, FlatDim-by_germs, FlatDim-one, even-germs, labels-by_germs, span-3, flat_dim-of, between-turned, between-inner, start-close, start-toward, even-until, beyond, halfway, halfway-between, halfway-outside, leads, leads-somewhere, way_factor, way_factor-some, reach_all, toward-point, point-toward, factor-same, by_side, IsAt, MapVertex, Item, item_normal, item_pos, item_mark, item_neg, dir_of, MapLabel, NearLabel, label-exists, near-exists, is-at_one, dir-at, Vertex, Edge, Complex, Corner, IsCorner, Shows, IsFacetPoint, Spot, at_vertex, on_edge, in_facet, IsSpot, IsSkeletonPoint, SameDirection-trans, direction-left}
 use Rattle.law_complex.specs.Belongs.{SpotMark, ItemLabel, Towards, Belongs, on_skeleton, off_skeleton}
 use Rattle.law_complex.proofs.Cones.{label-germ}
 use Rattle.law_complex.proofs.Ways.{between-way}
@@ -53,20 +53,20 @@ module _ (s : Set) (C : Complex) (S : Shows s C) (facet-at : FacetAt s C) (facet
   -- ---- labels of skeleton points
   pub spot-mark : (o : Spot) (y : SpacePoint) → IsSpot C o y → (l : Label) → SpotMark C o l → HasLabel s y l
   spot-mark (at_vertex k) y (v, a, e) l (u, b, m) =
-      let f = at-one C.vertices k u v b a in
+      let f = is-at_one C.vertices k u v b a in
       Label-cells s l v.point y (signs-same (carriers s) v.point y e) (subst (HasLabel s v.point) (ap (λ (r : Vertex). r.map.mark) (sym f) ∙ m) (S.cones k v a).mark)
   spot-mark (on_edge k) y (e, v, w, a, H, b) l (g, c, m) =
-      let f = at-one C.edges k g e c a in
+      let f = is-at_one C.edges k g e c a in
       subst (HasLabel s y) (ap (λ (r : Edge). r.mark) (sym f) ∙ m) (edge-points s C k e v w y S a H b).2
   spot-mark (in_facet k) y (v, x, a, F) l (u, z, b, m) = subst (HasLabel s y) (ap item_mark (sym (corner-one C k u v z x b a)) ∙ m) (facet-at k v x y a F).2
 
   pub spot-toward : (o : Spot) (y : SpacePoint) → IsSpot C o y → (d : Vector) (l : Label) → Towards C o d l → Germ s y d l
   spot-toward (at_vertex k) y (v, a, e) d l (u, b, m) =
-      let f = at-one C.vertices k u v b a in
+      let f = is-at_one C.vertices k u v b a in
       (germs-by_cell s v.point y (signs-same (carriers s) v.point y e) d l).0 (label-germ v.map s v.point (S.cones k v a) d l (subst (λ (r : Vertex). MapLabel r.map d l) f m))
   spot-toward (on_edge k) y (e, v, w, a, H, b) d l (g, u, c, q, n) =
-      let f = at-one C.edges k g e c a in
-      let h = at-one C.vertices e.low u v (subst (λ (r : Edge). IsAt C.vertices r.low u) f q) H.low in
+      let f = is-at_one C.edges k g e c a in
+      let h = is-at_one C.vertices e.low u v (subst (λ (r : Edge). IsAt C.vertices r.low u) f q) H.low in
       ((edge-points s C k e v w y S a H b).3 d l).1 (subst (λ (r : Vertex). NearLabel r.map (dir_of r.map.svertices e.low_svertex) d l) h (subst (λ (r : Edge). NearLabel u.map (dir_of u.map.svertices r.low_svertex) d l) f n))
   spot-toward (in_facet k) y (v, x, a, F) d l (u, z, b, m) = by (subst (λ (r : Item). ItemLabel r d l) (corner-one C k u v z x b a) m)
     where
@@ -88,7 +88,7 @@ module _ (s : Set) (C : Complex) (S : Shows s C) (facet-at : FacetAt s C) (facet
   toward-exists (at_vertex k) y (v, a, e) d i = let m = label-exists v.map (S.cones k v a).valid d i in (m.0, (v, a, m.1))
   toward-exists (on_edge k) y (e, v, w, a, H, b) d i =
       let E = S.edges.edges k e a in
-      let f = at-one C.vertices e.low E.low_vertex v E.is_low H.low in
+      let f = is-at_one C.vertices e.low E.low_vertex v E.is_low H.low in
       let u = subst (λ (r : Vertex). IsAt r.map.svertices e.low_svertex E.low_end) f E.leaves in
       let way = subst IsDirection (sym (dir-at v.map.svertices e.low_svertex E.low_end u)) ((S.cones e.low v H.low).valid.shaped.svertex_dirs e.low_svertex E.low_end u) in
       let m = near-exists v.map (S.cones e.low v H.low).valid (dir_of v.map.svertices e.low_svertex) d way in

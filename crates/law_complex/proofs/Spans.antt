@@ -1,5 +1,5 @@
 -- An edge point lies between its ends, and a facet point between the ends of two opposite ways in its plane; so what bounds the vertices of a plane bounds both. And y and z hardly change along the upward direction.
-use Rattle.law_complex.proofs.Prelude.{◌≡◌, ℕ, ◌*◌, ◌<◌, ℤ, pos, neg_ℤ, ◌+ℤ◌, ◌-ℤ◌, ◌*ℤ◌, ◌<ℤ◌, ◌≤ℤ◌, arith, ◌∷◌, subst, [], ints, ring, at, num, neg, ◌⊕◌, ◌⊖◌, ◌⊗◌, given, none, follows, follows_times, mul_nonneg, mul_le_right, cancel_le, Flat, SpacePoint, Form, form, form_at, slope, SamePoint, InClosedFrame, toward, IsAhead, IsBetween, Set, Vector, opposite, cross, IsZero, IsDirection, SameDirection, up, mixed-of, flat_way-end, of_point, form-sum, IsAt, at-one, Vertex, Edge, Complex, Shows, IsVertexPoint, IsEdgePoint, PlaneMeet, meets_vertex, meets_edge, Meets, LiesIn, IsFlatIn, SameDirection-turned, SameDirection-trans, direction-opposite, direction-left}
+use Rattle.law_complex.proofs.Prelude.{◌≡◌, ℕ, ◌*◌, ◌<◌, ℤ, pos, neg_ℤ, ◌+ℤ◌, ◌-ℤ◌, ◌*ℤ◌, ◌<ℤ◌, ◌≤ℤ◌, arith, ◌∷◌, subst, [], ints, ring, at, num, neg, ◌⊕◌, ◌⊖◌, ◌⊗◌, given, none, follows, follows_times, mul_nonneg, mul_le_right, cancel_le, Flat, SpacePoint, Form, form, form_at, slope, SamePoint, InClosedFrame, toward, IsAhead, IsBetween, Set, Vector, opposite, cross, IsZero, IsDirection, SameDirection, up, mixed-of, flat_way-end, of_point, form-sum, IsAt, is-at_one, Vertex, Edge, Complex, Shows, IsVertexPoint, IsEdgePoint, PlaneMeet, meets_vertex, meets_edge, Meets, LiesIn, IsFlatIn, SameDirection-turned, SameDirection-trans, direction-opposite, direction-left}
 use Rattle.law_complex.specs.Spans.{EachVertexOn, EachPointOn, IsAtMostNought, Coordinate, coordinate_x, coordinate_y, coordinate_z, coordinate_of, IsWithin, IsCloseAbove}
 use Rattle.law_complex.proofs.FacetWays.{plane-ahead, end-meets}
 use Rattle.law_complex.proofs.FacetEdges.{ahead-back}
@@ -44,7 +44,7 @@ below-between f p r q b x y =
         cancel_le c (pos 0) (pos k) (omega (arith, ints)) (omega (arith, ints))
 
 -- ---- opposite ways
-opposite-level : (h : Form) (d : Vector) → slope h d ≡ pos 0 → slope h (opposite d) ≡ pos 0
+pub opposite-level : (h : Form) (d : Vector) → slope h d ≡ pos 0 → slope h (opposite d) ≡ pos 0
 opposite-level h d z =
     follows (h.a ∷ h.b ∷ h.c ∷ d.x ∷ d.y ∷ d.z ∷ []) (at 0 ⊗ neg (at 3) ⊕ at 1 ⊗ neg (at 4) ⊕ at 2 ⊗ neg (at 5)) (num (pos 0))
     (given (num (pos 0) ⊖ num (pos 1)) (at 0 ⊗ at 3 ⊕ at 1 ⊗ at 4 ⊕ at 2 ⊗ at 5) (num (pos 0)) z none) tt
@@ -62,9 +62,9 @@ module _ (s : Set) (C : Complex) (S : Shows s C) (h f : Form) (below : EachVerte
 
   edge-below : (k : ℕ) (y : SpacePoint) → IsEdgePoint C k y → LiesIn C h k → IsAtMostNought f y
   edge-below k y (e, v, w, a, H, b) (g, t, u, c, G, p, q) =
-      let same = at-one C.edges k g e c a in
-      let i = at-one C.vertices e.low t v (subst (λ (r : Edge). IsAt C.vertices r.low t) same G.low) H.low in
-      let j = at-one C.vertices e.high u w (subst (λ (r : Edge). IsAt C.vertices r.high u) same G.high) H.high in
+      let same = is-at_one C.edges k g e c a in
+      let i = is-at_one C.vertices e.low t v (subst (λ (r : Edge). IsAt C.vertices r.low t) same G.low) H.low in
+      let j = is-at_one C.vertices e.high u w (subst (λ (r : Edge). IsAt C.vertices r.high u) same G.high) H.high in
       below-between f v.point y w.point b
       (below e.low v H.low (subst (λ (r : Vertex). form_at h r.point ≡ pos 0) i p))
       (below e.high w H.high (subst (λ (r : Vertex). form_at h r.point ≡ pos 0) j q))

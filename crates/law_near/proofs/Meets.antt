@@ -20,7 +20,7 @@ data Rank (hs ks : List Form) (p : SpacePoint) : Type 0 where
   rank_2 : (n m : Form) → Lies hs n → sign_at n p ≡ nought → Lies hs m → sign_at m p ≡ nought → IsDirection (cross (normal_of n) (normal_of m)) → ((h : Form) → Lies ks h → sign_at h p ≡ nought → triple (normal_of n) (normal_of m) (normal_of h) ≡ pos 0) → Rank hs ks p
   rank_3 : IsMeet hs p → Rank hs ks p
 
-triple-same : (n m : Vector) → triple n m m ≡ pos 0
+pub triple-same : (n m : Vector) → triple n m m ≡ pos 0
 triple-same n m = dot-zero n (cross m m) (cross-self m)
 
 triple-parallel : (n m k : Vector) → IsZero (cross n k) → triple n m k ≡ pos 0

@@ -2,7 +2,7 @@
 use Rattle.law_near.proofs.Prelude.{◌≡◌, ℤ, pos, ◌*ℤ◌, ◌<ℤ◌, arith, ap, ◌∙◌, inl, inr, ◌∷◌, [], ints, cancel_lt, mul_lt_right, ring, at, ◌⊗◌, SpacePoint, SamePoint, IsPointBelow}
 use Rattle.nef_space.proofs.Fractions.{fraction-trans, fraction-eq-trans}
 
-weight : (p : SpacePoint) → pos 0 <ℤ pos p.w
+pub weight : (p : SpacePoint) → pos 0 <ℤ pos p.w
 weight p = let h = p.proper in omega (arith, ints)
 
 -- a/b < c/d = e/f gives a/b < e/f

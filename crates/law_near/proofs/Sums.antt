@@ -1,6 +1,7 @@
 -- Sums of homogeneous vectors, and vectors that are equal up to a positive factor.
 use Rattle.law_near.proofs.Prelude.{◌≡◌, ℕ, zero, suc, ◌+◌, ◌-◌, ◌*◌, ◌<◌, ℤ, pos, ◌+ℤ◌, ◌*ℤ◌, ◌<ℤ◌, arith, refl, ap, sym, ◌∙◌, ◌⊎◌, inl, inr, List, ◌∷◌, [], ints, cases_order, mul-pos, ring, at, num, ◌⊕◌, ◌⊖◌, ◌⊗◌, follows, given, none, sign, sign-scaled, Form}
 pub use Rattle.law_near.specs.Homogeneous.{Homogeneous, homogeneous, form_on, mix, IsSum, SameUpToFactor, IsMixed, OnSegment, SameFormSigns}
+use Rattle.nef_space.proofs.Ring.{one_times}
 
 pub some-pos : (k : ℕ) → 0 < k → pos 0 <ℤ pos k
 some-pos k h = omega (arith, ints)
@@ -23,11 +24,8 @@ form-sum h k r i p j q s =
     (given c (k' ⊗ at 14) (i' ⊗ at 6 ⊕ j' ⊗ at 10) s.is_z
     (given d (k' ⊗ at 15) (i' ⊗ at 7 ⊕ j' ⊗ at 11) s.is_w none)))) tt
 
-one-mix : (x : ℤ) → pos 1 *ℤ x ≡ x
-one-mix x = omega (arith, ints)
-
 pub sum-mix : (i : ℕ) (p : Homogeneous) (j : ℕ) (q : Homogeneous) → IsSum 1 (mix i p j q) i p j q
-sum-mix i p j q = record { is_x = one-mix _; is_y = one-mix _; is_z = one-mix _; is_w = one-mix _ }
+sum-mix i p j q = record { is_x = one_times _; is_y = one_times _; is_z = one_times _; is_w = one_times _ }
 
 -- ---- equal up to a positive factor
 pub same-refl : (p : Homogeneous) → SameUpToFactor p p

@@ -1,10 +1,10 @@
 -- Where a direction close to d lies: close to a free one all are free; close to one on an item, on the item or free.
 use Rattle.law_sphere.proofs.Prelude.{◌≡◌, ℕ, ℤ, pos, ◌-ℤ◌, ◌*ℤ◌, ◌<ℤ◌, arith, refl, ap, sym, ◌⊎◌, inl, inr, ⊎_elim, ◌∷◌, subst, ◌∙◌, [], ints, ring, at, num, ◌⊖◌, ◌⊗◌, by_order, mul_pos, sign-scaled, Vector, IsDirection, triple, cross, dot, IsZero, SameDirection, IsOpposite, IsAt, MapVertex, Map, Item, arc_item, sloop_item, items, item_normal, dir_of, OnItem, IsFree, Shaped, IsStrictlyOn, Keeps, arc_forms, forms, self-pos, triple-dot, triple-middle, nought-if, triple-turned, opposites, dir-signs, parallel-in_plane, dot-scaled}
 use Rattle.law_sphere.proofs.Vectors.{normal-is, same-plus, same-minus}
-use Rattle.law_sphere.proofs.Lists.{at-one}
 use Rattle.law_sphere.proofs.Places.{kept-nought, kept-minus, direction-stays, SameDirection-back}
 use Rattle.law_sphere.proofs.Forms.{axes-forms, svertex-forms, item-forms, on-direction, on-level, OnItem-stays, OnItem-by_signs}
 use Rattle.law_sphere.proofs.Shot.{dir-at, arc-at}
+use Rattle.nef_space.proofs.Lists.{is-at_one}
 
 -- ---- opposite to an end
 -- where d is opposite to s, the turn from d to t is the other one than that from s to t
@@ -161,6 +161,6 @@ module _ (M : Map) (V : Shaped M) (d e : Vector) (k : Keeps (forms M) d e) where
     off_items = λ j y b p.
         let q = item-around j y b h (on_item-off_svertices i x a o) p in
         let r = V.no_items_meet j i y x d b a q o in
-        let u = at-one (items M) i y x (subst (λ (l : ℕ). IsAt (items M) l y) r b) a in
+        let u = is-at_one (items M) i y x (subst (λ (l : ℕ). IsAt (items M) l y) r b) a in
         f (on-level M x e (subst (λ (z : Item). OnItem M z e) u p));
   }

@@ -2,7 +2,7 @@
 use Rattle.law_sphere.proofs.Prelude.{◌≡◌, ℕ, zero, suc, ◌+◌, pos, arith, refl, ap, sym, ◌∙◌, ◌⊎◌, inl, inr, ⊎_elim, List, ◌∷◌, subst, Option, Some, None, [], ints, Sign, sign, by_order, nought-or, Vector, IsDirection, cross, dot, SameDirection, IsNormal, opposite, Label, IsAt, MapVertex, Arc, MapSloop, Map, Item, arc_item, sloop_item, items, items_then, item_normal, item_pos, item_mark, item_neg, dir_of, OnItem, IsFree, Shaped, IsStrictlyOn, by_side, Labelling, Near, Plain, Agrees, StraightAt, IsSmooth, plain, straight, StraightAfter, Proper, IsBuilt, Decided, square-cross, SameDirection-turned, dir-self, dir-signs, direction-opposite, level-opposite, level-opposite-back, vector-same, is-at_none, is-at_first}
 use Rattle.law_sphere.proofs.Vectors.{normal-direction, even-side}
 use Rattle.law_sphere.proofs.Generic.{amount}
-use Rattle.law_sphere.proofs.Lists.{Found, search_list, at-one}
+use Rattle.law_sphere.proofs.Lists.{Found, search_list}
 use Rattle.law_sphere.proofs.Places.{IsStrictlyOn-decided}
 use Rattle.law_sphere.proofs.Forms.{on-direction, OnItem-by_signs}
 use Rattle.law_sphere.proofs.Parallel.{past_source, arc-point}
@@ -17,6 +17,7 @@ use Rattle.law_sphere.proofs.Firsts.{First, first-after, begin-together}
 use Rattle.law_sphere.proofs.Flips.{reversed, flipped, unflipped, Axial, directed-by, far_directed-by, planes-parallel, sloop-along}
 use Rattle.law_sphere.proofs.Kind.{away}
 use Rattle.law_near.proofs.Decisions.{same-label_or}
+use Rattle.nef_space.proofs.Lists.{is-at_one}
 
 -- ---- lists
 abbrev pub dirs : List MapVertex → List Vector
@@ -33,7 +34,7 @@ dirs-at [] k x a = absurd (is-at_none a)
 dirs-at (u ∷ vs) zero x e = (u, refl, is-at_first e)
 dirs-at (u ∷ vs) (suc k) x a = dirs-at vs k x a
 
-sloops-one : (as' : List Arc) (o : Option MapSloop) (i k : ℕ) (l c : MapSloop) → IsAt (items_then as' o) i (sloop_item l) → IsAt (items_then as' o) k (sloop_item c) → i ≡ k
+pub sloops-one : (as' : List Arc) (o : Option MapSloop) (i k : ℕ) (l c : MapSloop) → IsAt (items_then as' o) i (sloop_item l) → IsAt (items_then as' o) k (sloop_item c) → i ≡ k
 sloops-one [] None i k l c a b = absurd (is-at_none a)
 sloops-one [] (Some m) zero zero l c a b = refl
 sloops-one [] (Some m) zero (suc k) l c a b = absurd (is-at_none b)
@@ -210,7 +211,7 @@ module _ (gs : List Vector) (F : Vector → Label → Type 0) (L : Labelling gs 
               e = b-ends i c ic
 
               source-is : dir_of M.svertices c.source ≡ s
-              source-is = e.source_is ∙ ap (λ (r : MapVertex). r.dir) (at-one M.svertices k e.source v (subst (λ (j : ℕ). IsAt M.svertices j e.source) src e.has_source) h)
+              source-is = e.source_is ∙ ap (λ (r : MapVertex). r.dir) (is-at_one M.svertices k e.source v (subst (λ (j : ℕ). IsAt M.svertices j e.source) src e.has_source) h)
 
               target-level : dot n (dir_of M.svertices c.target) ≡ pos 0
               target-level = level-same c.normal n (dir_of M.svertices c.target) (dir_of M.svertices c.target) (SameDirection-turned n c.normal w) (dir-self (dir_of M.svertices c.target) e.target_direction) e.target_level

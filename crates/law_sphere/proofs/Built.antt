@@ -1,19 +1,20 @@
 -- A well shaped map that agrees with a labelling piece by piece is valid, and its labels are those of the labelling.
 use Rattle.law_sphere.proofs.Prelude.{◌≡◌, ◌+◌, ◌*◌, arith, ap, sym, ◌∙◌, inl, inr, List, subst, ints, mul-pos, sign-plus, sign-minus, Vector, IsDirection, cross, dot, IsZero, SameDirection, blend, Label, MapVertex, Map, items, item_normal, item_pos, item_mark, item_neg, IsFree, Side, around_svertex, pos_item, neg_item, whole, HasSide, IsClear, Reaches, Sees, directly, by_way_of, MapLabel, at_svertex, on_item, seen, InOneSface, here, link, Shaped, Valid, by_side, Labelling, Near, Agrees, Decided, dot-comm, zero-decided, cross-turned, SameDirection-turned, SameDirection-trans, dir-signs, direction-right, apart, parallel-trans, blend-turned, left-of}
 use Rattle.law_sphere.proofs.Generic.{amount}
-use Rattle.law_sphere.proofs.Lists.{at-one, some-some}
+use Rattle.law_sphere.proofs.Lists.{some-some}
 use Rattle.law_sphere.proofs.Forms.{on-level}
 use Rattle.law_sphere.proofs.Direct.{cross-between}
 use Rattle.law_sphere.proofs.Labels.{label-exists}
 use Rattle.law_sphere.proofs.Around.{Beside, same_way, other_way, beside}
 use Rattle.law_sphere.proofs.Lone.{near-same_signs}
 use Rattle.law_sphere.proofs.Walk.{carried, between-direction, cross-direction_turned}
+use Rattle.nef_space.proofs.Lists.{is-at_one}
 
 -- a side of a map has one label
 pub side-one : (M : Map) (o : Side) (k l : Label) → HasSide M o k → HasSide M o l → k ≡ l
-side-one M (around_svertex i) k l (v, a, e) (u, b, f) = some-some k l (sym e ∙ ap (λ (r : MapVertex). r.around) (at-one M.svertices i v u a b) ∙ f)
-side-one M (pos_item i) k l (x, a, e) (y, b, f) = sym e ∙ ap item_pos (at-one (items M) i x y a b) ∙ f
-side-one M (neg_item i) k l (x, a, e) (y, b, f) = sym e ∙ ap item_neg (at-one (items M) i x y a b) ∙ f
+side-one M (around_svertex i) k l (v, a, e) (u, b, f) = some-some k l (sym e ∙ ap (λ (r : MapVertex). r.around) (is-at_one M.svertices i v u a b) ∙ f)
+side-one M (pos_item i) k l (x, a, e) (y, b, f) = sym e ∙ ap item_pos (is-at_one (items M) i x y a b) ∙ f
+side-one M (neg_item i) k l (x, a, e) (y, b, f) = sym e ∙ ap item_neg (is-at_one (items M) i x y a b) ∙ f
 side-one M whole k l e f = some-some k l (sym e ∙ f)
 
 module _ (gs : List Vector) (F : Vector → Label → Type 0) (L : Labelling gs F) (M : Map) (S : Shaped M) (A : Agrees M F) where
@@ -55,11 +56,11 @@ module _ (gs : List Vector) (F : Vector → Label → Type 0) (L : Labelling gs 
 
   reached : (a y : Vector) → IsClear M a y → (o : Side) (m : Label) → HasSide M o m → Reaches M o a y → F a m
   reached a y c (pos_item k) m (x, h, e) (z, b, on, l) =
-      let q = at-one (items M) k z x b h in
+      let q = is-at_one (items M) k z x b h in
       let f = apart (item_normal z) a y (λ w. omega (arith, ints)) (on-level M z y on) c.direction in
       from_near a y c f m (subst (Near F y a) (ap (by_side (item_pos z) (item_mark z) (item_neg z)) (sign-plus (dot (item_normal z) a) l) ∙ ap item_pos q ∙ e) (A.beside k z y a b on (cross-direction_turned a y f)))
   reached a y c (neg_item k) m (x, h, e) (z, b, on, l) =
-      let q = at-one (items M) k z x b h in
+      let q = is-at_one (items M) k z x b h in
       let f = apart (item_normal z) a y (λ w. omega (arith, ints)) (on-level M z y on) c.direction in
       from_near a y c f m (subst (Near F y a) (ap (by_side (item_pos z) (item_mark z) (item_neg z)) (sign-minus (dot (item_normal z) a) l) ∙ ap item_neg q ∙ e) (A.beside k z y a b on (cross-direction_turned a y f)))
   reached a y c (around_svertex k) m (v, h, e) (u, b, w) = by (zero-decided (cross a y))
@@ -71,7 +72,7 @@ module _ (gs : List Vector) (F : Vector → Label → Type 0) (L : Labelling gs 
           along (same_way s) = absurd (c.start.off_svertices k u b (SameDirection-trans u.dir y a w s))
           along (other_way s) = absurd (c.short (record { parallel = z; backward = let p = dot-comm a y in let r = s.backward in omega (arith, ints) }))
       by (inr f) =
-          let q = at-one M.svertices k v u h b in
+          let q = is-at_one M.svertices k v u h b in
           let g = cross-direction_turned a y f in
           let n = A.lone k u m a b (sym (ap (λ (r : MapVertex). r.around) q) ∙ e) (λ z. g (parallel-trans y u.dir a (direction-right y u.dir (SameDirection-turned u.dir y w)) (cross-turned u.dir y w.parallel) z)) in
           from_near a y c f m (near-way y u.dir a w g m n)

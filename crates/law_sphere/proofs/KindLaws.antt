@@ -1,7 +1,7 @@
 -- The map of an edge point stays the same along the edge; a least map that stays the same along a direction is of one of three kinds.
 use Rattle.law_sphere.proofs.Prelude.{◌≡◌, ℕ, zero, suc, ◌+◌, ◌*◌, ◌<◌, ℤ, pos, ◌+ℤ◌, ◌-ℤ◌, ◌*ℤ◌, arith, refl, ap, sym, ◌∙◌, ◌⊎◌, inl, inr, ⊎_elim, List, ◌∷◌, subst, Option, Some, None, neg_ℤ, [], ints, ring, at, num, ◌⊕◌, ◌⊖◌, ◌⊗◌, neg, follows, given, none, sign, mul_neg, sign-scaled, Vector, IsDirection, cross, triple, dot, IsZero, SameDirection, IsOpposite, blend, opposite, Label, comb, IsAt, MapVertex, MapSloop, Map, sloop_item, item_mark, IsFree, IsClear, MapLabel, at_svertex, on_item, NearLabel, Valid, by_side, NearPlain, NearStraight, Least, Full, FlatMap, IsInVolume, IsInFacet, IsOnEdge, dot-comm, zero-decided, self-pos, vector-same, cross-turned, triple-middle, opposites, SameDirection-turned, dir-self, dir-signs, parallel-trans, direction-opposite, dot-opposite, opposite-itself, is-at_none, is-at_first}
 use Rattle.law_sphere.proofs.Vectors.{dot-comb, same-minus}
-use Rattle.law_sphere.proofs.Lists.{search_list, at-one}
+use Rattle.law_sphere.proofs.Lists.{search_list}
 use Rattle.law_sphere.proofs.Forms.{PlaceOf, svertex_place, item_place, free_place, place_of, OnItem-by_signs}
 use Rattle.law_sphere.proofs.Labels.{label-direction, label-exists, label-unique, clear-label}
 use Rattle.law_sphere.proofs.Around.{Beside, same_way, other_way, beside, opposite-triple, turn-plus}
@@ -13,6 +13,7 @@ use Rattle.law_sphere.proofs.FlatMaps.{full-label, flat-onward, flat-svertex}
 use Rattle.law_sphere.proofs.Kind.{flat-sloop, flat-mark, flat-parallel}
 use Rattle.law_sphere.proofs.KindFlats.{svertex-parallel, at-second, axis-label, arc-moved, off-moved, off-svertices, hu}
 use Rattle.law_sphere.proofs.Direct.{cross-self}
+use Rattle.nef_space.proofs.Lists.{is-at_one}
 
 -- ---- full labels
 full-one : (M : Map) → Valid M → (e : Vector) (m n : Label) → Full M e m → Full M e n → m ≡ n
@@ -239,7 +240,7 @@ module _ (M : Map) (V : Valid M) (L : Least M) (d : Vector) (h : IsDirection d) 
 
             apart-numbers : k ≡ p.number → ⊥
             apart-numbers e =
-                let q = at-one M.svertices k v p.svertex a (subst (λ (r : ℕ). IsAt M.svertices r p.svertex) (sym e) p.listed) in
+                let q = is-at_one M.svertices k v p.svertex a (subst (λ (r : ℕ). IsAt M.svertices r p.svertex) (sym e) p.listed) in
                 let o = subst (λ (r : MapVertex). IsOpposite v.dir r.dir) (sym q) opp in
                 let b = o.backward in let s = self-pos v.dir hv in omega (arith, ints)
 

@@ -2,10 +2,10 @@
 use Rattle.law_sphere.proofs.Prelude.{◌≡◌, ℕ, ◌+◌, ◌<◌, ◌≤◌, ℤ, pos, ◌+ℤ◌, ◌-ℤ◌, ◌*ℤ◌, ◌≤ℤ◌, arith, refl, ap, sym, ◌∙◌, inl, inr, List, ◌∷◌, subst, [], ints, ring, at, num, ◌⊕◌, ◌⊖◌, ◌⊗◌, sign, sign-plus, sign-minus, by_order, mul_pos, mul_neg, Lies, Vector, IsDirection, dot, SameDirection, IsOpposite, blend, Label, IsAt, MapVertex, Map, Item, items, item_mark, OnItem, IsFree, IsClear, Sees, directly, by_way_of, SeenAs, MapLabel, at_svertex, on_item, seen, NearLabel, Valid, same-nought, dir-signs, direction-right, SameDirection-trans, SameDirection-turned}
 use Rattle.law_sphere.proofs.Vectors.{dot-comb, same-plus, same-minus}
 use Rattle.law_sphere.proofs.Generic.{SameSigns, amount, far-keeps, far-same}
-use Rattle.law_sphere.proofs.Lists.{at-one}
 use Rattle.law_sphere.proofs.Places.{axes, axis_x, axis_y, axis_z, axis_x-is, axis_y-is, axis_z-is, direction-stays}
 use Rattle.law_sphere.proofs.Forms.{forms, axes-forms, on-direction, direction-by_signs, at_svertex-by_signs, on_item-by_signs, free-by_signs, OnItem-by_signs, PlaceOf, svertex_place, item_place, free_place, place_of}
 use Rattle.law_sphere.proofs.Sight.{free-seen, clear-one_label, free-one_label}
+use Rattle.nef_space.proofs.Lists.{is-at_one}
 
 -- ---- the same way
 -- two that go the way of d
@@ -72,13 +72,13 @@ module _ (M : Map) (V : Valid M) where
   pub label-unique : (d : Vector) (m n : Label) → MapLabel M d m → MapLabel M d n → m ≡ n
   label-unique d m n (at_svertex k v a w e) (at_svertex l u b x f) =
       let i = V.shaped.svertices_apart k l v u a b (dir-joined v.dir u.dir d w x) in
-      sym e ∙ ap (λ (r : MapVertex). r.mark) (at-one M.svertices l v u (subst (λ (r : ℕ). IsAt M.svertices r v) i a) b) ∙ f
+      sym e ∙ ap (λ (r : MapVertex). r.mark) (is-at_one M.svertices l v u (subst (λ (r : ℕ). IsAt M.svertices r v) i a) b) ∙ f
   label-unique d m n (at_svertex k v a w e) (on_item l x b o f) = absurd (on-svertex k l v x d a b w o)
   label-unique d m n (at_svertex k v a w e) (seen s) = absurd ((sees-free M d n s).off_svertices k v a w)
   label-unique d m n (on_item k x a o e) (at_svertex l u b w f) = absurd (on-svertex l k u x d b a w o)
   label-unique d m n (on_item k x a o e) (on_item l y b p f) =
       let i = V.shaped.no_items_meet k l x y d a b o p in
-      sym e ∙ ap item_mark (at-one (items M) l x y (subst (λ (r : ℕ). IsAt (items M) r x) i a) b) ∙ f
+      sym e ∙ ap item_mark (is-at_one (items M) l x y (subst (λ (r : ℕ). IsAt (items M) r x) i a) b) ∙ f
   label-unique d m n (on_item k x a o e) (seen s) = absurd ((sees-free M d n s).off_items k x a o)
   label-unique d m n (seen s) (at_svertex k v a w e) = absurd ((sees-free M d m s).off_svertices k v a w)
   label-unique d m n (seen s) (on_item k x a o e) = absurd ((sees-free M d m s).off_items k x a o)

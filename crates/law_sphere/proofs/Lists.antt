@@ -27,9 +27,6 @@ some-some x y e = cc
 pub none-at : {A : Type 0} (xs : List A) (k : ℕ) (x : A) → xs ≡ [] → IsAt xs k x → ⊥
 none-at {A} xs k x e a = is-at_none (subst (λ (r : List A). IsAt r k x) e a)
 
-pub at-one : {A : Type 0} (xs : List A) (k : ℕ) (x y : A) → IsAt xs k x → IsAt xs k y → x ≡ y
-at-one = is-at_one
-
 pub gather-has : {A B : Type 0} (f : A → List B) (xs : List A) (k : ℕ) (x : A) (g : B) → IsAt xs k x → Lies (f x) g → Lies (gather f xs) g
 gather-has f [] k x g a l = absurd (is-at_none a)
 gather-has {A} f (y ∷ ys) zero x g e l = lies-left (f y) (gather f ys) g (subst (λ (r : A). Lies (f r) g) (sym (is-at_first e)) l)

@@ -3,12 +3,12 @@ use Rattle.law_sphere.proofs.Prelude.{◌≡◌, ℕ, ◌<◌, ℤ, pos, ◌*ℤ
 use Rattle.law_sphere.proofs.Vectors.{normal-is, same-plus, same-minus}
 use Rattle.law_sphere.proofs.Places.{kept-nought, kept-minus, SameDirection-decided}
 use Rattle.law_sphere.proofs.Forms.{axes-forms, item-forms}
-use Rattle.law_sphere.proofs.Lists.{at-one}
 use Rattle.law_sphere.proofs.Shot.{arc-at}
 use Rattle.law_sphere.proofs.Around.{opposite-triple, Beside, same_way, other_way, beside, IsStrictlyOn-back, direction-around, svertex-around}
 use Rattle.law_sphere.proofs.NearItems.{keeps-between, kept-not_opposite}
 use Rattle.law_sphere.proofs.Turn.{turn-last}
 use Rattle.law_sphere.proofs.Arcs.{Ends, ends-of}
+use Rattle.nef_space.proofs.Lists.{is-at_one}
 
 -- what lies in the plane of n through d, ahead, has n to its left
 pub left-ahead : (n d w : Vector) → dot n d ≡ pos 0 → dot n w ≡ pos 0 → pos 0 <ℤ triple n d w → SameDirection n (cross d w)
@@ -148,7 +148,7 @@ module _ (M : Map) (V : Shaped M) (k : ℕ) (v : MapVertex) (a : IsAt M.svertice
     off_svertices = λ i u b z.
         let q = svertex-around M V d w kept i u b (V.svertex_dirs k v a) z in
         let e = V.svertices_apart i k u v b a q in
-        let f = at-one M.svertices k u v (subst (λ (r : ℕ). IsAt M.svertices r u) e b) a in
+        let f = is-at_one M.svertices k u v (subst (λ (r : ℕ). IsAt M.svertices r u) e b) a in
         let y = subst (λ (r : MapVertex). SameDirection r.dir w) f z in
         off y.parallel;
     off_items = λ i x h o. n (near-ray i x h o);

@@ -1,6 +1,6 @@
 -- Two least maps with one label in every direction hold the same things.
 use Rattle.law_sphere.proofs.Prelude.{◌≡◌, ℕ, zero, arith, refl, ap, sym, ◌∙◌, ◌⊎◌, inl, inr, ⊎_elim, List, ◌∷◌, subst, Option, Some, None, [], ints, cases_lt, Vector, IsDirection, cross, dot, IsZero, SameDirection, Label, IsAt, MapVertex, MapSloop, Map, Item, arc_item, sloop_item, items, dir_of, IsFree, whole, directly, MapLabel, seen, HasArc, Valid, NearPlain, NearStraight, Least, SameLabels, MatchedArc, MatchedSvertex, MatchesInto, Decided, decided-or, same-nought, self-pos, cross-turned, SameDirection-turned, SameDirection-trans, dir-self, dir-signs, direction-left, apart, parallel-trans, is-at_none}
-use Rattle.law_sphere.proofs.Lists.{search_list, at-one}
+use Rattle.law_sphere.proofs.Lists.{search_list}
 use Rattle.law_sphere.proofs.Places.{axis_x}
 use Rattle.law_sphere.proofs.Forms.{PlaceOf, svertex_place, item_place, free_place, place_of}
 use Rattle.law_sphere.proofs.Parallel.{circle-point}
@@ -11,6 +11,7 @@ use Rattle.law_sphere.proofs.NearItems.{free-plain, item-straight}
 use Rattle.law_sphere.proofs.Compare.{labels-turned, near-carried, Matched, svertex-matched, svertex-mark}
 use Rattle.law_sphere.proofs.Arcs.{Ends, ends-of, sloop-at, arc-matched, sloop-matched}
 use Rattle.law_sphere.proofs.Lone.{near-same_way, near-lone}
+use Rattle.nef_space.proofs.Lists.{is-at_one}
 
 pub eq-decided : (a b : ℕ) → Decided (a ≡ b)
 eq-decided a b = ⊎_elim (λ l. inr (λ e. omega arith)) (λ l. ⊎_elim (λ m. inr (λ e. omega arith)) (λ m. inl (omega arith)) (cases_lt b a)) (cases_lt a b)
@@ -37,10 +38,10 @@ module _ (M N : Map) (V : Valid M) (W : Valid N) (L : Least M) (K : Least N) (s 
             m.arc,
             m.listed,
             ⊎_elim
-                (λ z. let q = at-one M.svertices k x.source v (subst (λ (j : ℕ). IsAt M.svertices j x.source) z x.has_source) a in
+                (λ z. let q = is-at_one M.svertices k x.source v (subst (λ (j : ℕ). IsAt M.svertices j x.source) z x.has_source) a in
                 let c = subst (λ (j : Vector). SameDirection j (dir_of N.svertices m.arc.source)) (x.source_is ∙ ap (λ (j : MapVertex). j.dir) q) m.source in
                 inl (W.shaped.svertices_apart m.arc.source l y.source u y.has_source b (SameDirection-trans y.source.dir v.dir u.dir (SameDirection-turned v.dir y.source.dir (subst (SameDirection v.dir) y.source_is c)) w)))
-                (λ z. let q = at-one M.svertices k x.target v (subst (λ (j : ℕ). IsAt M.svertices j x.target) z x.has_target) a in
+                (λ z. let q = is-at_one M.svertices k x.target v (subst (λ (j : ℕ). IsAt M.svertices j x.target) z x.has_target) a in
                 let c = subst (λ (j : Vector). SameDirection j (dir_of N.svertices m.arc.target)) (x.target_is ∙ ap (λ (j : MapVertex). j.dir) q) m.target in
                 inr (W.shaped.svertices_apart m.arc.target l y.target u y.has_target b (SameDirection-trans y.target.dir v.dir u.dir (SameDirection-turned v.dir y.target.dir (subst (SameDirection v.dir) y.target_is c)) w))) e,
           )

@@ -1,5 +1,5 @@
 -- What is said of all corners of the frame, or of all axes, is one equation that computes.
-use Rattle.law_text.proofs.Prelude.{◌≡◌, ℕ, zero, suc, ◌+◌, ◌*◌, ◌<◌, ltb, ◌==◌, inl, inr, ⊎_elim, ℤ, pos, negsuc, ◌<ℤ◌, arith, refl, ap, Bool, true, false, cond, List, [], ◌∷◌, length, map, subst, ints, ltb-true, IsBelow, InOrder, IsAt, Both, of_three, each-three, is-at_some, at-map, map-at, some-at, FrameCorner, ends, Axis, on_x, on_y, on_z, is-at_none, is-at_first}
+use Rattle.law_text.proofs.Prelude.{◌≡◌, ℕ, zero, suc, ◌+◌, ◌*◌, ◌<◌, ltb, ◌==◌, inl, inr, ⊎_elim, ℤ, pos, negsuc, ◌<ℤ◌, arith, refl, ap, Bool, true, false, cond, List, [], ◌∷◌, length, map, subst, ints, ltb-true, IsBelow, InOrder, IsAt, Both, of_three, each-three, is-at_some, map-is_at, is-at_map, FrameCorner, ends, Axis, on_x, on_y, on_z, is-at_none, is-at_first}
 use Rattle.nef_case.specs.Between.{is_positive}
 use Rattle.law_text.proofs.Numbering.{three-ways}
 
@@ -59,8 +59,8 @@ at-count (suc n) s (suc k) m h = let e = at-count n (suc s) k m h in omega (arit
 -- where the numbers of a list are its places, what is so of each image by its number is so of the images in the list
 pub each-listed : {A B : Type 0} (f : A → B) (number : A → ℕ) (xs : List A) → map number xs ≡ count_from 0 (length xs) → (P : ℕ → B → Type 0) → ((x : A) → P (number x) (f x)) → (n : ℕ) (y : B) → IsAt (map f xs) n y → P n y
 each-listed f number xs e P h n y a =
-    let x = map-at f xs n y a in
-    let m = at-count (length xs) 0 n (number x.0) (subst (λ (ns : List ℕ). IsAt ns n (number x.0)) e (at-map number xs n x.0 x.1)) in
+    let x = is-at_map f xs n y a in
+    let m = at-count (length xs) 0 n (number x.0) (subst (λ (ns : List ℕ). IsAt ns n (number x.0)) e (map-is_at number xs n x.0 x.1)) in
     let g : number x.0 ≡ n = omega (arith, m) in
     subst (λ (i : ℕ). P i y) g (subst (P (number x.0)) x.2 (h x.0))
 
@@ -68,7 +68,7 @@ each-listed f number xs e P h n y a =
 pub named : {A : Type 0} (number : A → ℕ) (xs : List A) → map number xs ≡ count_from 0 (length xs) → (n : ℕ) → n < length xs → (x : A) × (number x ≡ n)
 named number xs e n h =
     let x = is-at_some xs n h in
-    let m = at-count (length xs) 0 n (number x.0) (subst (λ (ns : List ℕ). IsAt ns n (number x.0)) e (at-map number xs n x.0 (some-at xs n x.0 x.1))) in
+    let m = at-count (length xs) 0 n (number x.0) (subst (λ (ns : List ℕ). IsAt ns n (number x.0)) e (map-is_at number xs n x.0 x.1)) in
     (x.0, omega (arith, m))
 
 -- what is so of four is so of each in their list

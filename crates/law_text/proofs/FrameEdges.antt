@@ -1,5 +1,5 @@
 -- The edges of a set that holds all of the frame or nothing of it, written out.
-use Rattle.law_text.proofs.Prelude.{◌≡◌, ℕ, ◌+◌, ◌*◌, ◌<◌, ltb, ◌==◌, ◌&&◌, pos, neg_ℤ, arith, refl, sym, ap, Bool, true, false, cond, List, [], ◌∷◌, map, drop, subst, Some, slice_get, ints, ltb-true, lt-ltb, flat_map, IsBetween, IsAhead, toward, Vector, vector, dot, cross, IsZero, IsOpposite, SameDirection, Label, Out, point_of, InOrder, IsAt, MapVertex, Vertex, Edge, IsEdge, Edges, IsEdgeBelow, at-map, map-at, some-at, FrameCorner, ends, all_ends, Axis, on_x, on_y, on_z, is_high_on, corner_point}
+use Rattle.law_text.proofs.Prelude.{◌≡◌, ℕ, ◌+◌, ◌*◌, ◌<◌, ltb, ◌==◌, ◌&&◌, pos, neg_ℤ, arith, refl, sym, ap, Bool, true, false, cond, List, [], ◌∷◌, map, drop, subst, Some, slice_get, ints, ltb-true, lt-ltb, flat_map, IsBetween, IsAhead, toward, Vector, vector, dot, cross, IsZero, IsOpposite, SameDirection, Label, Out, point_of, InOrder, IsAt, MapVertex, Vertex, Edge, IsEdge, Edges, IsEdgeBelow, map-is_at, is-at_map, FrameCorner, ends, all_ends, Axis, on_x, on_y, on_z, is_high_on, corner_point}
 use Rattle.law_near.proofs.Near.{length_of}
 use Rattle.nef_case.specs.Between.{is_positive}
 use Rattle.law_text.proofs.Corners.{each-slot, each-pair, positive-is, is-positive, seek, pair-below, rising}
@@ -37,10 +37,10 @@ abbrev pub edge_slot : FrameCorner → Axis → ℕ
 edge_slot k a = seek key (key (edge_at k a)) frame_edges
 
 pub edge-there : (k : FrameCorner) (a : Axis) → IsAt frame_edges (edge_slot k a) (edge_at k a)
-edge-there k a = some-at frame_edges (edge_slot k a) (edge_at k a) (each-slot (λ j o. slice_get frame_edges (edge_slot j o)) (λ j o. Some (edge_at j o)) refl k a)
+edge-there k a = (each-slot (λ j o. slice_get frame_edges (edge_slot j o)) (λ j o. Some (edge_at j o)) refl k a)
 
 each-edge : (P : Edge → Type 0) → ((k : FrameCorner) (a : Axis) → P (edge_at k a)) → (n : ℕ) (e : Edge) → IsAt frame_edges n e → P e
-each-edge P f n e h = let w = map-at (λ (v : FrameCorner × Axis). edge_at v.0 v.1) edge_places n e h in subst P w.2 (f w.0.0 w.0.1)
+each-edge P f n e h = let w = is-at_map (λ (v : FrameCorner × Axis). edge_at v.0 v.1) edge_places n e h in subst P w.2 (f w.0.0 w.0.1)
 
 -- ---- directions
 same-way : (u v : Vector) → cross u v ≡ vector (pos 0) (pos 0) (pos 0) → is_positive (dot u v) ≡ true → SameDirection u v
@@ -119,7 +119,7 @@ module _ (l : Label) where
 
 edges-ordered : InOrder IsEdgeBelow frame_edges
 edges-ordered i k x y h a b = pair-below x.low x.low_svertex y.low y.low_svertex (small i x a) (small k y b)
-    (rising 0 (drop 1 (map key frame_edges)) (refl, (refl, (refl, (refl, (refl, (refl, (refl, (refl, (refl, (refl, (refl, tt))))))))))) i k (key x) (key y) h (at-map key frame_edges i x a) (at-map key frame_edges k y b))
+    (rising 0 (drop 1 (map key frame_edges)) (refl, (refl, (refl, (refl, (refl, (refl, (refl, (refl, (refl, (refl, (refl, tt))))))))))) i k (key x) (key y) h (map-is_at key frame_edges i x a) (map-is_at key frame_edges k y b))
   where
     small : (n : ℕ) (e : Edge) → IsAt frame_edges n e → e.low_svertex < 3
     small = each-edge (λ e. e.low_svertex < 3) (λ j o. ltb-true (edge_at j o).low_svertex 3 (each-slot (λ m c. ltb (edge_at m c).low_svertex 3) (λ m c. true) refl j o))

@@ -1,5 +1,5 @@
 -- The links of the complexes of the whole frame and of the empty set: items in one side of the frame are linked, and so are all sides inward.
-use Rattle.law_text.proofs.Prelude.{◌≡◌, ℕ, ◌+◌, ◌==◌, ◌<◌, ℤ, pos, ◌+ℤ◌, ◌*ℤ◌, ◌<ℤ◌, arith, refl, sym, ap, inl, inr, Bool, true, false, cond, eqb, List, [], ◌∷◌, Some, slice_get, subst, ints, eq-eqb, Chained, Form, Vector, dot, blend, SameDirection, Label, Out, IsAt, MapVertex, Map, Item, arc_item, OnItem, IsFree, Side, pos_item, neg_item, HasSide, IsClear, Reaches, Sees, directly, InOneSface, here, link, dot-comb, turned_vector, unturned_vector, differ, is_odd, item-on, image, image_back, chain-here, chain-link, chain-trans, chain-turned, Leads, NextCorner, some-at, next-linked, Complex, Corner, VertexSide, HasSideLabel, FacetLink, VolumeLink, FrameCorner, ends, Axis, on_x, on_y, is_high_on, inward, inward_way, axis_of, each-bool, dir-self, dot-zero}
+use Rattle.law_text.proofs.Prelude.{◌≡◌, ℕ, ◌+◌, ◌==◌, ◌<◌, ℤ, pos, ◌+ℤ◌, ◌*ℤ◌, ◌<ℤ◌, arith, refl, sym, ap, inl, inr, Bool, true, false, cond, eqb, List, [], ◌∷◌, Some, slice_get, subst, ints, eq-eqb, Chained, Form, Vector, dot, blend, SameDirection, Label, Out, IsAt, MapVertex, Map, Item, arc_item, OnItem, IsFree, Side, pos_item, neg_item, HasSide, IsClear, Reaches, Sees, directly, InOneSface, here, link, dot-comb, turned_vector, unturned_vector, differ, is_odd, item-on, image, image_back, chain-here, chain-link, chain-trans, chain-turned, Leads, NextCorner, next-linked, Complex, Corner, VertexSide, HasSideLabel, FacetLink, VolumeLink, FrameCorner, ends, Axis, on_x, on_y, is_high_on, inward, inward_way, axis_of, each-bool, dir-self, dot-zero}
 use Rattle.law_turns.proofs.Images.{clear-there}
 use Rattle.law_turns.proofs.Vectors.{turning, vector-back, back-vector}
 use Rattle.nef_volumes.proofs.FacetSides.{chain-pos, chain-neg}
@@ -143,7 +143,7 @@ abbrev pub ring : FrameCorner → Axis → List FrameCorner
 ring k a = first k a ∷ second k a ∷ third k a ∷ fourth k a ∷ []
 
 pub on-ring : (k : FrameCorner) (a : Axis) → (m : ℕ) × IsAt (ring k a) m k
-on-ring k a = let m = seek number (number k) (ring k a) in (m, some-at (ring k a) m k (each-slot (λ j o. slice_get (ring j o) (seek number (number j) (ring j o))) (λ j o. Some j) refl k a))
+on-ring k a = let m = seek number (number k) (ring k a) in (m, (each-slot (λ j o. slice_get (ring j o) (seek number (number j) (ring j o))) (λ j o. Some j) refl k a))
 
 -- an edge that leads from this end of it, or from the other
 either-end : (b : Bool) (i s j t p q r u : ℕ) → cond b r p ≡ i → cond b u q ≡ s → cond b p r ≡ j → cond b q u ≡ t → Leads (record { low = p; low_svertex = q; high = r; high_svertex = u; mark = Out }) i s j t

@@ -1,5 +1,5 @@
 -- The parts of the complexes of the whole frame and of the empty set: six facets of one cycle each, and two volumes.
-use Rattle.law_text.proofs.Prelude.{◌≡◌, ℕ, zero, suc, ◌+◌, ◌*◌, ltb, ◌<◌, ◌≤◌, pos, neg_ℤ, nat_abs, arith, refl, sym, ◌∙◌, ap, ⊎_elim, Bool, true, false, cond, List, [], ◌∷◌, ◌++◌, length, map, subst, Option, Some, None, ints, ltb-true, lt-ltb, eq-eqb, All, offset_limit, IsAt, Chained, NumbersClasses, Form, form_at, normal_of, Vector, cross, IsZero, Label, Out, point_of, form_of, Plane, InOrder, Item, arc_item, items, item_pos, item_neg, Side, around_svertex, pos_item, neg_item, whole, HasSide, MapVertex, differ, is-at_within, is-at_some, at-map, side-number, side_number, sides_of, Vertex, Complex, Corner, VertexSide, HasSideLabel, FacetLink, VolumeLink, NextCorner, IsCornerBelow, IsCycle, IsCycleBelow, Cycles, IsFacetOf, IsVolumeOf, IsFacetAt, IsFacet, IsParts, cycle_corners, Facet, Parts, frame_end, FrameCorner, Axis, on_x, on_y, on_z, is_high_on, axis_of, corner_point, each-bool, is-at_none, is-at_first}
+use Rattle.law_text.proofs.Prelude.{◌≡◌, ℕ, zero, suc, ◌+◌, ◌*◌, ltb, ◌<◌, ◌≤◌, pos, neg_ℤ, nat_abs, arith, refl, sym, ◌∙◌, ap, ⊎_elim, Bool, true, false, cond, List, [], ◌∷◌, ◌++◌, length, map, subst, Option, Some, None, ints, ltb-true, lt-ltb, eq-eqb, All, offset_limit, IsAt, Chained, NumbersClasses, Form, form_at, normal_of, Vector, cross, IsZero, Label, Out, point_of, form_of, Plane, InOrder, Item, arc_item, items, item_pos, item_neg, Side, around_svertex, pos_item, neg_item, whole, HasSide, MapVertex, differ, is-at_within, is-at_some, map-is_at, side-number, side_number, sides_of, Vertex, Complex, Corner, VertexSide, HasSideLabel, FacetLink, VolumeLink, NextCorner, IsCornerBelow, IsCycle, IsCycleBelow, Cycles, IsFacetOf, IsVolumeOf, IsFacetAt, IsFacet, IsParts, cycle_corners, Facet, Parts, frame_end, FrameCorner, Axis, on_x, on_y, on_z, is_high_on, axis_of, corner_point, each-bool, is-at_none, is-at_first}
 use Rattle.std.proofs.Math.Nat.{eq-one_of_dvd-one}
 use Rattle.nef_complex.proofs.SamePlanes.{parallel-equal}
 use Rattle.nef_facets.proofs.FirstCorners.{facet-item, item-facet}
@@ -72,7 +72,7 @@ abbrev pub wall_cycle : FrameCorner → Axis → List Corner
 wall_cycle k a = map (λ j. corner j a) (ring k a)
 
 on-cycle : (k : FrameCorner) (a : Axis) → (m : ℕ) × IsAt (wall_cycle k a) m (corner k a)
-on-cycle k a = let m = on-ring k a in (m.0, at-map (λ j. corner j a) (ring k a) m.0 k m.1)
+on-cycle k a = let m = on-ring k a in (m.0, map-is_at (λ j. corner j a) (ring k a) m.0 k m.1)
 
 one-cycle : (k : FrameCorner) (a : Axis) (j : FrameCorner) (o : Axis) → face k a ≡ face j o → wall_cycle j o ≡ wall_cycle k a
 one-cycle k a j o e = subst (λ b. cond b (wall_cycle j o) (wall_cycle k a) ≡ wall_cycle k a) (eq-eqb (face k a) (face j o) e) (each-pair (λ i c m d. cond (are_one i c m d) (wall_cycle m d) (wall_cycle i c)) (λ i c m d. wall_cycle i c) refl k a j o)

@@ -1,5 +1,5 @@
 -- The texts of the empty set and of the whole frame.
-use Rattle.law_text.proofs.Prelude.{◌≡◌, ℕ, suc, ℤ, pos, nat_abs, ◌<ℤ◌, arith, refl, sym, ◌∙◌, ap, true, false, List, [], ◌∷◌, ◌++◌, length, map, subst, Option, Some, None, codes, option_map, option_to_list, ints, length-map, flat_map, SameSet, IsAt, SpacePoint, Form, Set, Vector, Label, Out, Not, In, cones-of_same, FlatDim-by_cone, form_of, Plane, MapVertex, Arc, MapSloop, at-from_get, svertex_of, arc_of, sloop_of, SLoop, Vertex as PlainVertex, Edge as PlainEdge, Complex as PlainComplex, Corner as PlainCorner, Edges, vertex_of, edge_of, corner_of, complex_of, ShowsSet, cone-carried, edges-one, One, IsFacet, IsParts, cycle_corners, Word, line, label_word, option_word, numbers, signed_numbers, plane_words, vertex_text, svertex_line, arc_line, sloop_line, edge_line, cycle_line, facet_text, volume_line, text, Cycle, Facet, Parts, FrameCorner, Axis, IsOneLabelSet, empty-whole, full-whole, is_high_on, turned_set}
+use Rattle.law_text.proofs.Prelude.{◌≡◌, ℕ, suc, ℤ, pos, nat_abs, ◌<ℤ◌, arith, refl, sym, ◌∙◌, ap, true, false, List, [], ◌∷◌, ◌++◌, length, map, subst, Option, Some, None, codes, option_map, option_to_list, ints, length-map, flat_map, SameSet, IsAt, SpacePoint, Form, Set, Vector, Label, Out, Not, In, cones-of_same, FlatDim-by_cone, form_of, Plane, MapVertex, Arc, MapSloop, svertex_of, arc_of, sloop_of, SLoop, Vertex as PlainVertex, Edge as PlainEdge, Complex as PlainComplex, Corner as PlainCorner, Edges, vertex_of, edge_of, corner_of, complex_of, ShowsSet, cone-carried, edges-one, One, IsFacet, IsParts, cycle_corners, Word, line, label_word, option_word, numbers, signed_numbers, plane_words, vertex_text, svertex_line, arc_line, sloop_line, edge_line, cycle_line, facet_text, volume_line, text, Cycle, Facet, Parts, FrameCorner, Axis, IsOneLabelSet, empty-whole, full-whole, is_high_on, turned_set}
 use Rattle.std.specs.Fmt.{digits}
 use Rattle.nef_complex.specs.declared.complex.Complex.{Complex}
 use Rattle.nef_complex.specs.declared.complex.Vertex.{Vertex}
@@ -133,7 +133,7 @@ module _ (t : Set) (l : Label) (W : IsOneLabelSet t l) (turned : (n : ℕ) → t
   facets-text : flat_map facet_text p.facets ≡ flat_map wall_text walls
   facets-text = flat-same facet_text wall_text p.facets walls (six-facets l hs W.some one p parts)
       (λ n f w g h.
-      let e = wall-number n w (at-from_get walls n w h) in
+      let e = wall-number n w h in
       facet-plain w.0 w.1 f (facet-is l hs W.some one p parts w.0 w.1 f (subst (λ (m : ℕ). IsFacet (frame_complex l hs) p m f) e (parts.facets n f g))))
 
   many-vertices : length c.vertices ≡ 8

@@ -1,5 +1,5 @@
 -- The vertices of a set that holds all of the frame or nothing of it, written out.
-use Rattle.law_text.proofs.Prelude.{◌≡◌, ℕ, ◌+◌, refl, sym, ◌∙◌, ap, cond, List, map, subst, Some, slice_get, IsVertex, SpacePoint, SamePoint, IsPointBelow, Set, Label, point_below-trans, point_below-apart, same_points_equal, point_of, Point, InOrder, Least, Ordered, Cone, IsAt, Map, same-lists, cone-unique, Vertex as PlainVertex, turned_point, turned_set, cone-turned, least-turned, at-map, map-at, some-at, vertex_of, FrameCorner, all_ends, IsFrameCornerAt, IsOneLabelSet, corner-vertex, vertex-corner, corner_point, corner-is, corner-same, same-corner, corner-below, ends-order}
+use Rattle.law_text.proofs.Prelude.{◌≡◌, ℕ, ◌+◌, refl, sym, ◌∙◌, ap, cond, List, map, subst, Some, slice_get, IsVertex, SpacePoint, SamePoint, IsPointBelow, Set, Label, point_below-trans, point_below-apart, same_points_equal, point_of, Point, InOrder, Least, Ordered, Cone, IsAt, Map, same-lists, cone-unique, Vertex as PlainVertex, turned_point, turned_set, cone-turned, least-turned, map-is_at, is-at_map, vertex_of, FrameCorner, all_ends, IsFrameCornerAt, IsOneLabelSet, corner-vertex, vertex-corner, corner_point, corner-is, corner-same, same-corner, corner-below, ends-order}
 use Rattle.nef_complex.specs.declared.complex.Vertex.{Vertex}
 use Rattle.law_text.proofs.Corners.{each-corner, each-listed}
 use Rattle.law_text.proofs.Octants.{octant, octant-ordered, octant_turned, lowest, turn_to}
@@ -15,10 +15,10 @@ abbrev pub frame_vertices : Label → List PlainVertex
 frame_vertices l = map (corner_vertex l) all_ends
 
 pub ends-at : (k : FrameCorner) → IsAt all_ends (number k) k
-ends-at k = some-at all_ends (number k) k (each-corner (λ j. slice_get all_ends (number j)) (λ j. Some j) refl k)
+ends-at k = (each-corner (λ j. slice_get all_ends (number j)) (λ j. Some j) refl k)
 
 pub frame-vertex : (l : Label) (k : FrameCorner) → IsAt (frame_vertices l) (number k) (corner_vertex l k)
-frame-vertex l k = at-map (corner_vertex l) all_ends (number k) k (ends-at k)
+frame-vertex l k = map-is_at (corner_vertex l) all_ends (number k) k (ends-at k)
 
 pub each-vertex : (l : Label) (P : ℕ → PlainVertex → Type 0) → ((k : FrameCorner) → P (number k) (corner_vertex l k)) → (n : ℕ) (v : PlainVertex) → IsAt (frame_vertices l) n v → P n v
 each-vertex l = each-listed (corner_vertex l) number all_ends refl
@@ -40,8 +40,8 @@ never-both u v h k = point_below-apart u.point u.point (point_below-trans u.poin
 
 frame-ordered : (l : Label) → InOrder Below (frame_vertices l)
 frame-ordered l i n u v h a b =
-    let k = map-at (corner_vertex l) all_ends i u a in
-    let j = map-at (corner_vertex l) all_ends n v b in
+    let k = is-at_map (corner_vertex l) all_ends i u a in
+    let j = is-at_map (corner_vertex l) all_ends n v b in
     subst (λ (w : PlainVertex). Below u w) j.2 (subst (λ (w : PlainVertex). Below w (corner_vertex l j.0)) k.2
     (corner-below k.0 j.0 (point_of (corner_point k.0)) (point_of (corner_point j.0)) (ends-order i n k.0 j.0 h k.1 j.1) (corner-is k.0) (corner-is j.0)))
 
@@ -67,13 +67,13 @@ module _ (s : Set) (l : Label) (W : IsOneLabelSet s l) (turned : (n : ℕ) → t
     pub vertices-listed : map vertex_of vs ≡ frame_vertices l
     vertices-listed = same-lists Below never-both (map vertex_of vs) (frame_vertices l) A.ordered (frame-ordered l)
         (λ n v h.
-        let u = map-at vertex_of vs n v h in
-        let i = at-map vertex_of vs n u.0 u.1 in
+        let u = is-at_map vertex_of vs n v h in
+        let i = map-is_at vertex_of vs n u.0 u.1 in
         let k = vertex-corner s l W (point_of u.0.point) (A.vertices n (vertex_of u.0) i) in
         (number k.0, subst (λ (w : PlainVertex). IsAt (frame_vertices l) (number k.0) w) (sym (at-corner n u.0 k.0 i k.1) ∙ u.2) (frame-vertex l k.0)))
         (each-vertex l (λ n (v : PlainVertex). (m : ℕ) × IsAt (map vertex_of vs) m v) (λ k.
         let f = A.complete (point_of (corner_point k)) (corner-vertex s k (point_of (corner_point k)) (corner-is k)) in
-        let u = map-at vertex_of vs f.0 f.1 f.2 in
-        let i = at-map vertex_of vs f.0 u.0 u.1 in
+        let u = is-at_map vertex_of vs f.0 f.1 f.2 in
+        let i = map-is_at vertex_of vs f.0 u.0 u.1 in
         let same = subst (λ (w : PlainVertex). SamePoint w.point (point_of (corner_point k))) (sym u.2) f.3 in
         (f.0, subst (λ (w : PlainVertex). IsAt (map vertex_of vs) f.0 w) (at-corner f.0 u.0 k i (corner-same k (point_of u.0.point) same)) i)))

@@ -1,5 +1,5 @@
 -- The map written out is the least map at the lowest corner of a set that holds all of the frame or nothing of it.
-use Rattle.law_text.proofs.Prelude.{◌≡◌, ℕ, ◌+◌, ◌≤◌, ℤ, pos, neg_ℤ, ◌+ℤ◌, ◌*ℤ◌, ◌<ℤ◌, arith, refl, sym, ◌∙◌, ap, ◌⊎◌, inl, inr, ⊎_elim, cond, Some, None, subst, ints, Sign, minus, nought, plus, sign, Lies, mul_pos, minus-is, sign-minus, sign-plus, sign-neg, sign_turned, by_order, HasLabel, Germ, SpacePoint, slope, Set, Vector, dot, cross, triple, blend, IsDirection, IsZero, SameDirection, IsNormal, Label, Out, IsStrictlyOn, sign_at, carriers, frame-minus, Germ-unique, Near, by_side, NearPlain, NearStraight, Least, Cone, IsAt, MapVertex, Arc, Map, Item, arc_item, items, item_normal, item_pos, item_mark, item_neg, dir_of, OnItem, IsFree, MapLabel, NearLabel, HasArc, ArcBetween, Shaped, amount, dir-at, at-map, IsFrameCornerAt, axes, Axis, on_x, on_y, on_z, wall, wall-listed, IsOneLabelSet, germ-inward, germ-outward, is_high_on, inward_way, through, leads-in, axis_of, dot-zero}
+use Rattle.law_text.proofs.Prelude.{◌≡◌, ℕ, ◌+◌, ◌≤◌, ℤ, pos, neg_ℤ, ◌+ℤ◌, ◌*ℤ◌, ◌<ℤ◌, arith, refl, sym, ◌∙◌, ap, ◌⊎◌, inl, inr, ⊎_elim, cond, Some, None, subst, ints, Sign, minus, nought, plus, sign, Lies, mul_pos, minus-is, sign-minus, sign-plus, sign-neg, sign_turned, by_order, HasLabel, Germ, SpacePoint, slope, Set, Vector, dot, cross, triple, blend, IsDirection, IsZero, SameDirection, IsNormal, Label, Out, IsStrictlyOn, sign_at, carriers, frame-minus, Germ-unique, Near, by_side, NearPlain, NearStraight, Least, Cone, IsAt, MapVertex, Arc, Map, Item, arc_item, items, item_normal, item_pos, item_mark, item_neg, dir_of, OnItem, IsFree, MapLabel, NearLabel, HasArc, ArcBetween, Shaped, amount, dir-at, map-is_at, IsFrameCornerAt, axes, Axis, on_x, on_y, on_z, wall, wall-listed, IsOneLabelSet, germ-inward, germ-outward, is_high_on, inward_way, through, leads-in, axis_of, dot-zero}
 use Rattle.law_near.proofs.Decisions.{near-germ_one}
 use Rattle.law_sphere.specs.Labelling.{Agrees}
 use Rattle.law_sphere.proofs.cones.Signs.{leading, leading-level, far-leading}
@@ -105,10 +105,10 @@ module _ (l : Label) where
   each-quarter = each-listed (λ a. arc_item (quarter a)) slot axes_down refl
 
   ray-at : (a : Axis) → IsAt M.svertices (slot a) (ray a)
-  ray-at a = at-map ray axes_down (slot a) a (axis-at a)
+  ray-at a = map-is_at ray axes_down (slot a) a (axis-at a)
 
   pub quarter-at : (a : Axis) → IsAt (items M) (slot a) (arc_item (quarter a))
-  quarter-at a = at-map (λ o. arc_item (quarter o)) axes_down (slot a) a (axis-at a)
+  quarter-at a = map-is_at (λ o. arc_item (quarter o)) axes_down (slot a) a (axis-at a)
 
   abbrev Strict : Vector → Axis → Vector → Vector → Type 0
   Strict d a s t = IsStrictlyOn (axis_of a) s t d
@@ -135,7 +135,7 @@ module _ (l : Label) where
   one-quarter a o d p = around (λ b. OnQuarter b d → slot a ≡ slot b) a (λ q. refl) (λ q. absurd (none-positive _ q.0 p.1)) (λ q. absurd (none-positive _ q.0 p.2)) o
 
   has-arc : (a : Axis) → HasArc M (slot a)
-  has-arc a = (slot (next a), quarter (next a), at-map quarter axes_down (slot (next a)) (next a) (axis-at (next a)), inr (each-axis (λ o. slot (axis_after (next o))) slot refl a))
+  has-arc a = (slot (next a), quarter (next a), map-is_at quarter axes_down (slot (next a)) (next a) (axis-at (next a)), inr (each-axis (λ o. slot (axis_after (next o))) slot refl a))
 
   between : (a : Axis) → ArcBetween M (quarter a)
   between a = record {

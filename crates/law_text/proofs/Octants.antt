@@ -1,5 +1,5 @@
 -- The maps at the corners of the frame, written out: three svertices and three arcs, by the axes. Each is the image of that at the lowest corner.
-use Rattle.law_text.proofs.Prelude.{◌≡◌, ℕ, zero, suc, ◌+◌, pos, arith, refl, inl, inr, Bool, true, false, cond, List, [], ◌∷◌, map, length, get_or, Some, None, slice_get, subst, ints, Vector, vector, dot, IsNormal, Label, Out, InOrder, ArcBelow, Ordered, IsAt, MapVertex, Arc, Map, Item, arc_item, items, item_normal, IsPrimitive, VectorBelow, turned_vector, differ, is_odd, turned_svertex, IsTurnedArc, IsTurnedItem, IsTurnedMap, at-map, some-at, FrameCorner, ends, Axis, on_x, on_y, on_z, in-order, is_high_on, inward, axis_of}
+use Rattle.law_text.proofs.Prelude.{◌≡◌, ℕ, zero, suc, ◌+◌, pos, arith, refl, inl, inr, Bool, true, false, cond, List, [], ◌∷◌, map, length, get_or, Some, None, slice_get, subst, ints, Vector, vector, dot, IsNormal, Label, Out, InOrder, ArcBelow, Ordered, IsAt, MapVertex, Arc, Map, Item, arc_item, items, item_normal, IsPrimitive, VectorBelow, turned_vector, differ, is_odd, turned_svertex, IsTurnedArc, IsTurnedItem, IsTurnedMap, map-is_at, FrameCorner, ends, Axis, on_x, on_y, on_z, in-order, is_high_on, inward, axis_of}
 use Rattle.law_turns.specs.Turned.{signed}
 use Rattle.law_text.proofs.Corners.{each-axis, each-corner, each-slot, seek, count_from, each-listed}
 
@@ -66,7 +66,7 @@ pub each-svertex : (l : Label) (k : FrameCorner) (P : ℕ → MapVertex → Type
 each-svertex l k = each-listed (svertex k) (axis_slot k.x k.y) (order k.x k.y) (each-corner (λ j. map (axis_slot j.x j.y) (order j.x j.y)) (λ j. count_from 0 (length (order j.x j.y))) refl k)
 
 pub svertex-at : (l : Label) (k : FrameCorner) (a : Axis) → IsAt (octant l k).svertices (axis_slot k.x k.y a) (svertex k a)
-svertex-at l k a = at-map (svertex k) (order k.x k.y) (axis_slot k.x k.y a) a (some-at (order k.x k.y) (axis_slot k.x k.y a) a (each-slot (λ j o. slice_get (order j.x j.y) (axis_slot j.x j.y o)) (λ j o. Some o) refl k a))
+svertex-at l k a = map-is_at (svertex k) (order k.x k.y) (axis_slot k.x k.y a) a (each-slot (λ j o. slice_get (order j.x j.y) (axis_slot j.x j.y o)) (λ j o. Some o) refl k a)
 
 pub each-arc : (l : Label) (k : FrameCorner) (P : ℕ → Arc → Type 0) → ((a : Axis) → P (slot a) (arc l k a)) → (n : ℕ) (c : Arc) → IsAt (octant l k).arcs n c → P n c
 each-arc l k = each-listed (arc l k) slot axes_down refl
@@ -75,13 +75,13 @@ pub each-item : (l : Label) (k : FrameCorner) (P : ℕ → Item → Type 0) → 
 each-item l k = each-listed (λ a. arc_item (arc l k a)) slot axes_down refl
 
 pub axis-at : (a : Axis) → IsAt axes_down (slot a) a
-axis-at a = some-at axes_down (slot a) a (each-axis (λ o. slice_get axes_down (slot o)) (λ o. Some o) refl a)
+axis-at a = (each-axis (λ o. slice_get axes_down (slot o)) (λ o. Some o) refl a)
 
 pub arc-at : (l : Label) (k : FrameCorner) (a : Axis) → IsAt (octant l k).arcs (slot a) (arc l k a)
-arc-at l k a = at-map (arc l k) axes_down (slot a) a (axis-at a)
+arc-at l k a = map-is_at (arc l k) axes_down (slot a) a (axis-at a)
 
 pub item-at : (l : Label) (k : FrameCorner) (a : Axis) → IsAt (items (octant l k)) (slot a) (arc_item (arc l k a))
-item-at l k a = at-map (λ o. arc_item (arc l k o)) axes_down (slot a) a (axis-at a)
+item-at l k a = map-is_at (λ o. arc_item (arc l k o)) axes_down (slot a) a (axis-at a)
 
 -- ---- it is in order
 pub axis-normal : (a : Axis) → IsNormal (axis_of a)

@@ -1,5 +1,5 @@
 -- Each corner has one next corner.
-use Rattle.law_text.proofs.Prelude.{◌≡◌, ℕ, pos, neg_ℤ, ◌<ℤ◌, inl, inr, [], ◌∷◌, arith, refl, sym, ◌∙◌, subst, ints, ring, at, num, neg, ◌⊕◌, ◌⊖◌, ◌⊗◌, toward, Set, Vector, dot, cross, triple, IsDirection, SameDirection, IsAt, Arc, arc_item, normal-is, same-minus, at-one, at-arc, turn-same, Vertex, Edge, Complex, Corner, IsCorner, Shows, end-level, close_way, on-close, Leads, IsNextArc, turned-level, arc-no_sloop, self-pos, cross-turned, nought-if, SameDirection-turned, SameDirection-trans, dir-self, direction-right}
+use Rattle.law_text.proofs.Prelude.{◌≡◌, ℕ, pos, neg_ℤ, ◌<ℤ◌, inl, inr, [], ◌∷◌, arith, refl, sym, ◌∙◌, subst, ints, ring, at, num, neg, ◌⊕◌, ◌⊖◌, ◌⊗◌, toward, Set, Vector, dot, cross, triple, IsDirection, SameDirection, IsAt, Arc, arc_item, normal-is, same-minus, is-at_one, at-arc, turn-same, Vertex, Edge, Complex, Corner, IsCorner, Shows, end-level, close_way, on-close, Leads, IsNextArc, level-normal, arc-no_sloop, self-pos, cross-turned, nought-if, SameDirection-turned, SameDirection-trans, dir-self, direction-right}
 use Rattle.law_complex.proofs.links.EdgeEnds.{corner_of_numbers}
 use Rattle.nef_facets.proofs.EdgeViews.{EdgeFrom, edge-from, one-vertex, one-svertex}
 use Rattle.nef_facets.proofs.NextCorners.{corner-same}
@@ -52,7 +52,7 @@ module _ (s : Set) (C : Complex) (S : Shows s C) (i a j b : ℕ) (V : EdgeFrom s
   one-arc-into = (S.cones i v V.is_from).valid.shaped.no_items_meet k l (arc_item c) (arc_item e)
       (close_way s C S (corner_of_numbers i k) v c first a V.start V.is_start g) first.item second.item
       (on-close s C S (corner_of_numbers i k) v c first a V.start V.is_start g (level-back c.normal V.start.dir) (inr (enters, right-is)))
-      (on-close s C S (corner_of_numbers i l) v e second a V.start V.is_start g (turned-level c.normal e.normal g w (level-back c.normal V.start.dir))
+      (on-close s C S (corner_of_numbers i l) v e second a V.start V.is_start g (level-normal c.normal e.normal g w (level-back c.normal V.start.dir))
       (inr (also, same-minus (triple c.normal V.start.dir g) (triple e.normal V.start.dir g) (turn-same c.normal e.normal V.start.dir V.start.dir g g w (dir-self V.start.dir u-is) (dir-self g g-is)) right-is)))
 
 turned-edge : (e : Edge) (i a j b : ℕ) → Leads e i a j b → Leads e j b i a
@@ -66,8 +66,8 @@ module _ (s : Set) (C : Complex) (S : Shows s C) where
       let V = edge-from s C S x.number x.edge x.is_edge p a m t (turned-edge x.edge m t p a x.leads) in
       let W = subst (λ (c : Arc). EdgeFrom s C q b m c.source) e (edge-from s C S y.number y.edge y.is_edge q b m y.this_arc.source (turned-edge y.edge m y.this_arc.source q b y.leads)) in
       let same = one-vertex s C S p a q b m t V W in
-      let here = at-one C.vertices p x.there V.from x.is_there V.is_from in
-      let there = at-one C.vertices p y.there V.from (subst (λ (n : ℕ). IsAt C.vertices n y.there) (sym same) y.is_there) V.is_from in
+      let here = is-at_one C.vertices p x.there V.from x.is_there V.is_from in
+      let there = is-at_one C.vertices p y.there V.from (subst (λ (n : ℕ). IsAt C.vertices n y.there) (sym same) y.is_there) V.is_from in
       corner-same s C S k l same
       (one-arc-into s C S p a m t V k.item l.item x.that_arc y.that_arc (subst (λ (v : Vertex). IsAt v.map.arcs k.item x.that_arc) here x.is_that) (subst (λ (v : Vertex). IsAt v.map.arcs l.item y.that_arc) there y.is_that)
       refl (sym (one-svertex s C S p a q b m t V W))
@@ -76,8 +76,8 @@ module _ (s : Set) (C : Complex) (S : Shows s C) where
 
   pub one-next : HasOneNext C
   one-next j k l (inl x) (inl y) =
-      let e = at-one C.vertices j.vertex y.here x.here y.is_here x.is_here in
-      arcs-one j k l x y (at-one x.here.map.arcs j.item y.this_arc x.this_arc (subst (λ (v : Vertex). IsAt v.map.arcs j.item y.this_arc) e y.is_this) x.is_this)
+      let e = is-at_one C.vertices j.vertex y.here x.here y.is_here x.is_here in
+      arcs-one j k l x y (is-at_one x.here.map.arcs j.item y.this_arc x.this_arc (subst (λ (v : Vertex). IsAt v.map.arcs j.item y.this_arc) e y.is_this) x.is_this)
   one-next j k l (inl x) (inr (e, v, o, h)) = absurd (arc-no_sloop s C S j x.here v x.this_arc o x.is_here x.is_this h)
   one-next j k l (inr (e, v, o, h)) (inl y) = absurd (arc-no_sloop s C S j y.here v y.this_arc o y.is_here y.is_this h)
   one-next j k l (inr x) (inr y) = sym (x.0) ∙ y.0

@@ -1,5 +1,5 @@
 -- A complex has its parts in one way alone, where each corner has one next corner.
-use Rattle.law_text.proofs.Prelude.{◌≡◌, ℕ, zero, suc, ◌<◌, ◌≤◌, ⊎_elim, List, length, map, arith, refl, sym, ◌∙◌, ap, subst, IsInTable, normal_of, Label, form_of, Item, items, item_normal, sides_of, is-at_within, is-at_some, is-at_one, at-from_get, get-from_at, side-has, number-one, side_number, Vertex, Complex, Corner, IsCorner, VertexSide, HasSideLabel, corner_of, FacetLink, VolumeLink, IsCornerBelow, Cycles, IsSideNumber, count_items, count_sides, IsFacetOf, IsVolumeOf, IsSideBelow, pos_of, neg_of, IsFacet, IsParts, cycle_corners, shell_sides, Shells, Cycle, Facet, Parts, Shell, map-one, cross-turned, parallel-both, direction-right}
+use Rattle.law_text.proofs.Prelude.{◌≡◌, ℕ, zero, suc, ◌<◌, ◌≤◌, ⊎_elim, List, length, map, arith, refl, sym, ◌∙◌, ap, subst, IsInTable, normal_of, Label, form_of, Item, items, item_normal, sides_of, is-at_within, is-at_some, is-at_one, side-has, number-one, side_number, Vertex, Complex, Corner, IsCorner, VertexSide, HasSideLabel, corner_of, FacetLink, VolumeLink, IsCornerBelow, Cycles, IsSideNumber, count_items, count_sides, IsFacetOf, IsVolumeOf, IsSideBelow, pos_of, neg_of, IsFacet, IsParts, cycle_corners, shell_sides, Shells, Cycle, Facet, Parts, Shell, map-one, cross-turned, parallel-both, direction-right}
 use Rattle.nef_complex.specs.declared.complex.Corner.{Corner as CornerValue}
 use Rattle.nef_complex.proofs.SamePlanes.{parallel-equal}
 use Rattle.law_text.proofs.Numbering.{IsEarlier, numbers-one}
@@ -45,7 +45,7 @@ module _ (C : Complex) where
   -- a side has one number
   side-number-one : (x : VertexSide) (i k : ℕ) → IsSideNumber C x i → IsSideNumber C x k → i ≡ k
   side-number-one x i k a b =
-      let e : a.vertex ≡ b.vertex = is-at_one C.vertices x.vertex a.vertex b.vertex (get-from_at C.vertices x.vertex a.vertex a.is_vertex) (get-from_at C.vertices x.vertex b.vertex b.is_vertex) in
+      let e : a.vertex ≡ b.vertex = is-at_one C.vertices x.vertex a.vertex b.vertex a.is_vertex b.is_vertex in
       number-one a.vertex.map i x.side a.label a.is_side
       ∙ sym (subst (λ (v : Vertex). k ≡ side_number v.map x.side) (sym e) (number-one b.vertex.map k x.side b.label b.is_side))
 
@@ -94,7 +94,7 @@ module _ (C : Complex) (one : HasOneNext C) (p q : Parts) (P : IsParts C p) (Q :
       let h = is-at_within p.volume_of i row a in
       let e = S.as_many in
       let v = is-at_some C.vertices i (omega arith) in
-      let w = at-from_get C.vertices i (v.0) (v.1) in
+      let w = (v.1) in
       let n = S.row i (v.0) row w a in
       let g = is-at_within row k m b in
       let s = is-at_some (sides_of (v.0).map) k (omega arith) in
@@ -117,11 +117,11 @@ module _ (C : Complex) (one : HasOneNext C) (p q : Parts) (P : IsParts C p) (Q :
       let h = is-at_within p.facet_of k.vertex row a in
       let e = S.as_many in
       let v = is-at_some C.vertices k.vertex (omega arith) in
-      let w = at-from_get C.vertices k.vertex (v.0) (v.1) in
+      let w = (v.1) in
       let m = S.row k.vertex (v.0) row w a in
       let g = is-at_within row k.item n b in
       let x = is-at_some (items (v.0).map) k.item (omega arith) in
-      (v.0, x.0, record { vertex = w; item = at-from_get (items (v.0).map) k.item (x.0) (x.1) })
+      (v.0, x.0, record { vertex = w; item = (x.1) })
 
   facet-one : (n : ℕ) (f g : Facet) → IsFacet C p n f → IsFacet C q n g → f ≡ g
   facet-one n f g F G =
@@ -166,7 +166,7 @@ module _ (C : Complex) (one : HasOneNext C) (p q : Parts) (P : IsParts C p) (Q :
       let w = is-at_within p.sface_of i m a in
       let e = P.sface_numbers.as_many in
       let v = is-at_some C.vertices i (omega (arith, w, e)) in
-      let c = at-from_get C.vertices i (v.0) (v.1) in
+      let c = (v.1) in
       sfaces-one ((v.0).map) m n (P.sface_numbers.row i (v.0) m c a) (Q.sface_numbers.row i (v.0) n c b))
 
   shells-same : p.shells ≡ q.shells

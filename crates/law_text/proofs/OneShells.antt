@@ -1,5 +1,5 @@
 -- The numbers of sfaces and the shells are the only ones.
-use Rattle.law_text.proofs.Prelude.{◌≡◌, ℕ, ◌<◌, pos, inl, inr, ⊎_elim, List, arith, refl, sym, ◌∙◌, ap, subst, ints, IsAt, Map, same-lists, at-one, SeeOneWay, AreSfaces, is-at_within, is-at_some, Complex, VertexSide, IsSideNumber, IsSideNamed, IsNameBelow, IsSideListed, IsShell, IsShellBelow, Shells}
+use Rattle.law_text.proofs.Prelude.{◌≡◌, ℕ, ◌<◌, pos, inl, inr, ⊎_elim, List, arith, refl, sym, ◌∙◌, ap, subst, ints, IsAt, Map, same-lists, is-at_one, SeeOneWay, AreSfaces, is-at_within, is-at_some, Complex, VertexSide, IsSideNumber, IsSideNamed, IsNameBelow, IsSideListed, IsShell, IsShellBelow, Shells}
 use Rattle.nef_complex.specs.declared.parts.Side.{Side}
 use Rattle.law_text.proofs.Numbering.{IsEarlier, numbers-one}
 use Rattle.law_text.proofs.Rows.{list-one}
@@ -47,7 +47,7 @@ module _ (C : Complex) (number-one : (x : VertexSide) (i k : ℕ) → IsSideNumb
 
   shell-below_apart : (g h : List Side) → IsShellBelow g h → IsShellBelow h g → ⊥
   shell-below_apart g h (s, t, a, b, l) (u, v, c, d, m) =
-      below-apart s t l (subst (λ (w : Side). IsNameBelow w s) (at-one h 0 u t c b) (subst (λ (w : Side). IsNameBelow u w) (at-one g 0 v s d a) m))
+      below-apart s t l (subst (λ (w : Side). IsNameBelow w s) (is-at_one h 0 u t c b) (subst (λ (w : Side). IsNameBelow u w) (is-at_one g 0 v s d a) m))
 
   found : (P : VertexSide → Type 0) (xs ys : List (List Side)) → Shells C P xs → Shells C P ys → (k : ℕ) (h : List Side) → IsAt xs k h → (i : ℕ) × IsAt ys i h
   found P xs ys X Y k h a =

@@ -7,8 +7,8 @@ pub use Rattle.nef_smap.proofs.WellFormed.{dir-equal}
 pub use Rattle.nef_complex.proofs.Prelude.{ltb, ltb-true, weight_limit}
 pub use Rattle.nef_result.proofs.Prelude.{Edges, FrameCorner, IsFrameCornerAt, Point, all_ends, axes, ends, frame-minus, frame_end, minus-is, point_limit, sign-neg, sign_turned}
 pub use Rattle.nef_unique.proofs.Prelude.{Dir, FlatDim-by_cone, IsEdgeBelow, SLoop, cone-unique, cones-of_same, option_map, point_below-trans, same-lists, same_points_equal, sloop_of}
-pub use Rattle.nef_facets.proofs.Prelude.{All, AreAlong, IsCornerBelow, IsCycleBelow, IsNextArc, Leads, LinkAcross, NextCorner, SArc, StepsTo, append_assoc, arc_of, at-map, close_way, end-level, form_of, map-at, on-close, point_below-apart, some-at, ◌^◌}
-pub use Rattle.nef_volumes.proofs.Prelude.{AreSfaces, AreSidesAlong, Bool, Chained, Complex, Corner, Cycle, Cycles, Edge, Facet, FacetLink, FacetNumbers, Form, Germ, HasCorner, HasLabel, HasRows, HasSide, HasSideLabel, InFrame, InOneSface, InOrder, IsAbove, IsAhead, IsAt, IsBelow, IsBetween, IsCorner, IsCycle, IsDirection, IsEdgePoint, IsFacet, IsFacetAt, IsFacetOf, IsFree, IsInTable, IsNameBelow, IsParts, IsShell, IsShellBelow, IsSideBelow, IsSideListed, IsSideNamed, IsSideNumber, IsSkeletonPoint, IsSpot, IsVertex, IsVolumeOf, IsZero, Item, Label, LinkAcrossFacet, LinkAlong, LinkDown, LinkInSface, List, Map, MapLabel, MapVertex, None, NumbersClasses, OnItem, Option, Out, Parts, Plane, RayDown, RayNames, SVertex, SameDirection, SameDirection-trans, SameDirection-turned, SamePoint, SeeOneWay, Sees, Set, Shell, ShellLink, Shells, Shows, ShowsSet, Side, Some, SpacePoint, Spot, Vector, Vertex, VertexSide, VolumeLink, VolumeNumbers, [], ap, arc_item, arith, around_ends, around_svertex, at, at-arc, at-from_get, at-one, at_vertex, blend, by_order, chain-here, chain-link, chain-map, chain-trans, chain-turned, complex_of, cond, corner_of, count_items, count_sides, cross, cycle_corners, dir-self, dir_of, dot, drop, edge_of, facet-of, false, form_at, get-from_at, get_or, here, in_facet, inl, inr, ints, is-at_one, is-at_some, is-at_within, item_neg, item_normal, item_pos, items, length, length-map, link, map, meets_edge, meets_vertex, mul_pos, nat_abs, neg, neg_arcs, neg_item, neg_of, neg_ℤ, negsuc, normal-is, normal_of, num, number-one, on_edge, point_of, pos, pos_arcs, pos_item, pos_of, refl, ring, shell_sides, side-has, side-number, side_number, sides_of, slice_get, subst, suc, svertex_of, sym, toward, true, vector, vertex_of, zero, ℕ, ℤ, ⊎_elim, ◌*ℤ◌, ◌*◌, ◌++◌, ◌+ℤ◌, ◌+◌, ◌<ℤ◌, ◌<◌, ◌==◌, ◌↔◌, ◌∙◌, ◌∷◌, ◌≡◌, ◌≤◌, ◌⊎◌, ◌⊕◌, ◌⊖◌, ◌⊗◌}
+pub use Rattle.nef_facets.proofs.Prelude.{All, AreAlong, IsCornerBelow, IsCycleBelow, IsNextArc, Leads, LinkAcross, NextCorner, SArc, StepsTo, append_assoc, arc_of, map-is_at, close_way, end-level, form_of, is-at_map, on-close, point_below-apart, ◌^◌}
+pub use Rattle.nef_volumes.proofs.Prelude.{AreSfaces, AreSidesAlong, Bool, Chained, Complex, Corner, Cycle, Cycles, Edge, Facet, FacetLink, FacetNumbers, Form, Germ, HasCorner, HasLabel, HasRows, HasSide, HasSideLabel, InFrame, InOneSface, InOrder, IsAbove, IsAhead, IsAt, IsBelow, IsBetween, IsCorner, IsCycle, IsDirection, IsEdgePoint, IsFacet, IsFacetAt, IsFacetOf, IsFree, IsInTable, IsNameBelow, IsParts, IsShell, IsShellBelow, IsSideBelow, IsSideListed, IsSideNamed, IsSideNumber, IsSkeletonPoint, IsSpot, IsVertex, IsVolumeOf, IsZero, Item, Label, LinkAcrossFacet, LinkAlong, LinkDown, LinkInSface, List, Map, MapLabel, MapVertex, None, NumbersClasses, OnItem, Option, Out, Parts, Plane, RayDown, RayNames, SVertex, SameDirection, SameDirection-trans, SameDirection-turned, SamePoint, SeeOneWay, Sees, Set, Shell, ShellLink, Shells, Shows, ShowsSet, Side, Some, SpacePoint, Spot, Vector, Vertex, VertexSide, VolumeLink, VolumeNumbers, [], ap, arc_item, arith, around_ends, around_svertex, at, at-arc, at_vertex, blend, by_order, chain-here, chain-link, chain-map, chain-trans, chain-turned, complex_of, cond, corner_of, count_items, count_sides, cross, cycle_corners, dir-self, dir_of, dot, drop, edge_of, facet-of, false, form_at, get_or, here, in_facet, inl, inr, ints, is-at_one, is-at_some, is-at_within, item_neg, item_normal, item_pos, items, length, length-map, link, map, meets_edge, meets_vertex, mul_pos, nat_abs, neg, neg_arcs, neg_item, neg_of, neg_ℤ, negsuc, normal-is, normal_of, num, number-one, on_edge, point_of, pos, pos_arcs, pos_item, pos_of, refl, ring, shell_sides, side-has, side-number, side_number, sides_of, slice_get, subst, suc, svertex_of, sym, toward, true, vector, vertex_of, zero, ℕ, ℤ, ⊎_elim, ◌*ℤ◌, ◌*◌, ◌++◌, ◌+ℤ◌, ◌+◌, ◌<ℤ◌, ◌<◌, ◌==◌, ◌↔◌, ◌∙◌, ◌∷◌, ◌≡◌, ◌≤◌, ◌⊎◌, ◌⊕◌, ◌⊖◌, ◌⊗◌}
 pub use Rattle.std.proofs.Common.{codes, eqb, option_to_list}
 pub use Rattle.std.proofs.lemmas.List.{map-id}
 pub use Rattle.std.specs.Fmt.{decimal, digit_glyph, digits_onto, signed_decimal}
@@ -29,4 +29,5 @@ pub use Rattle.nef_result.proofs.InOrder.{corner-below, ends-order, in-order, sa
 pub use Rattle.nef_result.proofs.Walls.{Axis, IsOneLabelSet, empty-whole, full-whole, germ-inward, germ-outward, on_x, on_y, on_z, wall, wall-listed}
 pub use Rattle.nef_unique.proofs.Injective.{arc-equal, map-equal, map-one, sloop-equal, svertex-equal, vertex-equal}
 pub use Rattle.nef_unique.proofs.Vertices.{cone-carried, edges-one, set-vertices}
-pub use Rattle.nef_facets.proofs.NextCorners.{arc-no_sloop, next-linked, turned-level}
+pub use Rattle.nef_facets.proofs.NextCorners.{arc-no_sloop, next-linked}
+pub use Rattle.law_complex.proofs.FacetEnds.{level-normal}

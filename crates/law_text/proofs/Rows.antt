@@ -1,5 +1,5 @@
 -- Lists and tables with the same elements are one.
-use Rattle.law_text.proofs.Prelude.{◌≡◌, ℕ, suc, List, [], ◌∷◌, length, arith, refl, sym, ◌∙◌, ap, subst, IsAt, IsInTable, is-at_within, is-at_some, is-at_one, at-from_get, Vertex, Complex, HasRows}
+use Rattle.law_text.proofs.Prelude.{◌≡◌, ℕ, suc, List, [], ◌∷◌, length, arith, refl, sym, ◌∙◌, ap, subst, IsAt, IsInTable, is-at_within, is-at_some, is-at_one, Vertex, Complex, HasRows}
 
 pub list-one : {X : Type 0} (xs ys : List X) → length xs ≡ length ys → ((k : ℕ) (x y : X) → IsAt xs k x → IsAt ys k y → x ≡ y) → xs ≡ ys
 list-one [] [] e same = refl
@@ -18,7 +18,7 @@ rows-one C count ps qs P Q same = list-one ps qs (P.as_many ∙ sym Q.as_many) r
         let h = is-at_within ps i p a in
         let e = P.as_many in
         let v = is-at_some C.vertices i (omega arith) in
-        let w = at-from_get C.vertices i (v.0) (v.1) in
+        let w = (v.1) in
         list-one p q (P.row i (v.0) p w a ∙ sym (Q.row i (v.0) q w b)) (λ k m n f g. same i k m n (p, a, f) (q, b, g))
 
 -- and what has a number in one has a number in the other
@@ -28,7 +28,7 @@ rows-both C count ps qs P Q i k m (p, a, f) =
     let e = P.as_many in
     let g = Q.as_many in
     let v = is-at_some C.vertices i (omega arith) in
-    let w = at-from_get C.vertices i (v.0) (v.1) in
+    let w = (v.1) in
     let q = is-at_some qs i (omega arith) in
     let s = P.row i (v.0) p w a in
     let t = Q.row i (v.0) (q.0) w (q.1) in

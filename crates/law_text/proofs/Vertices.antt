@@ -7,6 +7,7 @@ use Rattle.nef_complex.specs.declared.complex.Complex.{Complex}
 use Rattle.law_text.proofs.Lines.{ArePlain, Starts, Lacks, same-head, line-starts, line-ends, starts-onto, starts-lacks}
 use Rattle.law_text.proofs.Words.{decimal-plain, numbers-plain, signed-plain, label-plain, option-plain, label-one, option-one}
 use Rattle.law_text.proofs.Lists.{IsReadBack, ReadsAll, AnyRest, all-lack, all-read, four_parts}
+use Rattle.nef_complex.proofs.SamePoints.{point-one}
 
 -- the n-th word of a line
 abbrev nth : ℕ → List Word → Word
@@ -27,9 +28,6 @@ dir-read d e a b c =
     (ap (λ r. vector r d.y d.z) (number-read direction_limit d.x e.x l d.x_small e.x_small a)
     ∙ ap (λ r. vector e.x r d.z) (number-read direction_limit d.y e.y l d.y_small e.y_small b)
     ∙ ap (λ r. vector e.x e.y r) (number-read direction_limit d.z e.z l d.z_small e.z_small c))
-
-point-one : (p q : Point) → p.x ≡ q.x → p.y ≡ q.y → p.z ≡ q.z → p.w ≡ q.w → p ≡ q
-point-one p q a b c d = same_points_equal p q (record { along_x = rw (a, d) refl; along_y = rw (b, d) refl; along_z = rw (c, d) refl })
 
 point-read : (p q : Point) → signed_decimal p.x ≡ signed_decimal q.x → signed_decimal p.y ≡ signed_decimal q.y
     → signed_decimal p.z ≡ signed_decimal q.z → signed_decimal p.w ≡ signed_decimal q.w → p ≡ q

@@ -22,7 +22,7 @@ digits-plain (suc k) n acc h =
     let p : IsPlainWord more = (glyph-plain (n % 10), h) in
     either-plain (nat_eq (n / 10) 0) more (digits_onto k 10 false (n / 10) more) p (digits-plain k (n / 10) more p)
 
-spelled : (n : ℕ) → digits_onto 64 10 false n [] ≡ digits 10 false n
+pub spelled : (n : ℕ) → digits_onto 64 10 false n [] ≡ digits 10 false n
 unfolding digits
 spelled n = refl
 

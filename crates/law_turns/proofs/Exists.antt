@@ -1,5 +1,5 @@
 -- Each ordered map that is well shaped has a turned image whose lists are in order.
-use Rattle.law_turns.proofs.Prelude.{◌≡◌, ℕ, zero, Bool, true, false, cond, refl, ap, sym, ◌∙◌, subst, inl, inr, ⊎_elim, List, map, Option, Some, None, cases_order, Lies, Vector, SameDirection, IsNormal, Form, normal_of, negated_if, IsPrimitive, VectorBelow, IsAt, MapVertex, Arc, MapSloop, Item, arc_item, sloop_item, Map, items, item_normal, Shaped, InOrder, ArcBelow, Ordered, at-one, lies-at, at-lies, arc-at, sloop-at, at-sloop, at-arc, normal-is, below-itself, at-map, map-at, Mapped, map-list, Sorted, sort, chain-order, signed_form, turned_plane, turned_vector, unturned_vector, differ, is_odd, signed, turned_svertex, IsTurnedArc, IsTurnedOption, HasTurnedLists, dir-self}
+use Rattle.law_turns.proofs.Prelude.{◌≡◌, ℕ, zero, Bool, true, false, cond, refl, ap, sym, ◌∙◌, subst, inl, inr, ⊎_elim, List, map, Option, Some, None, cases_order, Lies, Vector, SameDirection, IsNormal, Form, normal_of, negated_if, IsPrimitive, VectorBelow, IsAt, MapVertex, Arc, MapSloop, Item, arc_item, sloop_item, Map, items, item_normal, Shaped, InOrder, ArcBelow, Ordered, is-at_one, lies-at, at-lies, arc-at, sloop-at, at-sloop, at-arc, normal-is, below-itself, is-at_map, map-is_at, Mapped, map-list, Sorted, sort, chain-order, signed_form, turned_plane, turned_vector, unturned_vector, differ, is_odd, signed, turned_svertex, IsTurnedArc, IsTurnedOption, HasTurnedLists, dir-self}
 use Rattle.law_sphere.proofs.cones.Lowest.{below-trans, below-either}
 use Rattle.law_sphere.proofs.cones.Rays.{arc-either, arc-trans, SameArc}
 use Rattle.law_turns.proofs.Carriers.{same-form}
@@ -57,7 +57,7 @@ image-number k M V i j v w a b e = V.svertices_apart i j v w a b (subst (λ (r :
 module _ (k : ℕ) (M : Map) (V : Shaped M) (us : List MapVertex) (vertex : ℕ → ℕ) (has : (i : ℕ) (v : MapVertex) → IsAt M.svertices i v → IsAt us (vertex i) (turned_svertex k v)) where
   number-one : (i j : ℕ) (v w : MapVertex) → IsAt M.svertices i v → IsAt M.svertices j w → vertex i ≡ vertex j → i ≡ j
   number-one i j v w a b e =
-      image-number k M V i j v w a b (ap (λ (r : MapVertex). r.dir) (at-one us (vertex j) (turned_svertex k v) (turned_svertex k w) (subst (λ (n : ℕ). IsAt us n (turned_svertex k v)) e (has i v a)) (has j w b)))
+      image-number k M V i j v w a b (ap (λ (r : MapVertex). r.dir) (is-at_one us (vertex j) (turned_svertex k v) (turned_svertex k w) (subst (λ (n : ℕ). IsAt us n (turned_svertex k v)) e (has i v a)) (has j w b)))
 
   -- images that are one in the order of arcs are of one arc
   pub one-arc : (i j : ℕ) (a c x y : Arc) → IsAt M.arcs i a → IsAt M.arcs j c → IsArcImage k vertex a x → IsArcImage k vertex c y → SameArc x y → i ≡ j
@@ -85,15 +85,15 @@ module _ (k : ℕ) (M : Map) (V : Shaped M) (O : Ordered M) where
   origin : (u : MapVertex) → Lies S.list u → (i : ℕ) × (v : MapVertex) × IsAt M.svertices i v × (u ≡ turned_svertex k v)
   origin u l =
       let (i, a) = lies-at images u (S.sound u l) in
-      let (v, b, e) = at-map (turned_svertex k) M.svertices i u a in
+      let (v, b, e) = is-at_map (turned_svertex k) M.svertices i u a in
       (i, v, b, sym e)
 
   placed : (i : ℕ) (v : MapVertex) → IsAt M.svertices i v → (j : ℕ) × IsAt S.list j (turned_svertex k v)
   placed i v a =
-      let (y, l, e) = S.all (turned_svertex k v) (at-lies images i (turned_svertex k v) (map-at (turned_svertex k) M.svertices i v a)) in
+      let (y, l, e) = S.all (turned_svertex k v) (at-lies images i (turned_svertex k v) (map-is_at (turned_svertex k) M.svertices i v a)) in
       let (m, w, b, h) = origin y l in
       let same = image-number k M V i m v w a b (e ∙ ap (λ (r : MapVertex). r.dir) h) in
-      let one = at-one M.svertices m v w (subst (λ (n : ℕ). IsAt M.svertices n v) same a) b in
+      let one = is-at_one M.svertices m v w (subst (λ (n : ℕ). IsAt M.svertices n v) same a) b in
       let (j, c) = lies-at S.list y l in
       (j, subst (λ (r : MapVertex). IsAt S.list j r) (h ∙ ap (turned_svertex k) (sym one)) c)
 
@@ -146,7 +146,7 @@ module _ (k : ℕ) (M : Map) (V : Shaped M) (O : Ordered M) where
       let (y, n, e) = A.all x (at-lies A1.list i x m) in
       let (j, c, d, t) = arc-origin y n in
       let same = one-arc k M V S.list vertex vertex-has i j a c x y l d s t e in
-      let one = at-one M.arcs j c a d (subst (λ (n : ℕ). IsAt M.arcs n a) same l) in
+      let one = is-at_one M.arcs j c a d (subst (λ (n : ℕ). IsAt M.arcs n a) same l) in
       let (h, o) = lies-at A.list y n in
       (h, y, t.0, o, subst (λ (r : Arc). IsTurnedArc k vertex t.0 r y) one t.1)
 

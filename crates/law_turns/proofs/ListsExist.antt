@@ -1,5 +1,5 @@
 -- The turned planes and vertices of each complex that shows a set can be listed in order.
-use Rattle.law_turns.proofs.Prelude.{◌≡◌, ℕ, ℤ, pos, ◌*ℤ◌, false, refl, sym, ◌∙◌, arith, ◌⊎◌, inl, inr, List, [], ◌∷◌, map, ints, Lies, by_order, IsBelow, SpacePoint, Form, form_numbers, SamePoint, IsPointBelow, Set, same-point_sym, IsAt, Map, Ordered, at-map, map-at, Mapped, map-list, Sorted, sort, chain-order, Vertex, Complex, Shows, turned_plane, turned_point, AreTurnedPlanes, AreTurnedVertices, IsTurnedMap, same-point_trans, lies-at, at-lies}
+use Rattle.law_turns.proofs.Prelude.{◌≡◌, ℕ, ℤ, pos, ◌*ℤ◌, false, refl, sym, ◌∙◌, arith, ◌⊎◌, inl, inr, List, [], ◌∷◌, map, ints, Lies, by_order, IsBelow, SpacePoint, Form, form_numbers, SamePoint, IsPointBelow, Set, same-point_sym, IsAt, Map, Ordered, is-at_map, map-is_at, Mapped, map-list, Sorted, sort, chain-order, Vertex, Complex, Shows, turned_plane, turned_point, AreTurnedPlanes, AreTurnedVertices, IsTurnedMap, same-point_trans, lies-at, at-lies}
 use Rattle.law_near.proofs.PointOrder.{point_below-trans}
 use Rattle.law_complex.proofs.Ways.{same-itself}
 use Rattle.law_turns.proofs.Carriers.{same-form}
@@ -29,7 +29,7 @@ form-either g h =
     (λ l. inr (inr (inr (sym a, inl l)))))
     (λ l. inr (inr (inl l)))
 
-place-either : (p q : SpacePoint) → IsPointBelow p q ⊎ SamePoint p q ⊎ IsPointBelow q p
+pub place-either : (p q : SpacePoint) → IsPointBelow p q ⊎ SamePoint p q ⊎ IsPointBelow q p
 place-either p q =
     by_order (p.x *ℤ pos q.w) (q.x *ℤ pos p.w) (λ l. inl (inl l)) (λ a.
     by_order (p.y *ℤ pos q.w) (q.y *ℤ pos p.w) (λ l. inl (inr (a, inl l))) (λ b.
@@ -51,10 +51,10 @@ module _ (k : ℕ) (gs : List Form) where
     record {
       each = λ j h a.
           let (i, b) = lies-at images h (P.sound h (at-lies P.list j h a)) in
-          let (g, c, e) = at-map (turned_plane k) gs i h b in
+          let (g, c, e) = is-at_map (turned_plane k) gs i h b in
           (i, g, false, c, sym e);
       all = λ i g a.
-          let (h, l, e) = P.all (turned_plane k g) (at-lies images i (turned_plane k g) (map-at (turned_plane k) gs i g a)) in
+          let (h, l, e) = P.all (turned_plane k g) (at-lies images i (turned_plane k g) (map-is_at (turned_plane k) gs i g a)) in
           let (j, b) = lies-at P.list h l in
           (j, h, false, b, sym e);
       ordered = chain-order FormBelow (λ g h. g ≡ h) P.list P.chain;

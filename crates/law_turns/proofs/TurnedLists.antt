@@ -1,6 +1,7 @@
 -- A map whose lists have another map's turned items, in order, is the turned map.
 use Rattle.law_turns.proofs.Prelude.{◌≡◌, ℕ, zero, suc, pos, neg_ℤ, Bool, true, false, refl, ap, sym, ◌∙◌, subst, arith, inl, inr, ⊎_elim, List, [], ◌∷◌, Option, Some, None, ints, cases_order, Vector, IsNormal, IsAt, MapVertex, Arc, MapSloop, Item, arc_item, sloop_item, Map, items, items_then, InOrder, ArcBelow, arc-at, sloop-at, at-sloop, at-arc, turned_vector, signed, IsTurnedArc, IsTurnedItem, IsTurnedOption, IsTurnedMap, HasTurnedLists, is-at_none, is-at_first}
 use Rattle.law_sphere.proofs.building.BuiltArcs.{arc-below_not}
+use Rattle.law_sphere.proofs.Builder.{sloops-one}
 
 -- ---- what is chosen for each element, by its number
 abbrev pub chosen : {A B : Type 0} (xs : List A) → B → ((i : ℕ) (x : A) → IsAt xs i x → B) → ℕ → B
@@ -39,15 +40,6 @@ one-place as' o i j a b h k e f = elim (cases_order i j) [
   | inl same ↦ same
   | inr apart ↦ ⊎_elim (λ l. absurd (arc-below_not a b e f (o i j a b l h k))) (λ l. absurd (arc-below_not b a (sym e) (sym f) (o j i b a l k h))) apart
 ]
-
-sloop-place : (as' : List Arc) (o : Option MapSloop) (i j : ℕ) (l m : MapSloop) → IsAt (items_then as' o) i (sloop_item l) → IsAt (items_then as' o) j (sloop_item m) → i ≡ j
-sloop-place [] None i j l m h k = absurd (is-at_none h)
-sloop-place [] (Some n) zero zero l m h k = refl
-sloop-place [] (Some n) zero (suc j) l m h k = absurd (is-at_none k)
-sloop-place [] (Some n) (suc i) j l m h k = absurd (is-at_none h)
-sloop-place (a ∷ as') o zero j l m h k = cc
-sloop-place (a ∷ as') o (suc i) zero l m h k = cc
-sloop-place (a ∷ as') o (suc i) (suc j) l m h k = ap suc (sloop-place as' o i j l m h k)
 
 module _ (k : ℕ) (M N : Map) (T : HasTurnedLists k M N) where
   abbrev Pair : Type 0
@@ -101,7 +93,7 @@ module _ (k : ℕ) (M N : Map) (T : HasTurnedLists k M N) where
   one-image i j b c (arc_item a) (sloop_item y) z h l s t = absurd s
   one-image i j b c (sloop_item a) (arc_item y) z h l s t = absurd s
   one-image i j b c (sloop_item a) (sloop_item y) (arc_item z) h l s t = absurd t
-  one-image i j b c (sloop_item a) (sloop_item y) (sloop_item z) h l s t = sloop-place N.arcs N.sloop i j y z h l
+  one-image i j b c (sloop_item a) (sloop_item y) (sloop_item z) h l s t = sloops-one N.arcs N.sloop i j y z h l
 
   abbrev back : ℕ → ℕ
   back = chosen (items N) zero (λ j y a. (origin-of j y a).0)

@@ -1,5 +1,5 @@
 -- The turned image of a valid map is valid, of a least one least, and shows the turned set at the turned point.
-use Rattle.law_turns.proofs.Prelude.{◌≡◌, ℕ, pos, Bool, true, false, cond, refl, ap, sym, ◌∙◌, subst, ◌↔◌, ◌⊎◌, inl, inr, ⊎_elim, List, [], ◌∷◌, Option, Some, None, Vector, dot, IsDirection, SameDirection, blend, SpacePoint, Set, HasLabel, Germ, Label, IsOnCircle, IsStrictlyOn, IsAt, MapVertex, Arc, MapSloop, Item, arc_item, sloop_item, Map, items, item_normal, item_pos, item_mark, item_neg, dir_of, OnItem, HasSide, Side, MapLabel, NearLabel, HasArc, ArcBetween, Shaped, Valid, Least, Cone, NearPlain, NearStraight, at-one, dir-at, arc-at, ends-of, sloop-at, at-sloop, at-arc, normal-is, turned_vector, unturned_vector, turned_point, turned_set, differ, is_odd, signed, turned_svertex, IsTurnedArc, IsTurnedSloop, IsTurnedItem, IsTurnedMap, dir-self, is-at_none}
+use Rattle.law_turns.proofs.Prelude.{◌≡◌, ℕ, pos, Bool, true, false, cond, refl, ap, sym, ◌∙◌, subst, ◌↔◌, ◌⊎◌, inl, inr, ⊎_elim, List, [], ◌∷◌, Option, Some, None, Vector, dot, IsDirection, SameDirection, blend, SpacePoint, Set, HasLabel, Germ, Label, IsOnCircle, IsStrictlyOn, IsAt, MapVertex, Arc, MapSloop, Item, arc_item, sloop_item, Map, items, item_normal, item_pos, item_mark, item_neg, dir_of, OnItem, HasSide, Side, MapLabel, NearLabel, HasArc, ArcBetween, Shaped, Valid, Least, Cone, NearPlain, NearStraight, is-at_one, dir-at, arc-at, ends-of, sloop-at, at-sloop, at-arc, normal-is, turned_vector, unturned_vector, turned_point, turned_set, differ, is_odd, signed, turned_svertex, IsTurnedArc, IsTurnedSloop, IsTurnedItem, IsTurnedMap, dir-self, is-at_none}
 use Rattle.law_turns.proofs.Turning.{dir-there as way-sense, circle-there, level-there, direction-there, same_direction-there}
 use Rattle.law_turns.proofs.Vectors.{turning, turning-back, blend-turned, vector-back, back-vector, every-vector, signed-turned, signed-twice}
 use Rattle.law_turns.proofs.Meaning.{label-turned, germ-turned}
@@ -22,14 +22,14 @@ module _ (k : ℕ) (M N : Map) (V : Shaped M) (R : IsTurnedMap k M N) where
   pub svertex-from : (j : ℕ) (u : MapVertex) → IsAt N.svertices j u → (v : MapVertex) × IsAt M.svertices (R.vertex_back j) v × (u ≡ turned_svertex k v) × (R.vertex (R.vertex_back j) ≡ j)
   svertex-from j u a =
       let (v, b, e) = R.svertices_from j u a in
-      (v, b, at-one N.svertices j u (turned_svertex k v) a (subst (λ (i : ℕ). IsAt N.svertices i (turned_svertex k v)) e (R.svertices (R.vertex_back j) v b)), e)
+      (v, b, is-at_one N.svertices j u (turned_svertex k v) a (subst (λ (i : ℕ). IsAt N.svertices i (turned_svertex k v)) e (R.svertices (R.vertex_back j) v b)), e)
 
   -- ---- items
   pub item-from : (j : ℕ) (y : Item) → IsAt (items N) j y → (x : Item) × IsAt (items M) (R.item_back j) x × IsTurnedItem k R.vertex (R.flip (R.item_back j)) x y × (R.item (R.item_back j) ≡ j)
   item-from j y a =
       let (x, b, e) = R.items_from j y a in
       let (z, c, t) = R.items_there (R.item_back j) x b in
-      let same = at-one (items N) j z y (subst (λ (i : ℕ). IsAt (items N) i z) e c) a in
+      let same = is-at_one (items N) j z y (subst (λ (i : ℕ). IsAt (items N) i z) e c) a in
       (x, b, subst (λ (r : Item). IsTurnedItem k R.vertex (R.flip (R.item_back j)) x r) same t, e)
 
   -- the ends that an arc has after the turn, by numbers and by ways
@@ -171,7 +171,7 @@ module _ (k : ℕ) (M N : Map) (V : Shaped M) (R : IsTurnedMap k M N) where
       from : (i : ℕ) (v : MapVertex) → IsAt M.svertices i v → R.vertex i ≡ j → i ≡ R.vertex_back j
       from i v a r =
           let (w, m, s, q) = svertex-from j u at in
-          let h = sym (at-one N.svertices j u (turned_svertex k v) at (subst (λ (n : ℕ). IsAt N.svertices n (turned_svertex k v)) r (R.svertices i v a))) ∙ s in
+          let h = sym (is-at_one N.svertices j u (turned_svertex k v) at (subst (λ (n : ℕ). IsAt N.svertices n (turned_svertex k v)) r (R.svertices i v a))) ∙ s in
           let same = sym (back-vector k v.dir) ∙ ap (λ (r : MapVertex). g r.dir) h ∙ back-vector k w.dir in
           V.svertices_apart i (R.vertex_back j) v w a m (subst (λ (r : Vector). SameDirection v.dir r) same (dir-self v.dir (V.svertex_dirs i v a)))
 

@@ -1,5 +1,5 @@
 -- Candidates added to a list.
-use Rattle.nef_cand.proofs.Prelude.{◌≡◌, ℕ, ◌+◌, ◌<◌, ◌≤◌, List, [], ◌∷◌, ◌++◌, length, get_or, arith, subst, inl, inr, ◌⊎◌, ⊎_elim, Contains, eq-or-lt_of_le, cases_lt, Contains-append_left, Contains-push, Contains-push_cases, SpacePoint, SamePoint, point_of, Named, IsAt, at-one, at-within, read-at, IsAmong, AddsAll}
+use Rattle.nef_cand.proofs.Prelude.{◌≡◌, ℕ, ◌+◌, ◌<◌, ◌≤◌, List, [], ◌∷◌, ◌++◌, length, get_or, arith, subst, inl, inr, ◌⊎◌, ⊎_elim, Contains, eq-or-lt_of_le, cases_lt, Contains-append_left, Contains-push, Contains-push_cases, SpacePoint, SamePoint, point_of, Named, IsAt, is-at_one, is-at_within, is-at_read, IsAmong, AddsAll}
 
 pub listed-more : (ps qs : List Named) → ((p : Named) → Contains ps p → Contains qs p) → (y : SpacePoint) → IsAmong ps y → IsAmong qs y
 listed-more ps qs f y (p, h, s) = (p, f p h, s)
@@ -70,7 +70,7 @@ module _ {X : Type 0} (P : X → SpacePoint → Type 0) (xs : List X) (i : ℕ) 
   any-forth y (inr r) = (i, x, omega arith, here, r)
 
   any-split : (y : SpacePoint) (k : ℕ) (z : X) → (k ≡ i) ⊎ (k < i) → IsAt xs k z → P z y → AnyFirst P xs i y ⊎ P x y
-  any-split y k z (inl o) a r = inr (subst (λ w. P w y) (at-one xs i z x (subst (λ (j : ℕ). IsAt xs j z) o a) here) r)
+  any-split y k z (inl o) a r = inr (subst (λ w. P w y) (is-at_one xs i z x (subst (λ (j : ℕ). IsAt xs j z) o a) here) r)
   any-split y k z (inr h) a r = inl (k, z, h, a, r)
 
   any-back : (y : SpacePoint) → AnyFirst P xs (i + 1) y → AnyFirst P xs i y ⊎ P x y
@@ -81,7 +81,7 @@ module _ {X : Type 0} (P Q : X → SpacePoint → Type 0) (N : Named → Type 0)
   any-next i x ps qs rs here f g = adds-both (AnyFirst P xs i) (AnyFirst Q xs i) (P x) (Q x) (AnyFirst P xs (i + 1)) (AnyFirst Q xs (i + 1)) N ps qs rs f g (any-forth P xs i x here) (any-back Q xs i x here)
 
   pub any-more : (i : ℕ) (x : X) (ps qs rs : List Named) → i < length xs → x ≡ get_or xs i x → AddsAll (AnyFirst P xs i) (AnyFirst Q xs i) N ps qs → AddsAll (P x) (Q x) N qs rs → AddsAll (AnyFirst P xs (i + 1)) (AnyFirst Q xs (i + 1)) N ps rs
-  any-more i x ps qs rs l e = any-next i x ps qs rs (read-at xs i x l e)
+  any-more i x ps qs rs l e = any-next i x ps qs rs (is-at_read xs i x l e)
 
   -- of the later ones none has Q
   pub any-until : (i : ℕ) (ps qs : List Named) → ((k : ℕ) (x : X) (y : SpacePoint) → i ≤ k → IsAt xs k x → Q x y → ⊥) → AddsAll (AnyFirst P xs i) (AnyFirst Q xs i) N ps qs → AddsAll (AnyAt P xs) (AnyAt Q xs) N ps qs
@@ -89,4 +89,4 @@ module _ {X : Type 0} (P Q : X → SpacePoint → Type 0) (N : Named → Type 0)
       (λ y a. (a.0, a.1, a.3, a.4)) (λ y a. ⊎_elim (λ l. (a.0, a.1, l, a.2, a.3)) (λ l. absurd (off a.0 a.1 y l a.2 a.3)) (cases_lt a.0 i)) f
 
   pub any-all : (i : ℕ) (ps qs : List Named) → length xs ≤ i → AddsAll (AnyFirst P xs i) (AnyFirst Q xs i) N ps qs → AddsAll (AnyAt P xs) (AnyAt Q xs) N ps qs
-  any-all i ps qs l f = any-until i ps qs (λ k x y m a h. absurd (let w = at-within xs k x a in omega (arith, l, m, w))) f
+  any-all i ps qs l f = any-until i ps qs (λ k x y m a h. absurd (let w = is-at_within xs k x a in omega (arith, l, m, w))) f

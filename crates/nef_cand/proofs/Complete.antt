@@ -1,5 +1,5 @@
 -- What is listed, and that all vertices of a combination are.
-use Rattle.nef_cand.proofs.Prelude.{◌≡◌, ℕ, pos, List, [], ◌++◌, map, arith, refl, sym, subst, ◌⊎◌, inl, inr, ⊎_elim, Contains, IsVertex, SpacePoint, Form, form_at, SamePoint, IsPointBelow, IsBetween, Set, point_of, form_of, Plane, Point, point-decided, IsAt, InOrder, search_list, Found, at-within, at-get, map-at, at-map, contains-at, at-contains, HasEnds, Shows, IsCut, IsNearCut, HoldsEdge, IsVertexOfBoth, candidates-suffice, Complex as ProgramComplex, complex_of, ShowsSet, Named, First, Second, named_point, IsAmong, IsNamed, IsNamedIn, AreNamed, IsOnceEach, IsListed, AreExactly, IsVertexOf, AreCandidates, AddsPoints, AddsAll, CutsOne, ListsCandidates, HasTogether, IsCandidate, read-at}
+use Rattle.nef_cand.proofs.Prelude.{◌≡◌, ℕ, pos, List, [], ◌++◌, map, arith, refl, sym, subst, ◌⊎◌, inl, inr, ⊎_elim, Contains, IsVertex, SpacePoint, Form, form_at, SamePoint, IsPointBelow, IsBetween, Set, point_of, form_of, Plane, Point, point-decided, IsAt, InOrder, search_list, Found, is-at_within, is-at_is, map-is_at, is-at_map, contains-at, at-contains, HasEnds, Shows, IsCut, IsNearCut, HoldsEdge, IsVertexOfBoth, candidates-suffice, Complex as ProgramComplex, complex_of, ShowsSet, Named, First, Second, named_point, IsAmong, IsNamed, IsNamedIn, AreNamed, IsOnceEach, IsListed, AreExactly, IsVertexOf, AreCandidates, AddsPoints, AddsAll, CutsOne, ListsCandidates, HasTogether, IsCandidate, is-at_read}
 use Rattle.law_complex.specs.Complexes.{Vertex, Edge, Complex}
 use Rattle.nef_cand.proofs.Adding.{adds-both, adds-with}
 use Rattle.nef_cand.proofs.Apart.{adds-after}
@@ -10,10 +10,10 @@ pub listed-decided : (ps : List Point) (y : SpacePoint) → IsListed ps y ⊎ (I
 listed-decided ps y = ⊎_elim (λ f. inl (found f)) (λ n. inr (none n)) (search_list ps (λ k p. SamePoint (point_of p) y) (λ k p. point-decided (point_of p) y))
   where
     found : Found ps (λ k p. SamePoint (point_of p) y) → IsListed ps y
-    found f = (f.element, (f.number, at-within ps f.number f.element f.listed, at-get ps f.number f.element f.element f.listed), f.holds)
+    found f = (f.element, (f.number, is-at_within ps f.number f.element f.listed, is-at_is ps f.number f.element f.element f.listed), f.holds)
 
     none : ((k : ℕ) (p : Point) → IsAt ps k p → SamePoint (point_of p) y → ⊥) → IsListed ps y → ⊥
-    none n (p, (k, l, e), s) = n k p (read-at ps k p l (sym e)) s
+    none n (p, (k, l, e), s) = n k p (is-at_read ps k p l (sym e)) s
 
 -- ---- what was added to nothing and then sorted
 module _ (P Q : SpacePoint → Type 0) (N : Named → Type 0) (ns ms : List Named) (a : AddsAll P Q N [] ns) (o : IsOnceEach ns ms) where
@@ -27,15 +27,15 @@ module _ (P Q : SpacePoint → Type 0) (N : Named → Type 0) (ns ms : List Name
   points-exactly : (y : SpacePoint) → IsAmong ns y → IsListed (map named_point ms) y
   points-exactly y (n, h, s) =
       let m = o.each n h in
-      (n.point, subst (Contains (map named_point ms)) m.2 (let k = contains-at ms m.0 m.1 in at-contains (map named_point ms) k.0 m.0.point (map-at named_point ms k.0 m.0 k.1)), s)
+      (n.point, subst (Contains (map named_point ms)) m.2 (let k = contains-at ms m.0 m.1 in at-contains (map named_point ms) k.0 m.0.point (map-is_at named_point ms k.0 m.0 k.1)), s)
 
   pub added-ordered : InOrder (λ (p q : Point). IsPointBelow (point_of p) (point_of q)) (map named_point ms)
   added-ordered i k p q l b c =
-      let m = at-map named_point ms i p b in let n = at-map named_point ms k q c in
+      let m = is-at_map named_point ms i p b in let n = is-at_map named_point ms k q c in
       subst (λ (r : Point). IsPointBelow (point_of r) (point_of q)) m.2 (subst (λ (r : Point). IsPointBelow (point_of m.0.point) (point_of r)) n.2 (o.ordered i k m.0 n.0 l m.1 n.1))
 
   pub added-each : (p : Point) → Contains (map named_point ms) p → P (point_of p)
-  added-each p h = let k = contains-at (map named_point ms) p h in let m = at-map named_point ms k.0 p k.1 in subst (λ (r : Point). P (point_of r)) m.2 (listed-new m.0 (at-contains ms k.0 m.0 m.1)).0
+  added-each p h = let k = contains-at (map named_point ms) p h in let m = is-at_map named_point ms k.0 p k.1 in subst (λ (r : Point). P (point_of r)) m.2 (listed-new m.0 (at-contains ms k.0 m.0 m.1)).0
 
   pub added-all : (y : SpacePoint) → Q y → IsListed (map named_point ms) y
   added-all y h = points-exactly y (a.all y h)
@@ -69,11 +69,11 @@ IsCutByAny C hs y = (k : ℕ) × (e : Edge) × (v : Vertex) × (w : Vertex) × (
     × IsAt hs i h × (form_at h y ≡ pos 0) × (HoldsEdge h v w → ⊥)
 
 pub cuts-any : (C : Complex) (hs : List Plane) (y : SpacePoint) → CutsOne C hs y → IsCutByAny C (map form_of hs) y
-cuts-any C hs y (i, h, a, (k, e, v, w, b, H, m, o, n)) = (k, e, v, w, i, form_of h, b, H, m, map-at form_of hs i h a, o, n)
+cuts-any C hs y (i, h, a, (k, e, v, w, b, H, m, o, n)) = (k, e, v, w, i, form_of h, b, H, m, map-is_at form_of hs i h a, o, n)
 
 any-cuts : (C : Complex) (hs : List Plane) (y : SpacePoint) → IsCutByAny C (map form_of hs) y → CutsOne C hs y
 any-cuts C hs y (k, e, v, w, i, h, b, H, m, a, o, n) =
-    let g = at-map form_of hs i h a in
+    let g = is-at_map form_of hs i h a in
     (i, g.0, g.1, (k, e, v, w, b, H, m, subst (λ (f : Form). form_at f y ≡ pos 0) (sym g.2) o, subst (λ (f : Form). HoldsEdge f v w → ⊥) (sym g.2) n))
 
 -- the vertices of both complexes, and points with P and with Q

@@ -1,7 +1,7 @@
 -- The line of an edge: the first two of the carriers that hold it are different planes, so they meet in it.
-use Rattle.nef_cand.proofs.Prelude.{◌≡◌, ℕ, ◌<◌, ◌≤◌, List, length, arith, subst, ⊎_elim, cases_lt, IsAt, IsBelow, SpacePoint, form_numbers, form_of, Plane, is-at_one, is-at_within, get-from_at, AreHolders, AreInOrder, HoldsBoth}
-use Rattle.nef_complex.proofs.PlaneSearch.{never-below}
+use Rattle.nef_cand.proofs.Prelude.{◌≡◌, ℕ, ◌<◌, ◌≤◌, List, length, arith, subst, ⊎_elim, cases_lt, IsAt, IsBelow, SpacePoint, form_numbers, form_of, Plane, is-at_one, is-at_within, AreHolders, AreInOrder, HoldsBoth}
 use Rattle.nef_cand.proofs.Planes.{IsLineThrough, line-of}
+use Rattle.nef_geo.proofs.Orders.{never-below}
 
 -- two different planes of the list hold both points
 abbrev pub AreHeldByTwo : List Plane → SpacePoint → SpacePoint → Type 0
@@ -18,10 +18,10 @@ module _ (hs : List Plane) (p q : SpacePoint) (ns : List ℕ) (H : AreHolders hs
 
       same : length ns ≤ 1 → g ≡ h
       same l =
-          let o = H.all i (g, get-from_at hs i g a, x) in
-          let r = H.all k (h, get-from_at hs k h b, y) in
+          let o = H.all i (g, a, x) in
+          let r = H.all k (h, b, y) in
           let e : i ≡ k = is-at_one ns 0 i k (here o.0 i l o.1) (here r.0 k l r.1) in
-          is-at_one hs k g h (subst (λ (m : ℕ). IsAt hs m g) e (get-from_at hs i g a)) (get-from_at hs k h b)
+          is-at_one hs k g h (subst (λ (m : ℕ). IsAt hs m g) e a) b
 
   -- and the first two are different, since each carrier is listed once
   pub first-two : AreInOrder hs → (i k : ℕ) (g h : Plane) → IsAt ns 0 i → IsAt ns 1 k → IsAt hs i g → IsAt hs k h → IsLineThrough g h p q

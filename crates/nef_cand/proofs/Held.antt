@@ -1,5 +1,5 @@
 -- Two carriers hold each edge, and where planes cut edges.
-use Rattle.nef_cand.proofs.Prelude.{◌≡◌, ℕ, ℤ, pos, ◌-ℤ◌, ◌*ℤ◌, List, Option, Some, None, IsNone, IfSome, arith, refl, sym, subst, ◌↔◌, MatchOption, ints, Lies, nought-is, Flat, SpacePoint, Form, form_at, normal_of, toward, SamePoint, IsBetween, Set, cross, IsZero, IsDirection, HasDependentNormals, IsOnlyCommon, point_of, form_of, HasOppositeSigns, Plane, Point, carriers, EdgeSupport, start, start-between, edge-support, IsAt, at-one, map-at, at-map, HasEnds, SamePlane, IsVertexPoint, IsEdgePoint, edge-points, edge-way, plane-turned, plane-point, same-itself, Vertex, Edge, Complex, vertex_of, edge_of, complex_of, ShowsSet, through-both, listed_edge, ends, apart, got-at, Named, Operand, IsVertexOf, IsCutBy, IsNamedIn, AreInOrder, HoldsBoth, IsCutBetween, CutsEdge, AddsPoints, parallel-both}
+use Rattle.nef_cand.proofs.Prelude.{◌≡◌, ℕ, ℤ, pos, ◌-ℤ◌, ◌*ℤ◌, List, Option, Some, None, IsNone, IfSome, arith, refl, sym, subst, ◌↔◌, MatchOption, ints, Lies, nought-is, Flat, SpacePoint, Form, form_at, normal_of, toward, SamePoint, IsBetween, Set, cross, IsZero, IsDirection, HasDependentNormals, IsOnlyCommon, point_of, form_of, HasOppositeSigns, Plane, Point, carriers, EdgeSupport, start, start-between, edge-support, IsAt, is-at_one, map-is_at, is-at_map, HasEnds, SamePlane, IsVertexPoint, IsEdgePoint, edge-points, edge-way, plane-turned, plane-point, same-itself, Vertex, Edge, Complex, vertex_of, edge_of, complex_of, ShowsSet, through-both, listed_edge, ends, apart, Named, Operand, IsVertexOf, IsCutBy, IsNamedIn, AreInOrder, HoldsBoth, IsCutBetween, CutsEdge, AddsPoints, parallel-both}
 use Rattle.law_complex.specs.Complexes.{Vertex as PlainVertex, Edge as PlainEdge}
 use Rattle.law_complex.specs.Complexes.{Complex as PlainComplex}
 use Rattle.nef_cand.specs.declared.named.CandidateName.TheVariants as name
@@ -40,7 +40,7 @@ module _ (s : Set) (c : Complex) (S : ShowsSet s c) (k : ℕ) (e : Edge) (a : Is
     plane-of : (f : Form) → Lies (carriers s) f → HoldsBoth f (point_of u.point) (point_of v.point) → (i : ℕ) × (h : Plane) × IsAt c.carriers i h × SamePlane (form_of h) f × HoldsBoth (form_of h) (point_of u.point) (point_of v.point)
     plane-of f l (x, y) =
         let r = S.shows.carriers.all f l in
-        let h = at-map form_of c.carriers r.0 r.1 r.2 in
+        let h = is-at_map form_of c.carriers r.0 r.1 r.2 in
         let same : SamePlane (form_of h.0) f = subst (λ (g : Form). SamePlane g f) (sym h.2) r.3 in
         (r.0, h.0, h.1, same, (plane-point f (form_of h.0) (point_of u.point) (plane-turned (form_of h.0) f same) x, plane-point f (form_of h.0) (point_of v.point) (plane-turned (form_of h.0) f same) y))
 
@@ -67,12 +67,12 @@ module _ (s : Set) (c : Complex) (S : ShowsSet s c) (k : ℕ) (e : Edge) (a : Is
 pub edge-named : (o : Operand) (c : Complex) (h : Plane) (k : ℕ) (e : Edge) (u v : Vertex) → IsAt c.edges k e → IsAt c.vertices e.low u → IsAt c.vertices e.high v
     → (p : Point) → IsCutBetween (form_of h) (point_of u.point) (point_of v.point) (point_of p) → IsNamedIn o (complex_of c) (record { point = p; name = name.Edge o k })
 edge-named o c h k e u v a f g p x = λ D E same. subst (λ (C : PlainComplex). IsEdgePoint C k (point_of p)) (sym same)
-    (edge_of e, vertex_of u, vertex_of v, map-at edge_of c.edges k e a, record { low = map-at vertex_of c.vertices e.low u f; high = map-at vertex_of c.vertices e.high v g }, x.between)
+    (edge_of e, vertex_of u, vertex_of v, map-is_at edge_of c.edges k e a, record { low = map-is_at vertex_of c.vertices e.low u f; high = map-is_at vertex_of c.vertices e.high v g }, x.between)
 
 pub edge-crosses : (c : Complex) (h : Plane) (e : Edge) (u v : Vertex) → IsAt c.vertices e.low u → IsAt c.vertices e.high v → (y : SpacePoint) → CutsEdge c h e y → IsCutBetween (form_of h) (point_of u.point) (point_of v.point) y
 edge-crosses c h e u v a b y (r, t, f, g, x) =
-    subst (λ (w : Vertex). IsCutBetween (form_of h) (point_of w.point) (point_of v.point) y) (at-one c.vertices e.low r u f a)
-    (subst (λ (w : Vertex). IsCutBetween (form_of h) (point_of r.point) (point_of w.point) y) (at-one c.vertices e.high t v g b) x)
+    subst (λ (w : Vertex). IsCutBetween (form_of h) (point_of w.point) (point_of v.point) y) (is-at_one c.vertices e.low r u f a)
+    (subst (λ (w : Vertex). IsCutBetween (form_of h) (point_of r.point) (point_of w.point) y) (is-at_one c.vertices e.high t v g b) x)
 
 -- what is answered of one edge and one plane
 abbrev pub IsCrossingOf : Complex → Edge → Plane → Option Point → Type 0
@@ -90,23 +90,23 @@ module _ (c : Complex) (h : Plane) (e : Edge) (u v : Vertex) (a : IsAt c.vertice
 
 -- the answer of an edge is that of each edge with its number
 pub crossing-same : (c : Complex) (h : Plane) (k : ℕ) (e f : Edge) (o : Option Point) → IsAt c.edges k e → IsAt c.edges k f → IsCrossingOf c e h o → IsCrossingOf c f h o
-crossing-same c h k e f o a b = subst (λ (g : Edge). IsCrossingOf c g h o) (at-one c.edges k e f a b)
+crossing-same c h k e f o a b = subst (λ (g : Edge). IsCrossingOf c g h o) (is-at_one c.edges k e f a b)
 
 -- a plane cuts the complex where it crosses one of its edges
 pub some-cut : (c : Complex) (h : Plane) (y : SpacePoint) → AnyAt (CutsEdge c h) c.edges y → IsCutBy (complex_of c) (form_of h) y
 some-cut c h y (k, e, a, (u, v, f, g, x)) =
-    (k, edge_of e, vertex_of u, vertex_of v, map-at edge_of c.edges k e a, record { low = map-at vertex_of c.vertices e.low u f; high = map-at vertex_of c.vertices e.high v g }, x.between, x.on, x.parts)
+    (k, edge_of e, vertex_of u, vertex_of v, map-is_at edge_of c.edges k e a, record { low = map-is_at vertex_of c.vertices e.low u f; high = map-is_at vertex_of c.vertices e.high v g }, x.between, x.on, x.parts)
 
 pub cut-some : (c : Complex) (h : Plane) (y : SpacePoint) → IsCutBy (complex_of c) (form_of h) y → AnyAt (CutsEdge c h) c.edges y
 cut-some c h y (k, e, v, w, a, H, m, o, n) =
-    let d = at-map edge_of c.edges k e a in
+    let d = is-at_map edge_of c.edges k e a in
     from y k d.0 d.1 v w (subst (λ (r : PlainEdge). HasEnds (complex_of c) r v w) (sym d.2) H) m o n
   where
     from : (y : SpacePoint) (k : ℕ) (e : Edge) → IsAt c.edges k e → (v w : PlainVertex) → HasEnds (complex_of c) (edge_of e) v w → IsBetween v.point y w.point
         → form_at (form_of h) y ≡ pos 0 → (HoldsBoth (form_of h) v.point w.point → ⊥) → AnyAt (CutsEdge c h) c.edges y
     from y k e a v w H m o n =
-        let u = at-map vertex_of c.vertices e.low v H.low in
-        let t = at-map vertex_of c.vertices e.high w H.high in (
+        let u = is-at_map vertex_of c.vertices e.low v H.low in
+        let t = is-at_map vertex_of c.vertices e.high w H.high in (
           k,
           e,
           a,
@@ -128,14 +128,14 @@ cuts-all c h N ps qs = adds-as (AnyAt (CutsEdge c h) c.edges) (AnyAt (CutsEdge c
 
 -- ---- the vertices
 pub vertex-named : (o : Operand) (c : Complex) (k : ℕ) (u : Vertex) → IsAt c.vertices k u → IsNamedIn o (complex_of c) (record { point = u.point; name = name.Vertex o k })
-vertex-named o c k u a = λ D E same. subst (λ (C : PlainComplex). IsVertexPoint C k (point_of u.point)) (sym same) (vertex_of u, map-at vertex_of c.vertices k u a, same-itself (point_of u.point))
+vertex-named o c k u a = λ D E same. subst (λ (C : PlainComplex). IsVertexPoint C k (point_of u.point)) (sym same) (vertex_of u, map-is_at vertex_of c.vertices k u a, same-itself (point_of u.point))
 
 pub vertices-all : (c : Complex) (N : Named → Type 0) (ps qs : List Named) → AddsPoints (AnyAt (λ (u : Vertex) (y : SpacePoint). SamePoint (point_of u.point) y) c.vertices) N ps qs → AddsPoints (IsVertexOf (complex_of c)) N ps qs
 vertices-all c N ps qs =
     adds-as (AnyAt (λ (u : Vertex) (y : SpacePoint). SamePoint (point_of u.point) y) c.vertices) (AnyAt (λ (u : Vertex) (y : SpacePoint). SamePoint (point_of u.point) y) c.vertices) (IsVertexOf (complex_of c)) (IsVertexOf (complex_of c)) N ps qs
-    (λ y a. (a.0, (vertex_of a.1, map-at vertex_of c.vertices a.0 a.1 a.2, a.3)))
-    (λ y a. let v = at-map vertex_of c.vertices a.0 a.1.0 a.1.1 in (a.0, v.0, v.1, subst (λ (r : PlainVertex). SamePoint r.point y) (sym v.2) a.1.2))
+    (λ y a. (a.0, (vertex_of a.1, map-is_at vertex_of c.vertices a.0 a.1 a.2, a.3)))
+    (λ y a. let v = is-at_map vertex_of c.vertices a.0 a.1.0 a.1.1 in (a.0, v.0, v.1, subst (λ (r : PlainVertex). SamePoint r.point y) (sym v.2) a.1.2))
 
 -- ---- the carriers, once each
 pub carriers-ordered : (s : Set) (c : Complex) → ShowsSet s c → AreInOrder c.carriers
-carriers-ordered s c S i j g h l a b = S.shows.carriers.ordered i j (form_of g) (form_of h) l (map-at form_of c.carriers i g (got-at c.carriers i g a)) (map-at form_of c.carriers j h (got-at c.carriers j h b))
+carriers-ordered s c S i j g h l a b = S.shows.carriers.ordered i j (form_of g) (form_of h) l (map-is_at form_of c.carriers i g a) (map-is_at form_of c.carriers j h b)

@@ -1,5 +1,5 @@
 -- Cuts where the other set has something in the carrier that cuts.
-use Rattle.nef_cand.proofs.Prelude.{◌≡◌, ℕ, ◌+◌, ◌<◌, pos, List, [], ◌∷◌, ◌++◌, length, map, None, arith, refl, sym, subst, ◌⊎◌, inl, inr, Contains, eq-or-lt_of_le, Contains-append_left, Contains-append_right, Contains-push, Contains-push_cases, IsAt, IsVertex, SpacePoint, Form, form_at, SamePoint, Set, point_of, form_of, Plane, Point, same-point_sym, at-one, at-within, at-map, at-contains, contains-at, get-from_at, IsNearCut, IsSkeletonIn, HoldsEdge, IsEdgePoint, candidates-suffice, same-point_trans, Complex, Edge, Span, complex_of, ShowsSet, AreAlone, IsInSpan, IsNarrower, got-at, span-between, spanned, span-wider, narrower-still, is-at_some, IsSkeletonAt, held-same, skeleton-same, Named, Operand, First, Second, Spanned, IsVertexOf, IsCutBy, named_point, IsNamedBetween, AddsAll, HasBoth, CutsEdge, MissesFrame, IsSpannedIn, AreSpannedIn, IsSpanned, AreSpannedCarriers, AreWithinSpan, AreThoseNear, IsApart, IsHeldIn, IsCarrierCut, IsHeldCut, CutsBy, CutsHeld, ListsCuts, CutsEdgeHeld, CutsEdgeByOne, CutsEdgeHeldOne, IsHeldCutOf, HasTogether, IsCandidate, ListsNear}
+use Rattle.nef_cand.proofs.Prelude.{◌≡◌, ℕ, ◌+◌, ◌<◌, pos, List, [], ◌∷◌, ◌++◌, length, map, None, arith, refl, sym, subst, ◌⊎◌, inl, inr, Contains, eq-or-lt_of_le, Contains-append_left, Contains-append_right, Contains-push, Contains-push_cases, IsAt, IsVertex, SpacePoint, Form, form_at, SamePoint, Set, point_of, form_of, Plane, Point, same-point_sym, is-at_one, is-at_within, is-at_map, at-contains, contains-at, IsNearCut, IsSkeletonIn, HoldsEdge, IsEdgePoint, candidates-suffice, same-point_trans, Complex, Edge, Span, complex_of, ShowsSet, AreAlone, IsInSpan, IsNarrower, span-between, spanned, span-wider, narrower-still, is-at_some, IsSkeletonAt, held-same, skeleton-same, Named, Operand, First, Second, Spanned, IsVertexOf, IsCutBy, named_point, IsNamedBetween, AddsAll, HasBoth, CutsEdge, MissesFrame, IsSpannedIn, AreSpannedIn, IsSpanned, AreSpannedCarriers, AreWithinSpan, AreThoseNear, IsApart, IsHeldIn, IsCarrierCut, IsHeldCut, CutsBy, CutsHeld, ListsCuts, CutsEdgeHeld, CutsEdgeByOne, CutsEdgeHeldOne, IsHeldCutOf, HasTogether, IsCandidate, ListsNear}
 use Rattle.law_complex.specs.Complexes.{Complex as PlainComplex}
 use Rattle.nef_locate.specs.declared.point.Place.{Place as FoundPlace}
 use Rattle.nef_cand.specs.declared.named.CandidateName.TheVariants as name
@@ -19,7 +19,7 @@ module _ (c : Complex) (n : ℕ) (xs : List Spanned) (A : AreSpannedCarriers c n
   spanned-same g here m = record { each = A.each; all = λ k h l a. by k h (eq-or-lt_of_le {n = k} {m = n} (omega (arith, l))) a }
     where
       by : (k : ℕ) (h : Plane) → (k ≡ n) ⊎ (k < n) → IsAt c.carriers k h → MissesFrame (form_of h) ⊎ IsSpanned xs h
-      by k h (inl e) a = inl (subst (λ (p : Plane). MissesFrame (form_of p)) (at-one c.carriers n g h (got-at c.carriers n g here) (subst (λ (j : ℕ). IsAt c.carriers j h) e a)) m)
+      by k h (inl e) a = inl (subst (λ (p : Plane). MissesFrame (form_of p)) (is-at_one c.carriers n g h here (subst (λ (j : ℕ). IsAt c.carriers j h) e a)) m)
       by k h (inr l) a = A.all k h l a
 
   pub spanned-more : (x : Spanned) → IsAt c.carriers n x.plane → IsSpannedIn c x → AreSpannedCarriers c (n + 1) (xs ++ x ∷ [])
@@ -29,7 +29,7 @@ module _ (c : Complex) (n : ℕ) (xs : List Spanned) (A : AreSpannedCarriers c n
   }
     where
       at : IsAt c.carriers n x.plane
-      at = got-at c.carriers n x.plane here
+      at = here
 
       from : (y : Spanned) → Contains xs y ⊎ (x ≡ y) → IsSpannedIn c y
       from y (inl h) = A.each y h
@@ -40,7 +40,7 @@ module _ (c : Complex) (n : ℕ) (xs : List Spanned) (A : AreSpannedCarriers c n
       still h (inr (z, i, e)) = inr (z, Contains-append_left xs (x ∷ []) z i, e)
 
       by : (k : ℕ) (h : Plane) → (k ≡ n) ⊎ (k < n) → IsAt c.carriers k h → MissesFrame (form_of h) ⊎ IsSpanned (xs ++ x ∷ []) h
-      by k h (inl e) a = inr (x, Contains-push xs x, at-one c.carriers n x.plane h at (subst (λ (j : ℕ). IsAt c.carriers j h) e a))
+      by k h (inl e) a = inr (x, Contains-push xs x, is-at_one c.carriers n x.plane h at (subst (λ (j : ℕ). IsAt c.carriers j h) e a))
       by k h (inr l) a = still h (A.all k h l a)
 
 -- those of a list are listed with spans, and so are those of its parts
@@ -82,7 +82,7 @@ pub ends-spanned : (c : Complex) (ss : List Span) → AreAlone c.vertices ss →
     → (y : SpacePoint) → CutsEdge c h e y → IsInSpan r y
 ends-spanned c ss A h e s t r i j n m y (u, v, a, b, o) =
     let w = edge-crosses c h e u v a b y (u, v, a, b, o) in
-    span-between s t r (point_of u.point) y (point_of v.point) w.between (A.each e.low u s (get-from_at c.vertices e.low u a) i) (A.each e.high v t (get-from_at c.vertices e.high v b) j) n m
+    span-between s t r (point_of u.point) y (point_of v.point) w.between (A.each e.low u s a i) (A.each e.high v t b j) n m
 
 -- what the other set has in a carrier lies within the carrier's span
 pub held-spanned : (c d : Complex) (e : Edge) (x : Spanned) → IsSpannedIn d x → (y : SpacePoint) → CutsEdgeHeld c d e x y → IsInSpan x.span y
@@ -93,7 +93,7 @@ held-spanned c d e x s y ((u, v, a, b, o), (t, T, i)) =
 pub edge-around : (c : Complex) (ss : List Span) → AreAlone c.vertices ss → (r : Span) → ((k : ℕ) (s : Span) → IsAt ss k s → IsNarrower s r) → (h : Plane) (e : Edge) (y : SpacePoint) → CutsEdge c h e y → IsInSpan r y
 edge-around c ss A r wide h e y (u, v, a, b, o) =
     let m = A.as_many in
-    let i = at-within c.vertices e.low u a in let j = at-within c.vertices e.high v b in
+    let i = is-at_within c.vertices e.low u a in let j = is-at_within c.vertices e.high v b in
     let s = is-at_some ss e.low (omega (arith, i, m)) in let t = is-at_some ss e.high (omega (arith, j, m)) in
     ends-spanned c ss A h e s.0 t.0 r s.1 t.1 (wide e.low s.0 s.1) (wide e.high t.0 t.1) y (u, v, a, b, o)
 
@@ -106,7 +106,7 @@ edge-passed c d e xs A around W far y (i, x, a, h) =
 -- so nothing is added for it
 pub edge-apart : (c d : Complex) (k : ℕ) (g e : Edge) → IsAt c.edges k g → IsAt c.edges k e → (xs : List Spanned) → AreSpannedIn d xs → (around : Span) → AreWithinSpan xs around
     → IsApart c g around → (N : Named → Type 0) (ps : List Named) → AddsAll (CutsEdgeByOne c xs e) (CutsEdgeHeldOne c d xs e) N ps ps
-edge-apart c d k g e a b xs A around W far N ps = subst (λ (f : Edge). AddsAll (CutsEdgeByOne c xs f) (CutsEdgeHeldOne c d xs f) N ps ps) (at-one c.edges k g e a b)
+edge-apart c d k g e a b xs A around W far N ps = subst (λ (f : Edge). AddsAll (CutsEdgeByOne c xs f) (CutsEdgeHeldOne c d xs f) N ps ps) (is-at_one c.edges k g e a b)
     (adds-none (CutsEdgeByOne c xs g) (CutsEdgeHeldOne c d xs g) N ps (edge-passed c d g xs A around W far))
 
 -- ---- a span around carriers, one after the other
@@ -175,15 +175,15 @@ near-all c d xs N ps qs = adds-as (AnyAt (CutsEdgeByOne c xs) c.edges) (AnyAt (C
 -- ---- all that is listed
 module _ (a b : Complex) (xs : List Spanned) (A : AreSpannedCarriers b (length b.carriers) xs) where
   pub near-cut : (y : SpacePoint) → CutsBy (complex_of a) xs y → (i : ℕ) × (h : Plane) × IsAt b.carriers i h × IsCutBy (complex_of a) (form_of h) y
-  near-cut y (i, x, l, d) = (x.number, x.plane, got-at b.carriers x.number x.plane (A.each x (at-contains xs i x l)).0, d)
+  near-cut y (i, x, l, d) = (x.number, x.plane, (A.each x (at-contains xs i x l)).0, d)
 
   -- a cut by a carrier that holds something of the other set there is one by a listed carrier
   pub cut-near : (s t : Set) → ShowsSet s a → ShowsSet t b → (y : SpacePoint) → IsNearCut (complex_of a) t (complex_of b) y → CutsHeld (complex_of a) b xs y
   cut-near s t S T y (k, e, v, w, i, h, l, H, m, r, o, n, f) =
-      let g = at-map form_of b.carriers i h r in
+      let g = is-at_map form_of b.carriers i h r in
       let on = subst (λ (j : Form). form_at j y ≡ pos 0) (sym g.2) o in
       by g.0 (subst (λ (j : Form). IsSkeletonIn t (complex_of b) j y) (sym g.2) f) (k, e, v, w, l, H, m, on, subst (λ (j : Form). HoldsEdge j v w → ⊥) (sym g.2) n)
-      (A.all i g.0 (at-within b.carriers i g.0 g.1) g.1)
+      (A.all i g.0 (is-at_within b.carriers i g.0 g.1) g.1)
     where
       by : (g : Plane) → IsSkeletonIn t (complex_of b) (form_of g) y → IsCutBy (complex_of a) (form_of g) y → MissesFrame (form_of g) ⊎ IsSpanned xs g → CutsHeld (complex_of a) b xs y
       by g f d (inl q) = absurd (never-cut s (complex_of a) (form_of g) S.shows q y d)

@@ -2,6 +2,7 @@
 use Rattle.nef_cand.proofs.Prelude.{◌≡◌, ℤ, pos, ◌-ℤ◌, ◌*ℤ◌, Bool, true, false, [], ◌∷◌, refl, ap, sym, subst, ◌∙◌, IsTrue, int_eq, ◌&&◌, Decides-int_eq, ring, at, num, ◌⊖◌, ◌⊗◌, SpacePoint, Form, normal_of, IsDirection, cross, IsSamePlane, form_of, Plane, same_planes_equal, HoldsBoth}
 use lib.Dec.{T}
 use Rattle.nef_complex.proofs.SamePlanes.{parallel-equal}
+use Rattle.nef_geo.proofs.Unique.{itself}
 
 -- ---- the program's test of equality
 abbrev pub plane_test : Plane → Plane → Bool
@@ -32,9 +33,6 @@ tested-equal g h e =
       along_b = across f.b f.d k.b k.d b d;
       along_c = across f.c f.d k.c k.d c d;
     }
-
-itself : (x : ℤ) → int_eq x x ≡ true
-itself x = (Decides-int_eq x x).1 refl
 
 pub tested-other : (g h : Plane) → false ≡ plane_test g h → g ≡ h → ⊥
 tested-other g h e same =

@@ -1,10 +1,9 @@
 -- Each item lies in a carrier.
-use Rattle.nef_complex.proofs.Prelude.{◌≡◌, ℕ, pos, List, map, sym, ◌∙◌, ⊎_elim, subst, sign, nought-is, nought-or, SpacePoint, Form, form_at, normal_of, Set, dot, IsNormal, SameDirection, form_of, point_of, Plane, step-within, reach_all, carriers, keeps-all, ahead, near-ahead, facet-support, by_side, IsAt, Item, item_normal, item_pos, item_mark, item_neg, near-item, item-point, map-at, at-map, get-from_at, Corner as PlainCorner, IsCorner, Shows, near-germ, in-facet, plane-turned, plane-point, plane-slope, Vertex, vertex_of, ItemsAreHeld, SameDirection-turned}
+use Rattle.nef_complex.proofs.Prelude.{◌≡◌, ℕ, pos, List, map, sym, ◌∙◌, ⊎_elim, subst, sign, nought-is, nought-or, SpacePoint, Form, form_at, normal_of, Set, dot, IsNormal, SameDirection, form_of, point_of, Plane, step-within, reach_all, carriers, keeps-all, ahead, near-ahead, facet-support, by_side, IsAt, Item, item_normal, item_pos, item_mark, item_neg, near-item, item-point, map-is_at, is-at_map, Corner as PlainCorner, IsCorner, Shows, near-germ, in-facet, plane-turned, plane-point, plane-slope, Vertex, vertex_of, ItemsAreHeld, SameDirection-turned}
 use Rattle.law_near.proofs.Germs.{sample, sample-short}
 use Rattle.law_complex.specs.Complexes.{Vertex as PlainVertex, Edge as PlainEdge, Complex as PlainComplex}
 use Rattle.law_complex.proofs.Cones.{FlatAre}
 use Rattle.law_complex.proofs.FacetSides.{flats-one}
-use Rattle.nef_complex.proofs.Reading.{got-at}
 
 -- a carrier that holds the vertex and has the item's normal, where its normal is one in normal form
 pub record IsCarried (C : PlainComplex) (v : PlainVertex) (x : Item) : Type 0 where
@@ -43,8 +42,8 @@ carried s C k v x S c =
 pub items-held : (s : Set) (hs : List Plane) (vs : List Vertex) (es : List PlainEdge) → Shows s (record { carriers = map form_of hs; vertices = map vertex_of vs; edges = es }) → ItemsAreHeld hs vs
 items-held s hs vs es S k j v x a b =
     let C : PlainComplex = record { carriers = map form_of hs; vertices = map vertex_of vs; edges = es } in
-    let K = carried s C (record { vertex = k; item = j }) (vertex_of v) x S (record { vertex = map-at vertex_of vs k v (got-at vs k v a); item = b }) in
-    let g = at-map form_of hs K.number K.plane K.listed in
+    let K = carried s C (record { vertex = k; item = j }) (vertex_of v) x S (record { vertex = map-is_at vertex_of vs k v a; item = b }) in
+    let g = is-at_map form_of hs K.number K.plane K.listed in
     let zero = subst (λ (f : Form). form_at f (point_of v.point) ≡ pos 0) (sym g.2) K.through in
     let way = subst (λ (f : Form). IsNormal (normal_of f) → SameDirection (normal_of f) (item_normal x)) (sym g.2) K.normal in
-    (K.number, g.0, get-from_at hs K.number g.0 g.1, zero, SameDirection-turned (normal_of (form_of g.0)) (item_normal x) (way g.0.normal))
+    (K.number, g.0, g.1, zero, SameDirection-turned (normal_of (form_of g.0)) (item_normal x) (way g.0.normal))

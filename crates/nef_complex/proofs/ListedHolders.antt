@@ -1,5 +1,5 @@
 -- The listed carriers that hold two points, one after the other.
-use Rattle.nef_complex.proofs.Prelude.{◌≡◌, ℕ, ◌+◌, ◌<◌, ◌≤◌, List, length, arith, subst, ⊎_elim, IsAt, SpacePoint, form_of, Plane, less-or-last, is-at_one, is-at_within, get-from_at, AreNumbersOf, AreHolders, HoldsBoth}
+use Rattle.nef_complex.proofs.Prelude.{◌≡◌, ℕ, ◌+◌, ◌<◌, ◌≤◌, List, length, arith, subst, ⊎_elim, IsAt, SpacePoint, form_of, Plane, less-or-last, is-at_one, is-at_within, AreNumbersOf, AreHolders, HoldsBoth}
 
 -- Q of the carriers among the first n of the list
 abbrev pub AllListed : List Plane → List ℕ → ℕ → (Plane → Type 0) → Type 0
@@ -22,4 +22,4 @@ module _ (hs : List Plane) (a b : SpacePoint) (ns : List ℕ) (H : AreHolders hs
 
   -- what holds of all that are listed holds of each carrier that holds both points
   pub all-holders : (Q : Plane → Type 0) (n : ℕ) → length ns ≤ n → AllListed hs ns n Q → (k : ℕ) (g : Plane) → IsAt hs k g → HoldsBoth (form_of g) a b → Q g
-  all-holders Q n le all k g l h = let o = H.all k (g, get-from_at hs k g l, h) in all o.0 k g (let m = is-at_within ns o.0 k o.1 in omega arith) o.1 (get-from_at hs k g l)
+  all-holders Q n le all k g l h = let o = H.all k (g, l, h) in all o.0 k g (let m = is-at_within ns o.0 k o.1 in omega arith) o.1 l

@@ -1,16 +1,11 @@
 -- Where a plane parts two points, it crosses the segment between them.
 use Rattle.nef_complex.proofs.Prelude.{◌≡◌, ℕ, ◌<◌, ℤ, pos, ◌+ℤ◌, ◌-ℤ◌, ◌*ℤ◌, ◌<ℤ◌, arith, ap, sym, ◌∙◌, inl, inr, ⊎_elim, [], ◌∷◌, ints, ring, Poly, at, num, ◌⊕◌, ◌⊖◌, ◌⊗◌, given, none, follows, follows_times, mul_pos, mul_neg, by_order, SpacePoint, Form, form_at, slope, toward, IsBetween, Vector, dot, cross, triple, IsZero, IsDirection, HasOppositeSigns, IsMixed, of_point, form-sum, slope-toward, mixed-of, between-turned, slope-zero, HoldsBoth, cross-turned, in-span}
 use Rattle.law_complex.proofs.FacetAngles.{cut-at}
+use Rattle.nef_space.proofs.Order.{minus-of, plus-of}
 
 -- ---- signs of products
 times-none : (k c : ℤ) → c ≡ pos 0 → k *ℤ c ≡ pos 0
 times-none k c o = ap (λ r. k *ℤ r) o ∙ ring (k ∷ []) (at 0 ⊗ num (pos 0)) (num (pos 0)) tt
-
-pub times-pos : (k c : ℤ) → pos 0 <ℤ k → pos 0 <ℤ (k *ℤ c) → pos 0 <ℤ c
-times-pos k c x h = by_order c (pos 0) (λ l. let u = mul_neg k c x l in absurd (omega (arith, ints))) (λ o. let u = times-none k c o in absurd (omega (arith, ints))) (λ l. l)
-
-pub times-neg : (k c : ℤ) → pos 0 <ℤ k → (k *ℤ c) <ℤ pos 0 → c <ℤ pos 0
-times-neg k c x h = by_order c (pos 0) (λ l. l) (λ o. let u = times-none k c o in absurd (omega (arith, ints))) (λ l. let u = mul_pos k c x l in absurd (omega (arith, ints)))
 
 pub times-nought : (k c : ℤ) → pos 0 <ℤ k → k *ℤ c ≡ pos 0 → c ≡ pos 0
 times-nought k c x h = by_order c (pos 0) (λ l. let u = mul_neg k c x l in absurd (omega (arith, ints))) (λ o. o) (λ l. let u = mul_pos k c x l in absurd (omega (arith, ints)))
@@ -72,9 +67,9 @@ module _ (h : Form) (p q : SpacePoint) where
       where
         by : (a b i j : ℤ) → pos 0 <ℤ i → pos 0 <ℤ j → ((a ≡ pos 0) × (b ≡ pos 0) → ⊥) → i *ℤ a +ℤ j *ℤ b ≡ pos 0 → HasOppositeSigns a b
         by a b i j x y n s = by_order a (pos 0)
-            (λ m. let u = mul_neg i a x m in inl (m, times-pos j b y (omega (arith, ints))))
+            (λ m. let u = mul_neg i a x m in inl (m, plus-of j b y (omega (arith, ints))))
             (λ o. let u = times-none i a o in absurd (n (o, times-nought j b y (omega (arith, ints)))))
-            (λ m. let u = mul_pos i a x m in inr (m, times-neg j b y (omega (arith, ints))))
+            (λ m. let u = mul_pos i a x m in inr (m, minus-of j b y (omega (arith, ints))))
 
 -- ---- three planes
 abbrev cx : Poly

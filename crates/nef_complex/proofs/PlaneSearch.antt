@@ -1,16 +1,6 @@
 -- Searching the planes of an index by halving.
 use Rattle.nef_complex.proofs.Prelude.{◌≡◌, ℕ, ◌<◌, ℤ, length, arith, refl, sym, subst, inl, inr, ⊎_elim, List, [], ◌∷◌, get_or, ordering_index, IsNonDecreasingBy, IsPartitionPoint, Less, Equal, Greater, cases_lt, by_ranked, ints, searchable_from_sorted, slice_get-get_or, slice_get_within, get_or_from_slice_get, IsAt, IsBelow, form_numbers, form_of, Plane, plane_order, plane_total, plane-ordered, IsPlaneBelow, sorted-from_order, AreInOrder}
-
-below-one_way : (xs ys : List ℤ) → IsBelow xs ys → IsBelow ys xs → ⊥
-below-one_way [] ys h k = h
-below-one_way (x ∷ xs) [] h k = h
-below-one_way (x ∷ xs) (y ∷ ys) (inl h) (inl k) = omega (arith, ints)
-below-one_way (x ∷ xs) (y ∷ ys) (inl h) (inr k) = let e = k.0 in omega (arith, ints)
-below-one_way (x ∷ xs) (y ∷ ys) (inr h) (inl k) = let e = h.0 in omega (arith, ints)
-below-one_way (x ∷ xs) (y ∷ ys) (inr h) (inr k) = below-one_way xs ys h.1 k.1
-
-pub never-below : (xs : List ℤ) → IsBelow xs xs → ⊥
-never-below xs h = below-one_way xs xs h h
+use Rattle.nef_geo.proofs.Orders.{below-one_way, never-below}
 
 never : (h : Plane) → IsPlaneBelow h h → ⊥
 never h = never-below (form_numbers (form_of h))

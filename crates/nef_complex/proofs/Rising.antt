@@ -1,5 +1,5 @@
 -- Edges stand in order of their lower ends, so of a row of edges in order those that begin before a vertex come first.
-use Rattle.nef_complex.proofs.Prelude.{◌≡◌, ℕ, ◌<◌, ◌≤◌, ◌+◌, List, arith, ap, ⊎_elim, subst, inl, inr, eq-or-lt_of_le, ints, IsAt, Set, is-at_one, map-at, at-from_get, IsEdgeBelow, Shows, Edge, Complex, edge_of, complex_of}
+use Rattle.nef_complex.proofs.Prelude.{◌≡◌, ℕ, ◌<◌, ◌≤◌, ◌+◌, List, arith, ap, ⊎_elim, subst, inl, inr, eq-or-lt_of_le, ints, IsAt, Set, is-at_one, map-is_at, IsEdgeBelow, Shows, Edge, Complex, edge_of, complex_of}
 
 -- the edges before place n of the row begin before the limit, and those from there on don't
 abbrev pub BeginBefore : List Edge → List ℕ → ℕ → ℕ → Type 0
@@ -13,7 +13,7 @@ module _ (s : Set) (c : Complex) (S : Shows s (complex_of c)) where
   pub low-rises : (i k : ℕ) (e f : Edge) → i ≤ k → IsAt c.edges i e → IsAt c.edges k f → e.low ≤ f.low
   low-rises i k e f l a b = ⊎_elim
       (λ o. let r : e ≡ f = is-at_one c.edges k e f (subst (λ x. IsAt c.edges x e) o a) b in let t = ap (λ (x : Edge). x.low) r in omega (arith, t))
-      (λ o. by (S.edges.ordered i k (edge_of e) (edge_of f) o (map-at edge_of c.edges i e (at-from_get c.edges i e a)) (map-at edge_of c.edges k f (at-from_get c.edges k f b))))
+      (λ o. by (S.edges.ordered i k (edge_of e) (edge_of f) o (map-is_at edge_of c.edges i e a) (map-is_at edge_of c.edges k f b)))
       (eq-or-lt_of_le {n = i} {m = k} l)
     where
       by : IsEdgeBelow (edge_of e) (edge_of f) → e.low ≤ f.low

@@ -2,7 +2,7 @@
 use Rattle.nef_complex.proofs.Prelude.{◌≡◌, Bool, true, refl, Decides-and, Decides-int_eq, Point, same_points_equal}
 use Rattle.nef_geo.specs.contracts.point.PointPartialEq.TheImpl.{eq-value as point_eq}
 
-point-one : (p q : Point) → p.x ≡ q.x → p.y ≡ q.y → p.z ≡ q.z → p.w ≡ q.w → p ≡ q
+pub point-one : (p q : Point) → p.x ≡ q.x → p.y ≡ q.y → p.z ≡ q.z → p.w ≡ q.w → p ≡ q
 point-one p q a b c d = same_points_equal p q (record { along_x = rw (a, d) refl; along_y = rw (b, d) refl; along_z = rw (c, d) refl })
 
 abbrev pub point_test : Point → Point → Bool

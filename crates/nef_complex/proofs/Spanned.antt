@@ -1,5 +1,5 @@
 -- What lies within two spans, between two points of a span, and in a plane with a span of its vertices.
-use Rattle.nef_complex.proofs.Prelude.{◌≡◌, ℤ, pos, sym, subst, inl, inr, SpacePoint, Form, form_at, SamePoint, IsBetween, Set, point_of, at-map, get-from_at, meets_vertex, meets_edge, IsSkeletonIn, Coordinate, coordinate_x, coordinate_y, coordinate_z, EachVertexOn, EachPointOn, IsWithin, Complex, Bounds, Span, vertex_of, complex_of, ShowsSet, IsSpanOn, IsInSpan, IsNarrower}
+use Rattle.nef_complex.proofs.Prelude.{◌≡◌, ℤ, pos, sym, subst, inl, inr, SpacePoint, Form, form_at, SamePoint, IsBetween, Set, point_of, is-at_map, meets_vertex, meets_edge, IsSkeletonIn, Coordinate, coordinate_x, coordinate_y, coordinate_z, EachVertexOn, EachPointOn, IsWithin, Complex, Bounds, Span, vertex_of, complex_of, ShowsSet, IsSpanOn, IsInSpan, IsNarrower}
 use Rattle.law_complex.specs.Complexes.{Vertex as PlainVertex}
 use Rattle.law_complex.proofs.Spans.{plane-within, within-same, within-between}
 use Rattle.nef_index.proofs.Spanning.{span-wider}
@@ -18,9 +18,9 @@ span-between s t u p y q b i j n m =
 module _ (s : Set) (c : Complex) (S : ShowsSet s c) (h : Form) (span : Span) (B : IsSpanOn c.vertices h span) where
   each : (d : Coordinate) (low high : ℤ) → ((p : SpacePoint) → IsInSpan span p → IsWithin d low high p) → EachVertexOn (complex_of c) h (IsWithin d low high)
   each d low high part k v a e =
-      let w = at-map vertex_of c.vertices k v a in
+      let w = is-at_map vertex_of c.vertices k v a in
       subst (λ (r : PlainVertex). IsWithin d low high r.point) w.2
-      (part (point_of w.0.point) (B k w.0 (get-from_at c.vertices k w.0 w.1) (subst (λ (r : PlainVertex). form_at h r.point ≡ pos 0) (sym w.2) e)))
+      (part (point_of w.0.point) (B k w.0 w.1 (subst (λ (r : PlainVertex). form_at h r.point ≡ pos 0) (sym w.2) e)))
 
   spanned-along : (d : Coordinate) (b : Bounds) → ((p : SpacePoint) → IsInSpan span p → IsWithin d b.low b.high p) → (y : SpacePoint) → form_at h y ≡ pos 0 → IsSkeletonIn s (complex_of c) h y → IsWithin d b.low b.high y
   spanned-along d b part y on = by (plane-within s (complex_of c) S.shows h d b.low b.high (each d b.low b.high part))

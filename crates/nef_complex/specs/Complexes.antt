@@ -14,7 +14,7 @@ use Rattle.nef_complex.specs.declared.complex.Complex.{Complex}
 use Rattle.nef_complex.specs.declared.complex.Corner.{Corner}
 use Rattle.nef_complex.specs.declared.complex.PlaneMeet.{PlaneMeet}
 use Rattle.nef_complex.specs.declared.complex.PlaneMeet.TheVariants.{AtVertex, AtEdge}
-use Rattle.nef_complex.specs.Index.{skeleton, AreFlagged}
+use Rattle.nef_complex.specs.Index.{indexed_lists, AreFlagged}
 
 abbrev pub vertex_of : Vertex → PlainVertex
 vertex_of v = record { point = point_of v.point; map = map_of v.map }
@@ -38,7 +38,7 @@ AreSorted vs = (i k : ℕ) (u v : Vertex) → i < k → IsAt vs i u → IsAt vs 
 
 -- the index of the complex is that of its carriers, vertices and edges
 pub record IsIndexed (c : Complex) : Type 0 where
-  pub is : c.index ≡ skeleton c.carriers c.vertices c.edges
+  pub is : c.index ≡ indexed_lists c.carriers c.vertices c.edges
 
 -- the complex shows the set with least maps, its flags are right, and its index is its own
 pub record ShowsSet (s : Set) (c : Complex) : Type 0 where

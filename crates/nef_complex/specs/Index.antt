@@ -8,7 +8,7 @@ use Rattle.law_sphere.specs.Maps.{Map, Item, items, item_normal}
 use Rattle.nef_smap.specs.Maps.{map_of}
 use Rattle.nef_index.specs.declared.skeleton.Edge.{Edge}
 use Rattle.nef_index.specs.declared.spans.Span.{Span}
-use Rattle.nef_index.specs.Skeleton.{Skeleton}
+use Rattle.nef_index.specs.Skeleton.{IndexedLists}
 use Rattle.nef_index.specs.Carriers.{AreInOrder, AreHolders}
 use Rattle.nef_index.specs.Spans.{IsInSpan}
 use Rattle.nef_complex.specs.declared.complex.Vertex.{Vertex}
@@ -18,8 +18,8 @@ abbrev pub points_of : List Vertex → List Point
 points_of vs = map (λ (v : Vertex). v.point) vs
 
 -- the carriers, the points of the vertices, and the edges
-abbrev pub skeleton : List Plane → List Vertex → List Edge → Skeleton
-skeleton hs vs es = record { carriers = hs; points = points_of vs; edges = es }
+abbrev pub indexed_lists : List Plane → List Vertex → List Edge → IndexedLists
+indexed_lists hs vs es = record { carriers = hs; points = points_of vs; edges = es }
 
 -- some item of the map has the normal
 abbrev pub HasNormal : Map → Vector → Type 0

@@ -29,12 +29,12 @@ pub use Rattle.nef_index.specs.Carriers.{AreHolders, AreInOrder}
 pub use Rattle.nef_index.specs.Index.{AreClusters}
 pub use Rattle.nef_index.specs.Numbers.{AreNumbersOf, AreNumbersWith}
 pub use Rattle.nef_index.specs.Peaks.{ArePeaks, EndBelow}
-pub use Rattle.nef_index.specs.Skeleton.{HaveEnds, HoldsBoth, Skeleton}
+pub use Rattle.nef_index.specs.Skeleton.{HaveEnds, HoldsBoth, IndexedLists}
 pub use Rattle.nef_index.specs.Spans.{AreSmallBounds, IsInSpan, IsNarrower}
 pub use Rattle.nef_index.specs.declared.skeleton.Edge.{Edge}
 pub use Rattle.nef_complex.specs.Complexes.{AreAbove, AreBelow, AreSorted, AreVerticesOf, IsIndexed, ShowsSet, complex_of, corner_of, edge_of, meet_of, vertex_of}
 pub use Rattle.nef_complex.specs.Cycles.{Leads}
-pub use Rattle.nef_complex.specs.Index.{AreAlone, AreFlagged, AreHoldersAlong, AreItemFlags, AreSpans, AreVertexHolders, EdgeLiesIn, HasItemIn, ItemsAreHeld, LiesOn, points_of, skeleton}
+pub use Rattle.nef_complex.specs.Index.{AreAlone, AreFlagged, AreHoldersAlong, AreItemFlags, AreSpans, AreVertexHolders, EdgeLiesIn, HasItemIn, ItemsAreHeld, LiesOn, points_of, indexed_lists}
 pub use Rattle.nef_complex.specs.Numbers.{FacetNumbers, IsFacetOf, IsParts, IsVolumeOf, VolumeNumbers, count_items}
 pub use Rattle.nef_complex.specs.Shells.{SfaceNumbers}
 pub use Rattle.nef_complex.specs.Taken.{AreAdded, IsRowAdded, IsSourceAmong}

@@ -1,7 +1,7 @@
 //! A complex put together from carriers, vertices and edges.
 
 ghost use Rattle.std.specs.Prelude.{◌≡◌, ◌↔◌};
-ghost use Rattle.nef_complex.specs.Prelude.{IsTrue, IfOk, form_of, Edge, Skeleton, skeleton, points_of, HasItemIn, LiesOn, AreNumbersWith, AreItemFlags, AreFlagged, IsIndexed, ItemsAreHeld, AreInOrder, HaveEnds, AreVertexHolders, AreAlone};
+ghost use Rattle.nef_complex.specs.Prelude.{IsTrue, IfOk, form_of, Edge, IndexedLists, indexed_lists, points_of, HasItemIn, LiesOn, AreNumbersWith, AreItemFlags, AreFlagged, IsIndexed, ItemsAreHeld, AreInOrder, HaveEnds, AreVertexHolders, AreAlone};
 
 use crate::OutOfMemory;
 use crate::complex::{Complex, Vertex};
@@ -80,8 +80,8 @@ fn index_of(
     edges: &[Edge],
     at_vertex: Table,
 ) -> Result<Index, OutOfMemory>
-    ghost of: { Skeleton }
-    requires of { of ≡ skeleton carriers.now vertices.now edges.now }
+    ghost of: { IndexedLists }
+    requires of { of ≡ indexed_lists carriers.now vertices.now edges.now }
     requires rows { AreVertexHolders carriers.now vertices.now at_vertex }
     requires ends { HaveEnds vertices.now edges.now }
     ensures index { IfOk result (λ x. x ≡ of) }

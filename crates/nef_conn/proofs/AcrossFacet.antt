@@ -1,12 +1,12 @@
 -- From a vertex beside which z lies, whose item goes on ahead, to a point of the facet there.
 use Rattle.nef_conn.proofs.Prelude.{◌≡◌, pos, arith, inl, inr, ints, Chained, FlatDim, SpacePoint, Form, form_at, normal_of, toward, IsBetween, Set, Vector, opposite, dot, IsDirection, SameDirection, plane_dir, between-turned, item_normal, OnItem, ahead, on-direction, normal-is, Vertex, Complex, Corner, Shows, IsInFacetOf, item_plane, RayNames, IsFlatIn, plane-ahead, LinkAcross, FacetLink, through-same, facet-near, ahead-toward, even-after, on_item-way, way_inward, level-of_opposite, SameDirection-turned, SameDirection-trans, opposite-same}
-use Rattle.nef_conn.proofs.Onward.{level-kept}
 use Rattle.nef_conn.proofs.WayInward.{dir-same, names-same}
 use Rattle.nef_conn.proofs.Named
 use Rattle.nef_conn.proofs.Chain.{chain-here, chain-before}
 use Rattle.nef_conn.proofs.Sector.{Through, Stops}
 use Rattle.nef_conn.proofs.FacetStrip.{Strip, m-some, short-of, angle-ahead}
 use Rattle.nef_conn.proofs.Beside.{turn-to, near, near-onward, Beside, off-edges, fan-beside}
+use Rattle.law_complex.proofs.FacetEnds.{level-normal}
 
 module _ (s : Set) (C : Complex) (S : Shows s C) (h g : Form) (d : Vector) (y z : SpacePoint) (T : Strip s C h g d y z) where
   abbrev n : Vector
@@ -73,7 +73,7 @@ module _ (s : Set) (C : Complex) (S : Shows s C) (h g : Form) (d : Vector) (y z 
       q-near = near-onward s C S h g d y z T w q up N.on_line
 
       q-flat : IsFlatIn s h q
-      q-flat = (F.dim, λ f. (λ x. level-kept (item_normal N.item) n f N.same ((F.flat f).0 x), λ x. (F.flat f).1 (level-kept n (item_normal N.item) f (SameDirection-turned (item_normal N.item) n N.same) x)))
+      q-flat = (F.dim, λ f. (λ x. level-normal (item_normal N.item) n f N.same ((F.flat f).0 x), λ x. (F.flat f).1 (level-normal n (item_normal N.item) f (SameDirection-turned (item_normal N.item) n N.same) x)))
 
       reach : (r : SpacePoint) → IsBetween z r q → FlatDim s r 2
       reach = fan-beside s C S h g d y z T k N q q-on (let x = q-near in omega (arith, ints)) (let l = short-of s C S h g d y z T q q-near in omega (arith, ints)) (angle-ahead s C S h g d y z T w q N.on_line up)

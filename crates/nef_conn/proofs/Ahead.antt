@@ -1,7 +1,7 @@
 -- From vertex to vertex along y's line, to the corner that z's ray names.
-use Rattle.nef_conn.proofs.Prelude.{◌≡◌, ℕ, ◌<◌, ◌≤◌, ◌+◌, zero, suc, pos, length, arith, ◌∙◌, ◌⊎◌, inl, inr, ⊎_elim, subst, cases_order, Chained, FlatDim, SpacePoint, Form, form_at, normal_of, SamePoint, toward, IsBetween, IsPointBelow, Set, Vector, opposite, cross, SameDirection, plane_dir, point-toward, IsAt, at-one, normal-direction, Vertex, Complex, Corner, Shows, RayNames, IsFlatIn, between-way, same-itself, through-at, ahead-back, FacetLink, dot-zero, SameDirection-turned, SameDirection-trans, dir-self, direction-left}
+use Rattle.nef_conn.proofs.Prelude.{◌≡◌, ℕ, ◌<◌, ◌≤◌, ◌+◌, zero, suc, pos, length, arith, ◌∙◌, ◌⊎◌, inl, inr, ⊎_elim, subst, cases_order, Chained, FlatDim, SpacePoint, Form, form_at, normal_of, SamePoint, toward, IsBetween, IsPointBelow, Set, Vector, opposite, cross, SameDirection, plane_dir, point-toward, IsAt, is-at_one, normal-direction, Vertex, Complex, Corner, Shows, RayNames, IsFlatIn, between-way, same-itself, through-at, ahead-back, FacetLink, dot-zero, SameDirection-turned, SameDirection-trans, dir-self, direction-left}
 use Rattle.law_sphere.proofs.Builder.{normal-either}
-use Rattle.nef_conn.proofs.Reached.{Rises, never-both, toward-normal, within}
+use Rattle.nef_conn.proofs.Reached.{Rises, never-both, toward-normal}
 use Rattle.nef_conn.proofs.Chain.{chain-both}
 use Rattle.nef_conn.proofs.Sector.{Through, Stops, turned}
 use Rattle.nef_conn.proofs.FacetStrip.{Strip, m-some, turn-z}
@@ -11,6 +11,7 @@ use Rattle.nef_conn.proofs.AlongEdge.{Goes_on, along-edge}
 use Rattle.nef_conn.proofs.OverEdge.{over-edge}
 use Rattle.nef_conn.proofs.AcrossFacet.{facet-ahead}
 use Rattle.nef_conn.proofs.FromFacet.{from-facet}
+use Rattle.nef_space.proofs.Lists.{is-at_within}
 
 module _ (s : Set) (C : Complex) (S : Shows s C) (h g : Form) (d : Vector) (y z : SpacePoint) (T : Strip s C h g d y z) (inward : SameDirection (opposite (plane_dir (normal_of h))) d) (l : Corner) (named : RayNames C h z d l) where
   abbrev n : Vector
@@ -51,7 +52,7 @@ module _ (s : Set) (C : Complex) (S : Shows s C) (h g : Form) (d : Vector) (y z 
 
   -- vertices ahead have greater numbers, or smaller
   ahead-order : (i j : ℕ) (u v : Vertex) → IsAt C.vertices i u → IsAt C.vertices j v → SameDirection (toward u.point v.point) d → ((i < j) × IsPointBelow u.point v.point) ⊎ ((j < i) × IsPointBelow v.point u.point)
-  ahead-order i j u v a b w = ⊎_elim (λ e. absurd (direction-left (toward u.point v.point) d w (point-toward u.point v.point (one (at-one C.vertices j u v (subst (λ (x : ℕ). IsAt C.vertices x u) e a) b)))))
+  ahead-order i j u v a b w = ⊎_elim (λ e. absurd (direction-left (toward u.point v.point) d w (point-toward u.point v.point (one (is-at_one C.vertices j u v (subst (λ (x : ℕ). IsAt C.vertices x u) e a) b)))))
       (λ o. ⊎_elim (λ x. inl (x, S.ordered i j u v x a b)) (λ x. inr (x, S.ordered j i v u x b a)) o) (cases_order i j)
     where
       one : u ≡ v → SamePoint u.point v.point
@@ -66,7 +67,7 @@ module _ (s : Set) (C : Complex) (S : Shows s C) (h g : Form) (d : Vector) (y z 
   rising : Rises d → (k : Corner) → Is_beside k → Chained (FacetLink C) k l
   rising U k N = run (λ i f. length C.vertices ≤ i + f)
       (λ i j f u v a b w e. ⊎_elim (λ o. let x = o.0 in omega arith) (λ o. absurd (never-both d U (downward u v o.1 w))) (ahead-order i j u v a b w))
-      (λ i u a e. omega (arith, within C.vertices i u a)) (length C.vertices) k N (omega arith)
+      (λ i u a e. omega (arith, is-at_within C.vertices i u a)) (length C.vertices) k N (omega arith)
 
   falling : Rises (opposite d) → (k : Corner) → Is_beside k → Chained (FacetLink C) k l
   falling U k N = run (λ i f. i < f)

@@ -29,7 +29,7 @@ module _ (s : Set) (C : Complex) (S : Shows s C) (upright : IsUpright C) (linked
   abbrev pub IsStart : SpacePoint → SpacePoint → Type 0
   IsStart y b = FlatDim (sliced s h) y 2 ⊎ Wedge (sliced s h) 2 y (toward y b) (opposite up)
 
-  down-some : IsDirection (opposite up)
+  pub down-some : IsDirection (opposite up)
   down-some z = let e = z.2 in omega (arith, ints)
 
   -- the way from b to c below it, and to c, has up on one side

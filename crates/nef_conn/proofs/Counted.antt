@@ -1,7 +1,7 @@
 -- Components are counted by a point of each class.
 use Rattle.nef_conn.proofs.Prelude.{◌≡◌, ℕ, zero, suc, ◌<◌, arith, refl, ap, List, ◌∷◌, length, subst, [], FlatDim, Joined, SpacePoint, toward, Set, joined-itself, joined-both, IsAt, IsVertexPoint, IsEdgePoint, near_point, near-between, edge-points, dim-same, edges-complete, same-itself, HasComponents, VerticesCounted, EdgesCounted, direction-left, is-at_none, is-at_first}
 use Rattle.nef_conn.proofs.OnEdges.{joined-vertices, joined-edges}
-use Rattle.nef_conn.proofs.Reached.{within}
+use Rattle.nef_space.proofs.Lists.{is-at_some, is-at_within}
 
 -- ---- a list with a point for each number
 record Chosen (n : ℕ) (P : ℕ → SpacePoint → Type 0) : Type 0 where
@@ -42,26 +42,21 @@ components-by s k n P some flat one reach =
       },
     )
 
-pub at-some : {A : Type 0} (xs : List A) (k : ℕ) → k < length xs → (x : A) × IsAt xs k x
-at-some [] k l = absurd (omega arith)
-at-some (x ∷ xs) zero l = (x, refl)
-at-some (x ∷ xs) (suc k) l = at-some xs k (omega arith)
-
 pub vertices-counted : VerticesCounted
-vertices-counted s C S = components-by s 0 (length C.vertices) (IsVertexPoint C) (λ i l. let v = at-some C.vertices i l in (v.0.point, (v.0, v.1, same-itself v.0.point)))
+vertices-counted s C S = components-by s 0 (length C.vertices) (IsVertexPoint C) (λ i l. let v = is-at_some C.vertices i l in (v.0.point, (v.0, v.1, same-itself v.0.point)))
     (λ i p P. dim-same s P.0.point p 0 P.2 (S.vertices i P.0 P.1))
     (λ i j p q a b. joined-vertices s C i j p q S a b)
-    (λ q f. let P = S.complete q f in (P.0, q, within C.vertices P.0 P.1 P.2, (P.1, P.2, P.3), joined-itself s q))
+    (λ q f. let P = S.complete q f in (P.0, q, is-at_within C.vertices P.0 P.1 P.2, (P.1, P.2, P.3), joined-itself s q))
 
 pub edges-counted : EdgesCounted
 edges-counted s C S = components-by s 1 (length C.edges) (IsEdgePoint C) some
     (λ i p P. (edge-points s C i P.0 P.1 P.2 p S P.3 P.4 P.5).0)
     (λ i j p q a b. joined-edges s C i j p q S a b)
-    (λ q f. let P = edges-complete s C S q f in let e = P.1 in (P.0, q, within C.edges P.0 e.0 e.3, e, joined-itself s q))
+    (λ q f. let P = edges-complete s C S q f in let e = P.1 in (P.0, q, is-at_within C.edges P.0 e.0 e.3, e, joined-itself s q))
   where
     some : (i : ℕ) → i < length C.edges → (p : SpacePoint) × IsEdgePoint C i p
     some i l =
-        let e = at-some C.edges i l in
+        let e = is-at_some C.edges i l in
         let E = S.edges.edges i e.0 e.1 in
         let v = E.low_vertex in
         let w = E.high_vertex in

@@ -1,9 +1,9 @@
 -- The strip between two lines along d in the plane of h: on y's line lie vertices, between it and z's line and on z's line none. g is h or its opposite, so that z lies to the right of y's line.
 use Rattle.nef_conn.proofs.Prelude.{◌≡◌, ℕ, ◌+◌, ℤ, pos, ◌+ℤ◌, ◌-ℤ◌, ◌*ℤ◌, ◌<ℤ◌, ◌≤ℤ◌, arith, refl, ap, sym, ◌∙◌, ◌⊎◌, inl, inr, ⊎_elim, ◌∷◌, subst, [], ints, sign, ring, at, num, ◌⊕◌, ◌⊖◌, ◌⊗◌, Poly, mul_pos, mul_nonneg, cancel_le, by_order, sign-scaled, nought-is, nonneg-of, minus-of, plus-of, mul_neg, Flat, FlatDim, IsVertex, SpacePoint, Form, form_at, normal_of, slope, plane_through, SamePoint, toward, IsBetween, Set, Vector, opposite, dot, cross, triple, IsZero, IsDirection, IsNormal, SameDirection, FlatDim-one, between-turned, signs-same, same-point_sym, slope-toward, toward-point, point-toward, between-same, IsAt, same-plus, same-minus, Beside, same_way, other_way, beside, turn-last, turn-same, turns, Vertex, Complex, Shows, IsVertexPoint, IsFlatIn, same-itself, same-point_trans, dim-same, plane-way, same-by, aligned, through-at, through-slope, angle, turn_form, turn-at, angle-turned, angle-self, angle-start, angle-inside, between-plus, between-minus, angle-cyclic, HalfEdge, plane-between, below-or, weight, toward-turned, IsInTriangle, LiesAlong, zero-decided, dot-zero, triple-dot, level-opposite-back, triple-middle, triple-turned, SameDirection-turned, SameDirection-trans, dir-self, parallel-in_plane, opposite-same, dot-opposite, opposite-way, opposite-twice, direction-right, right-turn}
-use Rattle.nef_conn.proofs.Onward.{level-kept}
 use Rattle.nef_conn.proofs.Sweep.{minus-any, cut-of}
 use Rattle.nef_conn.proofs.Triangles.{half-to, never-along, third-side, at-corner, on-second}
 use Rattle.nef_conn.proofs.Sector.{Seen, seen-level}
+use Rattle.law_complex.proofs.FacetEnds.{level-normal}
 
 -- from a to c, both left out, the points lie within a facet, a itself being on no edge, or on an edge: on that of a, or a is on none
 abbrev pub SideWithin : Set → SpacePoint → SpacePoint → Type 0
@@ -122,8 +122,8 @@ module _ (s : Set) (C : Complex) (S : Shows s C) (h g : Form) (d : Vector) (y z 
   back-level v z = by T.seen
     where
       by : Seen (normal_of h) m → dot (normal_of h) v ≡ pos 0
-      by (inl w) = level-kept m (normal_of h) v (SameDirection-turned (normal_of h) m w) z
-      by (inr w) = level-opposite-back (normal_of h) v (level-kept m (opposite (normal_of h)) v (SameDirection-turned (opposite (normal_of h)) m w) z)
+      by (inl w) = level-normal m (normal_of h) v (SameDirection-turned (normal_of h) m w) z
+      by (inr w) = level-opposite-back (normal_of h) v (level-normal m (opposite (normal_of h)) v (SameDirection-turned (opposite (normal_of h)) m w) z)
 
   flat-g : IsFlatIn s g z
   flat-g = (T.flat.0, λ v. (λ f. seen-level (normal_of h) m v T.seen ((T.flat.1 v).0 f), λ e. (T.flat.1 v).1 (back-level v e)))

@@ -13,6 +13,7 @@ use Rattle.nef_conn.proofs.RaysEnd.{ray-down}
 use Rattle.nef_conn.proofs.Silhouettes.{germs-inside, two-of}
 use Rattle.nef_conn.proofs.Slice.{germ-on, germ-off, minus-at}
 use Rattle.nef_conn.proofs.SliceStrip.{lam, up_line, lam-at, lam-turned, lam-sum, Clear, lam-plus}
+use Rattle.nef_space.proofs.Vectors.{neg-zero}
 
 -- ---- the slice by a plane and by its opposite form have one cone at each point of the plane
 minus-slope : (h : Form) (d : Vector) → slope (minus_form h) d ≡ neg_ℤ (slope h d)
@@ -23,20 +24,17 @@ minus-lam h p q = let v = toward p q in ring (h.a ∷ h.b ∷ h.c ∷ up.x ∷ u
     (neg (at 0) ⊗ (at 4 ⊗ at 8 ⊖ at 5 ⊗ at 7) ⊕ neg (at 1) ⊗ (at 5 ⊗ at 6 ⊖ at 3 ⊗ at 8) ⊕ neg (at 2) ⊗ (at 3 ⊗ at 7 ⊖ at 4 ⊗ at 6))
     (neg (at 0 ⊗ (at 4 ⊗ at 8 ⊖ at 5 ⊗ at 7) ⊕ at 1 ⊗ (at 5 ⊗ at 6 ⊖ at 3 ⊗ at 8) ⊕ at 2 ⊗ (at 3 ⊗ at 7 ⊖ at 4 ⊗ at 6))) tt
 
-zero-back : (x : ℤ) → neg_ℤ x ≡ pos 0 → x ≡ pos 0
-zero-back x e = omega (arith, ints)
-
 zero-minus : (x : ℤ) → x ≡ pos 0 → neg_ℤ x ≡ pos 0
 zero-minus x e = omega (arith, ints)
 
 pub minus-some : (h : Form) → IsDirection (normal_of h) → IsDirection (normal_of (minus_form h))
-minus-some h i z = i (zero-back h.a z.0, zero-back h.b z.1, zero-back h.c z.2)
+minus-some h i z = i (neg-zero h.a z.0, neg-zero h.b z.1, neg-zero h.c z.2)
 
 pub minus-on : (h : Form) (p : SpacePoint) → form_at h p ≡ pos 0 → form_at (minus_form h) p ≡ pos 0
 minus-on h p e = minus-at h p ∙ zero-minus (form_at h p) e
 
 pub minus-off : (h : Form) (p : SpacePoint) → form_at (minus_form h) p ≡ pos 0 → form_at h p ≡ pos 0
-minus-off h p e = zero-back (form_at h p) (sym (minus-at h p) ∙ e)
+minus-off h p e = neg-zero (form_at h p) (sym (minus-at h p) ∙ e)
 
 pub minus-up : (h : Form) → slope h up ≡ pos 0 → slope (minus_form h) up ≡ pos 0
 minus-up h e = minus-slope h up ∙ zero-minus (slope h up) e
@@ -54,7 +52,7 @@ pub one-slice : (s : Set) (g h : Form) (p : SpacePoint) → form_at g p ≡ pos 
 one-slice s g h p a b same back k = FlatDim-by_germs (sliced s g) (sliced s h) p p (λ v l. (there s g h p a b same back v l, there s h g p b a back same v l)) k
 
 pub minus-slice : (s : Set) (h : Form) (p : SpacePoint) → form_at h p ≡ pos 0 → (k : ℕ) → FlatDim (sliced s (minus_form h)) p k → FlatDim (sliced s h) p k
-minus-slice s h p on = one-slice s (minus_form h) h p (minus-on h p on) on (λ d e. zero-back (slope h d) (sym (minus-slope h d) ∙ e)) (λ d e. minus-slope h d ∙ zero-minus (slope h d) e)
+minus-slice s h p on = one-slice s (minus_form h) h p (minus-on h p on) on (λ d e. neg-zero (slope h d) (sym (minus-slope h d) ∙ e)) (λ d e. minus-slope h d ∙ zero-minus (slope h d) e)
 
 later : (x : SpacePoint) (xs : List SpacePoint) (q : SpacePoint) → Lies (x ∷ xs) q → (x ≡ q → ⊥) → Lies xs q
 later x xs q (inl e) f = absurd (f e)

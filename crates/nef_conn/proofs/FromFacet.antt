@@ -1,5 +1,5 @@
 -- From a facet point of y's line, with a clear way to z: its ray and z's come to one edge, or its ray comes to a vertex beside which z lies.
-use Rattle.nef_conn.proofs.Prelude.{◌≡◌, ℕ, pos, ◌<ℤ◌, arith, ap, ◌∙◌, ◌⊎◌, inl, inr, ⊎_elim, subst, ints, sign, by_order, nought-is, Chained, Flat, FlatDim, SpacePoint, Form, form_at, normal_of, SamePoint, toward, IsBetween, Set, Vector, opposite, triple, SameDirection, Drop, FlatDim-one, between-turned, between-inner, even-until, span-1, same-point_sym, between-same, IsAt, at-one, Vertex, Edge, Complex, Corner, Shows, IsVertexPoint, IsEdgePoint, LiesIn, PlaneMeet, meets_vertex, meets_edge, IsFirstInPlane, IsCornerAt, RayNames, IsFlatIn, plane-way, between-way, between-start, between-outer, same-itself, dim-same, plane-ahead, end-meets, ahead-same, between-level, Cut, HalfEdge, edge-halves, plane-between, FacetLink, level-of_opposite, triple-turned, SameDirection-turned, SameDirection-trans, parallel-trans, parallel-in_plane, level-way, direction-left}
+use Rattle.nef_conn.proofs.Prelude.{◌≡◌, ℕ, pos, ◌<ℤ◌, arith, ap, ◌∙◌, ◌⊎◌, inl, inr, ⊎_elim, subst, ints, sign, by_order, nought-is, Chained, Flat, FlatDim, SpacePoint, Form, form_at, normal_of, SamePoint, toward, IsBetween, Set, Vector, opposite, triple, SameDirection, Drop, FlatDim-one, between-turned, between-inner, even-until, span-1, same-point_sym, between-same, IsAt, is-at_one, Vertex, Edge, Complex, Corner, Shows, IsVertexPoint, IsEdgePoint, LiesIn, PlaneMeet, meets_vertex, meets_edge, IsFirstInPlane, IsCornerAt, RayNames, IsFlatIn, plane-way, between-way, between-start, between-outer, same-itself, dim-same, plane-ahead, end-meets, ahead-same, between-level, Cut, HalfEdge, edge-halves, plane-between, FacetLink, level-of_opposite, triple-turned, SameDirection-turned, SameDirection-trans, parallel-trans, parallel-in_plane, level-way, direction-left}
 use Rattle.nef_conn.proofs.Chain.{chain-here}
 use Rattle.nef_conn.proofs.Sweep.{cut-of}
 use Rattle.nef_conn.proofs.Triangles.{across-way}
@@ -40,13 +40,13 @@ module _ (s : Set) (C : Complex) (S : Shows s C) (h g : Form) (d : Vector) (y z 
     module _ (k : Corner) (i : ℕ) (I : IsFirstInPlane C h b d (meets_vertex i)) where
       at-vertex : IsVertexPoint C i I.place → IsCornerAt C h (opposite d) (meets_vertex i) k → (N : Beside s C S h g d y z T k) × SameDirection (toward b N.vertex.point) d
       at-vertex (u, a, e) (v, x, f, K, r, o) =
-          let one = at-one C.vertices i u v a (subst (λ (j : ℕ). IsAt C.vertices j v) f K.vertex) in
+          let one = is-at_one C.vertices i u v a (subst (λ (j : ℕ). IsAt C.vertices j v) f K.vertex) in
           let same = subst (λ (t : Vertex). SamePoint t.point I.place) one e in
           let up = ahead-same b I.place v.point d same I.ahead in
           let on = plane-ahead h b v.point d up T.level on-b in
           let N = beside-facet s C S h g d y z T b on-b near-b F.0 clear k v x K r on up
           (λ t c. until (meets_vertex i) I t (between-same b t v.point b t I.place (same-itself b) (same-itself t) same c)) o in
-          (N, subst (λ (t : Vertex). SameDirection (toward b t.point) d) (at-one C.vertices k.vertex v N.vertex K.vertex N.corner.vertex) up)
+          (N, subst (λ (t : Vertex). SameDirection (toward b t.point) d) (is-at_one C.vertices k.vertex v N.vertex K.vertex N.corner.vertex) up)
 
     -- ---- it meets an edge
     module _ (i : ℕ) (J : IsFirstInPlane C h b d (meets_edge i)) where
@@ -102,9 +102,9 @@ module _ (s : Set) (C : Complex) (S : Shows s C) (h g : Form) (d : Vector) (y z 
 
       at-edge : IsEdgePoint C i x × LiesIn C h i → IsFirstInPlane C h z d (meets_edge i)
       at-edge ((e, v, w, a, H, o), (e', v', w', a', H', p, q)) =
-          let one = at-one C.edges i e' e a' a in
-          let low = at-one C.vertices e.low v' v (subst (λ (r : Edge). IsAt C.vertices r.low v') one H'.low) H.low in
-          let high = at-one C.vertices e.high w' w (subst (λ (r : Edge). IsAt C.vertices r.high w') one H'.high) H.high in
+          let one = is-at_one C.edges i e' e a' a in
+          let low = is-at_one C.vertices e.low v' v (subst (λ (r : Edge). IsAt C.vertices r.low v') one H'.low) H.low in
+          let high = is-at_one C.vertices e.high w' w (subst (λ (r : Edge). IsAt C.vertices r.high w') one H'.high) H.high in
           by (subst (λ (r : Vertex). form_at h r.point ≡ pos 0) low p) (subst (λ (r : Vertex). form_at h r.point ≡ pos 0) high q)
         where
           lies : LiesIn C h i

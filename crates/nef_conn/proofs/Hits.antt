@@ -1,5 +1,5 @@
 -- What lies above a skeleton point: a side that touches a vertex or an edge upward, or the upper side of an item of the facet. What lies above equal points, or points of one edge or facet, is linked; for facets that is the converse for items.
-use Rattle.nef_conn.proofs.Prelude.{◌≡◌, ℕ, ◌+◌, pos, arith, refl, sym, ◌∙◌, ◌⊎◌, inl, inr, ⊎_elim, List, ◌∷◌, subst, [], IsChain, Chained, Joined, SpacePoint, form_at, SamePoint, toward, IsBetween, Set, Vector, blend, up, plane_axis, Label, ahead, joined-turned, joined-both, IsAt, Item, item_normal, item_pos, pos_item, OnItem, Side, HasSide, Sees, on-level, at-one, bounds-sees, dir-at, normal-is, Vertex, Edge, Complex, Corner, HasEnds, IsCorner, Shows, item_plane, Spot, at_vertex, on_edge, in_facet, IsSpot, VertexSide, HasSideLabel, IsAbove, RayDown, IsFlatIn, through-at, through-level, axis-in, facet-point, FacetLink, VolumeLink, pos_arcs, across, across-tied, edge-ways, AreTiedItems, corner_of_numbers, along-tied, at-item, IsTied, AreLinkedWhereJoined}
+use Rattle.nef_conn.proofs.Prelude.{◌≡◌, ℕ, ◌+◌, pos, arith, refl, sym, ◌∙◌, ◌⊎◌, inl, inr, ⊎_elim, List, ◌∷◌, subst, [], IsChain, Chained, Joined, SpacePoint, form_at, SamePoint, toward, IsBetween, Set, Vector, blend, up, plane_axis, Label, ahead, joined-turned, joined-both, IsAt, Item, item_normal, item_pos, pos_item, OnItem, Side, HasSide, Sees, on-level, is-at_one, bounds-sees, dir-at, normal-is, Vertex, Edge, Complex, Corner, HasEnds, IsCorner, Shows, item_plane, Spot, at_vertex, on_edge, in_facet, IsSpot, VertexSide, HasSideLabel, IsAbove, RayDown, IsFlatIn, through-at, through-level, axis-in, facet-point, FacetLink, VolumeLink, pos_arcs, across, across-tied, edge-ways, AreTiedItems, corner_of_numbers, along-tied, at-item, IsTied, AreLinkedWhereJoined}
 use Rattle.nef_conn.proofs.Chain.{chain-both, chain-one, chain-back, chain-here}
 use Rattle.nef_conn.proofs.Touch.{bound, Touch, vertex-frame, edge-frame, no-way}
 
@@ -73,12 +73,12 @@ module _ (s : Set) (C : Complex) (S : Shows s C) where
 
   seer-at : (x : VertexSide) (l : Label) (v : Vertex) (i : ℕ) → HasSideLabel C x l → IsAt C.vertices i v → x.vertex ≡ i → HasSide v.map x.side l
   seer-at x l v i (u, b, h) a e =
-      let f = at-one C.vertices i u v (subst (λ (n : ℕ). IsAt C.vertices n u) e b) a in
+      let f = is-at_one C.vertices i u v (subst (λ (n : ℕ). IsAt C.vertices n u) e b) a in
       subst (λ (r : Vertex). HasSide r.map x.side l) f h
 
   pub over-of : (o : Spot) (z : SpacePoint) (x : VertexSide) (l : Label) → IsSpot C o z → IsAbove C z o x → HasSideLabel C x l → Over z x
   over-of (at_vertex k) z x l (u, b, e) (v, a, f, sight) has =
-      let g = at-one C.vertices k u v b a in
+      let g = is-at_one C.vertices k u v b a in
       let n = bound s v up in
       inl (
         k,
@@ -92,9 +92,9 @@ module _ (s : Set) (C : Complex) (S : Shows s C) where
         },
       )
   over-of (on_edge k) z x l (g, u, w, b, G, t) (e, v, a, c, f, bounds) has =
-      let same = at-one C.edges k g e b a in
+      let same = is-at_one C.edges k g e b a in
       let G' = subst (λ (j : Edge). HasEnds C j u w) same G in
-      let one = at-one C.vertices e.low u v G'.low c in
+      let one = is-at_one C.vertices e.low u v G'.low c in
       let H = subst (λ (j : Vertex). HasEnds C e j w) one G' in
       let W = edge-ways s C S k e v w a H in
       let sight = bounds-sees v.map (S.cones e.low v c).valid.shaped e.low_svertex up x.side bounds in

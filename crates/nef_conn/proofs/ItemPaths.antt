@@ -1,9 +1,9 @@
 -- Along a path of even segments within a facet, the ends of each segment in its turn: so the converse comes to single segments.
 use Rattle.nef_conn.proofs.Prelude.{◌≡◌, ℕ, pos, List, ◌∷◌, inl, inr, ⊎_elim, subst, [], Chained, Joined, IsEven, IsEvenPath, SpacePoint, Form, form_at, normal_of, slope, toward, Set, Vector, opposite, IsDirection, IsNormal, SameDirection, plane_dir, carriers, FlatDim-one, start-close, flat-way, even-germs, joined-germs, joined-turned, joined-both, reach_all, Item, item_normal, normal-direction, Vertex, Complex, Corner, IsCorner, Shows, item_plane, RayNames, IsFlatIn, between-way, between-start, same-itself, near_point, near-between, flats-carried, flats-one, plane-onward, weight, normal-scaled, facet-behind, FacetLink, through-same, way_inward, NamesFor, NamesOfSegments, ItemsBySegments, zero-decided, dot-zero, level-of_opposite, SameDirection-turned, SameDirection-trans, opposite-same, level-way, direction-right}
-use Rattle.nef_conn.proofs.Onward.{level-kept}
 use Rattle.nef_conn.proofs.WayInward.{names-same, dir-level, dir-same}
 use Rattle.nef_conn.proofs.Reached.{items-name}
 use Rattle.nef_conn.proofs.Chain.{chain-both, chain-back}
+use Rattle.law_complex.proofs.FacetEnds.{level-normal}
 
 -- ---- an even segment from a point of a facet stays in its plane
 module _ (s : Set) (h : Form) (r t : SpacePoint) (on : form_at h r ≡ pos 0) (F : IsFlatIn s h r) (even : IsEven s 2 r t) where
@@ -88,7 +88,7 @@ module _ (s : Set) (C : Complex) (S : Shows s C) (names : NamesOfSegments s C) (
   inward = opposite-same (plane_dir (normal_of h)) (plane_dir (item_normal x)) (dir-same (normal_of h) (item_normal x) (SameDirection-turned (item_normal x) (normal_of h) to-h))
 
   level : slope h (way_inward x) ≡ pos 0
-  level = level-kept (item_normal x) (normal_of h) (way_inward x) to-h (level-of_opposite (item_normal x) (plane_dir (item_normal x)) (dir-level (item_normal x)))
+  level = level-normal (item_normal x) (normal_of h) (way_inward x) to-h (level-of_opposite (item_normal x) (plane_dir (item_normal x)) (dir-level (item_normal x)))
 
   pub joined-names : Chained (FacetLink C) k l
   joined-names = walk s C S names h h-normal (way_inward x) inward (direction-right (opposite (plane_dir (normal_of h))) (way_inward x) inward) level J.1 p q k l A.on_plane A.flat A.named path named-q

@@ -1,5 +1,5 @@
 -- The edge that leads from a svertex, seen from there.
-use Rattle.nef_conn.proofs.Prelude.{◌≡◌, ℕ, pos, refl, sym, ◌∙◌, ◌⊎◌, inl, inr, ⊎_elim, subst, Flat, FlatDim, SpacePoint, Form, form_at, toward, IsBetween, Set, Vector, opposite, SameDirection, between-turned, IsAt, MapVertex, Arc, arc_item, dir_of, at-one, arc-at, Vertex, Edge, Complex, Corner, HasEnds, IsCorner, Shows, IsEdgePoint, LiesIn, edge-points, edge-way, svertex-edge, cross-back, ahead-back, FacetLink, edge-ways, SameDirection-turned, SameDirection-trans, opposite-same, opposite-way, opposite-twice}
+use Rattle.nef_conn.proofs.Prelude.{◌≡◌, ℕ, pos, refl, sym, ◌∙◌, ◌⊎◌, inl, inr, ⊎_elim, subst, Flat, FlatDim, SpacePoint, Form, form_at, toward, IsBetween, Set, Vector, opposite, SameDirection, between-turned, IsAt, MapVertex, Arc, arc_item, dir_of, is-at_one, arc-at, Vertex, Edge, Complex, Corner, HasEnds, IsCorner, Shows, IsEdgePoint, LiesIn, edge-points, edge-way, svertex-edge, cross-back, ahead-back, FacetLink, edge-ways, SameDirection-turned, SameDirection-trans, opposite-same, opposite-way, opposite-twice}
 
 -- an edge leads from svertex a of vertex i, which is v, whose svertex u is, to the svertex there_end of the vertex there, which is other
 pub record LeadsFrom (s : Set) (C : Complex) (i a : ℕ) (v : Vertex) (u : MapVertex) : Type 0 where
@@ -25,7 +25,7 @@ module _ (s : Set) (C : Complex) (S : Shows s C) (i a : ℕ) (v : Vertex) (u : M
       let w = E.high_vertex in
       let H : HasEnds C e v w = record { low = subst (λ (j : ℕ). IsAt C.vertices j v) (sym low) at-i; high = E.is_high } in
       let W = edge-ways s C S n e v w at-n H in
-      let one = at-one v.map.svertices a W.low u (subst (λ (j : ℕ). IsAt v.map.svertices j W.low) sv W.is_low) at-a in
+      let one = is-at_one v.map.svertices a W.low u (subst (λ (j : ℕ). IsAt v.map.svertices j W.low) sv W.is_low) at-a in
       record {
         number = n;
         edge = e;
@@ -48,7 +48,7 @@ module _ (s : Set) (C : Complex) (S : Shows s C) (i a : ℕ) (v : Vertex) (u : M
       let w = E.low_vertex in
       let H : HasEnds C e w v = record { low = E.is_low; high = subst (λ (j : ℕ). IsAt C.vertices j v) (sym high) at-i } in
       let W = edge-ways s C S n e w v at-n H in
-      let one = at-one v.map.svertices a W.high u (subst (λ (j : ℕ). IsAt v.map.svertices j W.high) sv W.is_high) at-a in
+      let one = is-at_one v.map.svertices a W.high u (subst (λ (j : ℕ). IsAt v.map.svertices j W.high) sv W.is_high) at-a in
       let away = opposite-way W.low.dir W.high.dir W.back in
       record {
         number = n;

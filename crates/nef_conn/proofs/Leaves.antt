@@ -1,5 +1,5 @@
 -- What lies above a vertex or an edge is linked with what lies above the edge or facet that leaves it in the first direction, down from up, that isn't free.
-use Rattle.nef_conn.proofs.Prelude.{ℕ, ◌+◌, ◌<◌, ◌≤◌, arith, sym, ◌∙◌, ◌⊎◌, inl, inr, ⊎_elim, List, subst, Chained, Flat, FlatDim, Joined, SpacePoint, SamePoint, toward, IsBetween, Set, Vector, blend, dot, cross, opposite, IsZero, IsDirection, SameDirection, up, FlatDim-one, between-turned, between-inner, between-mix, ahead, joined-both, same-point_sym, toward-point, between-same, forms, SameSigns, same-nought, at-one, IsAt, Beside, same_way, other_way, beside, amount, far-keeps, far-level, Vertex, Edge, Complex, Corner, HasEnds, Shows, VertexSide, edge-points, edge-way, ahead-back, dim-same, between-way, between-ends, between-outer, same-itself, same-point_trans, VolumeLink, IsUpright, IsEvenAfter, EdgeWays, edge-ways, tied-ray, AreLinkedWhereJoined, nought-or, zero-decided, SameDirection-turned, SameDirection-trans, dir-signs, opposite-way, direction-left}
+use Rattle.nef_conn.proofs.Prelude.{ℕ, ◌+◌, ◌<◌, ◌≤◌, arith, sym, ◌∙◌, ◌⊎◌, inl, inr, ⊎_elim, List, subst, Chained, Flat, FlatDim, Joined, SpacePoint, SamePoint, toward, IsBetween, Set, Vector, blend, dot, cross, opposite, IsZero, IsDirection, SameDirection, up, FlatDim-one, between-turned, between-inner, between-mix, ahead, joined-both, same-point_sym, toward-point, between-same, forms, SameSigns, same-nought, is-at_one, IsAt, Beside, same_way, other_way, beside, amount, far-keeps, far-level, Vertex, Edge, Complex, Corner, HasEnds, Shows, VertexSide, edge-points, edge-way, ahead-back, dim-same, between-way, between-ends, between-outer, same-itself, same-point_trans, VolumeLink, IsUpright, IsEvenAfter, EdgeWays, edge-ways, tied-ray, AreLinkedWhereJoined, nought-or, zero-decided, SameDirection-turned, SameDirection-trans, dir-signs, opposite-way, direction-left}
 use Rattle.law_near.proofs.Points.{mix_point}
 use Rattle.nef_conn.proofs.SameRay.{on-ray}
 use Rattle.nef_conn.proofs.Chain.{chain-both, chain-back}
@@ -134,7 +134,7 @@ module _ (s : Set) (C : Complex) (S : Shows s C) (upright : IsUpright C) (linked
           where
             by : (x0 : VertexSide) → Seer i v x0 (blend (bound s v f + 1) g 1 f) → IsAt C.vertices i w → Seer i w h (blend n d 1 up) → Chained (VolumeLink C) x0 h
             by x0 p b' q =
-                let one = at-one C.vertices i w v b' a in
+                let one = is-at_one C.vertices i w v b' a in
                 let q' = subst (λ (u : Vertex). Seer i u h (blend n d 1 up)) one q in
                 let l = subst (λ (u : Vertex). bound s u up ≤ n) one large in
                 same-seers s C S i v a x0 h (blend (bound s v f + 1) g 1 f) (blend n d 1 up) p q' (ways-above s C S upright (forms v.map) g d f (bound s v f + 1) n way up-side (omega arith) (omega arith))

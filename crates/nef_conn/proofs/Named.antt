@@ -9,12 +9,12 @@
 use Rattle.nef_conn.proofs.Prelude.{◌≡◌, ℕ, pos, ◌<ℤ◌, sym, ◌∙◌, ◌⊎◌, inl, inr, ⊎_elim, subst, Chained, FlatDim, SpacePoint, Form, form_at, normal_of, plane_through, SamePoint, toward, IsBetween, Set, Vector, opposite, dot, triple, IsDirection, SameDirection, plane_dir, SameGerms, FlatDim-by_germs, ahead, joined-germs, joined-turned, joined-both, between-turned, point-toward, IsAt, Arc, Item, arc_item, item_normal, dir_of, OnItem, normal-is, same-plus, same-minus, on-direction, on-level, dir-at, arc-at, turn-same, turn-last, Vertex, Edge, Complex, Corner, HasEnds, IsCorner, Shows, item_plane, PlaneMeet, meets_edge, Meets, IsFirstInPlane, IsArcOnSide, IsCornerAt, IsFlatIn, FlatAre, between-way, between-cases, same-itself, near_point, near-between, flats-carried, plane-ahead, two-off, meets-on, IsInFacetOf, ahead-back, through-at, weight, normal-scaled, through-level, facet-behind, LinkAcross, FacetLink, ahead-toward, even-after, IsTied, tied-both, tied-ahead, facet-near, at-item, item-has_point, one-item, EdgeWays, edge-ways, tied-low, EndsOnSide, end-level, close_way, on-close, tied-close_way, through-same, way_inward, NamesFor, dot-zero, SameDirection-turned, SameDirection-trans, dir-self, opposite-same, level-way, opposite-twice, direction-left, direction-right}
 use Rattle.law_complex.proofs.links.ItemLinks.{items-joined}
 use Rattle.nef_conn.proofs.Chain.{chain-here, chain-before}
-use Rattle.nef_conn.proofs.Onward.{level-kept}
 use Rattle.nef_conn.proofs.SamePlanes.{on-too}
 use Rattle.nef_conn.proofs.WayInward.{names-same, dir-level, dir-some, dir-same}
+use Rattle.law_complex.proofs.FacetEnds.{level-normal}
 
 -- ---- planes
-own-plane : (n : Vector) (p : SpacePoint) → form_at (plane_through n p) p ≡ pos 0
+pub own-plane : (n : Vector) (p : SpacePoint) → form_at (plane_through n p) p ≡ pos 0
 own-plane n p = through-at n p p ∙ dot-zero n (toward p p) (point-toward p p (same-itself p))
 
 flats-in : (s : Set) (q p : SpacePoint) (n : Vector) → FlatDim s q 2 → FlatAre s q n → IsFlatIn s (plane_through n p) q
@@ -55,8 +55,8 @@ module _ (s : Set) (C : Complex) (S : Shows s C) (j : Corner) (v : Vertex) (x : 
           flat = (
             N.flat.0,
             λ u. (
-              λ f. level-kept (normal_of g) (normal_of h) u one-normal ((N.flat.1 u).0 f),
-              λ z. (N.flat.1 u).1 (level-kept (normal_of h) (normal_of g) u (SameDirection-turned (normal_of g) (normal_of h) one-normal) z),
+              λ f. level-normal (normal_of g) (normal_of h) u one-normal ((N.flat.1 u).0 f),
+              λ z. (N.flat.1 u).1 (level-normal (normal_of h) (normal_of g) u (SameDirection-turned (normal_of g) (normal_of h) one-normal) z),
             ),
           );
           joined = λ p a.

@@ -1,5 +1,5 @@
 -- An even segment from a vertex stays at it, and one from an edge point stays within the edge; so vertices are joined where they are one, and points of edges where the edges are one.
-use Rattle.nef_conn.proofs.Prelude.{◌≡◌, ℕ, sym, ◌⊎◌, inl, inr, ⊎_elim, List, ◌∷◌, subst, arith, [], Flat, FlatDim, IsEven, IsEvenPath, Joined, SpacePoint, SamePoint, toward, IsBetween, Set, Vector, opposite, cross, IsZero, IsDirection, SameDirection, carriers, FlatDim-one, FlatDim-by_germs, between-turned, between-inner, start-close, flat-way, joined-germs, signs-same, same-point_sym, toward-point, point-toward, between-same, reach_all, IsAt, Beside, same_way, other_way, beside, at-one, Vertex, Edge, Complex, HasEnds, Shows, near_point, near-between, edge-points, edge-way, ahead-back, dim-same, between-way, between-outer, between-ends, between-start, same-itself, same-point_trans, joined-even, joined-cell, JoinedAreAsFlat, JoinedVertices, JoinedEdges, zero-decided, SameDirection-turned, SameDirection-trans, opposite-way}
+use Rattle.nef_conn.proofs.Prelude.{◌≡◌, ℕ, sym, ◌⊎◌, inl, inr, ⊎_elim, List, ◌∷◌, subst, arith, [], Flat, FlatDim, IsEven, IsEvenPath, Joined, SpacePoint, SamePoint, toward, IsBetween, Set, Vector, opposite, cross, IsZero, IsDirection, SameDirection, carriers, FlatDim-one, FlatDim-by_germs, between-turned, between-inner, start-close, flat-way, joined-germs, signs-same, same-point_sym, toward-point, point-toward, between-same, reach_all, IsAt, Beside, same_way, other_way, beside, is-at_one, Vertex, Edge, Complex, HasEnds, Shows, near_point, near-between, edge-points, edge-way, ahead-back, dim-same, between-way, between-outer, between-ends, between-start, same-itself, same-point_trans, joined-even, joined-cell, JoinedAreAsFlat, JoinedVertices, JoinedEdges, zero-decided, SameDirection-turned, SameDirection-trans, opposite-way}
 use Rattle.nef_conn.proofs.OneNamed.{one-vertex, one-edge}
 use Rattle.nef_conn.proofs.SameRay.{on-ray}
 
@@ -39,7 +39,7 @@ joined-vertices s C i j p q S (v, a, e) (w, b, f) = (to, from)
 
     from : i ≡ j → Joined s p q
     from n =
-        let one = at-one C.vertices j v w (subst (λ (m : ℕ). IsAt C.vertices m v) n a) b in
+        let one = is-at_one C.vertices j v w (subst (λ (m : ℕ). IsAt C.vertices m v) n a) b in
         let same = subst (λ (u : Vertex). SamePoint u.point q) (sym one) f in
         joined-cell s p q (signs-same (carriers s) p q (same-point_trans p v.point q (same-point_sym v.point p e) same))
 
@@ -130,9 +130,9 @@ joined-edges s C i j p q S (e, v, w, a, H, b) (f, x, y, c, K, d) = (to, from)
 
     from : i ≡ j → Joined s p q
     from n =
-        let one = at-one C.edges j e f (subst (λ (m : ℕ). IsAt C.edges m e) n a) c in
+        let one = is-at_one C.edges j e f (subst (λ (m : ℕ). IsAt C.edges m e) n a) c in
         let ends = subst (λ (g : Edge). HasEnds C g v w) one H in
-        let low = at-one C.vertices f.low x v K.low ends.low in
-        let high = at-one C.vertices f.high y w K.high ends.high in
+        let low = is-at_one C.vertices f.low x v K.low ends.low in
+        let high = is-at_one C.vertices f.high y w K.high ends.high in
         let inner = subst (λ (u : Vertex). IsBetween v.point q u.point) high (subst (λ (u : Vertex). IsBetween u.point q y.point) low d) in
         along-edge s C S i e v w a H p q b inner

@@ -1,7 +1,6 @@
 -- The number of components is one: of two lists with a point of each component, each point of the one is joined to just one of the other.
-use Rattle.nef_conn.proofs.Prelude.{◌≡◌, ℕ, zero, suc, ◌<◌, ◌≤◌, arith, refl, ◌⊎◌, inl, inr, ⊎_elim, List, length, subst, cases_order, Joined, SpacePoint, Set, joined-both, joined-turned, IsAt, at-one, AreComponents, OneCount}
-use Rattle.nef_conn.proofs.Counted.{at-some}
-use Rattle.nef_conn.proofs.Reached.{within}
+use Rattle.nef_conn.proofs.Prelude.{◌≡◌, ℕ, zero, suc, ◌<◌, ◌≤◌, arith, refl, ◌⊎◌, inl, inr, ⊎_elim, List, length, subst, cases_order, Joined, SpacePoint, Set, joined-both, joined-turned, IsAt, is-at_one, AreComponents, OneCount}
+use Rattle.nef_space.proofs.Lists.{is-at_some, is-at_within}
 
 -- what has the last number takes the number z instead
 abbrev Kept : (ℕ → ℕ → Type 0) → ℕ → ℕ → ℕ → ℕ → ℕ → Type 0
@@ -40,13 +39,13 @@ module _ (s : Set) (d : ℕ) (ps qs : List SpacePoint) (A : AreComponents s d ps
     where
       found : (i : ℕ) → i < length ps → (j : ℕ) × (j < length qs) × Meets i j
       found i l =
-          let p = at-some ps i l in
+          let p = is-at_some ps i l in
           let q = B.all p.0 (A.flat i p.0 p.1) in
-          (q.0, within qs q.0 q.1 q.2, (p.0, q.1, p.1, q.2, q.3))
+          (q.0, is-at_within qs q.0 q.1 q.2, (p.0, q.1, p.1, q.2, q.3))
 
       apart : (i k j : ℕ) → Meets i j → Meets k j → i ≡ k
       apart i k j (p, q, a, b, J) (r, t, c, e, K) =
-          A.apart i k p r a c (joined-both s p q r J (joined-turned s r q (subst (λ (u : SpacePoint). Joined s r u) (at-one qs j t q e b) K)))
+          A.apart i k p r a c (joined-both s p q r J (joined-turned s r q (subst (λ (u : SpacePoint). Joined s r u) (is-at_one qs j t q e b) K)))
 
 -- THERE IS ONE NUMBER OF COMPONENTS
 pub one-count : OneCount

@@ -1,10 +1,10 @@
 -- What a ray within a plane first meets, and the corner there, are one.
-use Rattle.nef_conn.proofs.Prelude.{◌≡◌, ℕ, ◌<◌, pos, ◌<ℤ◌, ◌+ℤ◌, ◌*ℤ◌, arith, ap, sym, ◌∙◌, inl, inr, ◌⊎◌, ⊎_elim, ◌∷◌, subst, [], cases_order, ints, ring, at, num, ◌⊕◌, ◌⊗◌, SpacePoint, Form, normal_of, slope, toward, SamePoint, IsBetween, Set, Vector, dot, cross, opposite, blend, triple, IsDirection, IsZero, IsNormal, SameDirection, Label, between-same, between-turned, between-inner, point_below-apart, same-point_sym, forms, IsAt, MapVertex, Arc, arc_item, items, OnItem, Map, dir_of, Shaped, at-arc, Ends, ends-of, normals-same, amount, at-one, dir-at, dot-comb, Vertex, Edge, Complex, Corner, HasEnds, IsEdge, IsEdgeBelow, Shows, IsEdgePoint, PlaneMeet, meets_vertex, meets_edge, Meets, IsFirstInPlane, IsArcOnSide, IsCornerAt, RayNames, edge-points, source-meets, target-meets, ahead-back, between-way, between-outer, same-itself, same-point_trans, SameDirection-turned, SameDirection-trans, dir-self, parallel-trans, opposite-same, opposite-way, direction-right}
+use Rattle.nef_conn.proofs.Prelude.{◌≡◌, ℕ, ◌<◌, pos, ◌<ℤ◌, ◌+ℤ◌, ◌*ℤ◌, arith, ap, sym, ◌∙◌, inl, inr, ◌⊎◌, ⊎_elim, ◌∷◌, subst, [], cases_order, ints, ring, at, num, ◌⊕◌, ◌⊗◌, SpacePoint, Form, normal_of, slope, toward, SamePoint, IsBetween, Set, Vector, dot, cross, opposite, blend, triple, IsDirection, IsZero, IsNormal, SameDirection, Label, between-same, between-turned, between-inner, point_below-apart, same-point_sym, forms, IsAt, MapVertex, Arc, arc_item, items, OnItem, Map, dir_of, Shaped, at-arc, Ends, ends-of, normals-same, amount, is-at_one, dir-at, dot-comb, Vertex, Edge, Complex, Corner, HasEnds, IsEdge, IsEdgeBelow, Shows, IsEdgePoint, PlaneMeet, meets_vertex, meets_edge, Meets, IsFirstInPlane, IsArcOnSide, IsCornerAt, RayNames, edge-points, source-meets, target-meets, ahead-back, between-way, between-outer, same-itself, same-point_trans, SameDirection-turned, SameDirection-trans, dir-self, parallel-trans, opposite-same, opposite-way, direction-right}
 use Rattle.nef_space.specs.Numbers.{IsBelow}
-use Rattle.nef_conn.proofs.Onward.{level-kept}
 use Rattle.nef_conn.proofs.SamePlanes.{side-turned}
 use Rattle.nef_conn.proofs.SameRay.{on-ray}
 use Rattle.nef_conn.proofs.Reached.{toward-normal}
+use Rattle.law_complex.proofs.FacetEnds.{level-normal}
 
 edge-same : (e f : Edge) → e.low ≡ f.low → e.low_svertex ≡ f.low_svertex → e.high ≡ f.high → e.high_svertex ≡ f.high_svertex → e.mark ≡ f.mark → e ≡ f
 edge-same e f h i j k l =
@@ -38,7 +38,7 @@ module _ (M : Map) (V : Shaped M) (j : ℕ) (u : MapVertex) (b : IsAt M.svertice
 
     level-close : dot a.normal u.dir ≡ pos 0 → dot a.normal c ≡ pos 0
     level-close z = dot-comb a.normal (pos K) u.dir (pos 1) f ∙ ap (λ r. pos K *ℤ r +ℤ pos 1 *ℤ dot a.normal f) z
-        ∙ ap (λ r. pos K *ℤ pos 0 +ℤ pos 1 *ℤ r) (level-kept n a.normal f (SameDirection-turned a.normal n w) level) ∙ ring (pos K ∷ []) (at 0 ⊗ num (pos 0) ⊕ num (pos 1) ⊗ num (pos 0)) (num (pos 0)) tt
+        ∙ ap (λ r. pos K *ℤ pos 0 +ℤ pos 1 *ℤ r) (level-normal n a.normal f (SameDirection-turned a.normal n w) level) ∙ ring (pos K ∷ []) (at 0 ⊗ num (pos 0) ⊕ num (pos 1) ⊗ num (pos 0)) (num (pos 0)) tt
 
     turned : IsArcOnSide at_point j n f a → IsArcOnSide at_point j a.normal f a
     turned o = side-turned at_point j n a.normal f f a (SameDirection-turned a.normal n w) (dir-self f some) o
@@ -153,23 +153,23 @@ module _ (s : Set) (C : Complex) (S : Shows s C) where
     one-edge_through =
         let g = one-vertex e.low f.low E.low_vertex F.low_vertex E.is_low F.is_low lows in
         let h = one-vertex e.high f.high E.high_vertex F.high_vertex E.is_high F.is_high highs in
-        let one = at-one C.vertices f.low E.low_vertex F.low_vertex (subst (λ (j : ℕ). IsAt C.vertices j E.low_vertex) g E.is_low) F.is_low in
-        let other = at-one C.vertices f.high E.high_vertex F.high_vertex (subst (λ (j : ℕ). IsAt C.vertices j E.high_vertex) h E.is_high) F.is_high in
+        let one = is-at_one C.vertices f.low E.low_vertex F.low_vertex (subst (λ (j : ℕ). IsAt C.vertices j E.low_vertex) g E.is_low) F.is_low in
+        let other = is-at_one C.vertices f.high E.high_vertex F.high_vertex (subst (λ (j : ℕ). IsAt C.vertices j E.high_vertex) h E.is_high) F.is_high in
         let leaves = subst (λ (x : Vertex). IsAt x.map.svertices e.low_svertex E.low_end) one E.leaves in
         let arrives = subst (λ (x : Vertex). IsAt x.map.svertices e.high_svertex E.high_end) other E.arrives in
         let m = (shaped f.low F.low_vertex F.is_low).svertices_apart e.low_svertex f.low_svertex E.low_end F.low_end leaves F.leaves ways in
         let back = SameDirection-trans E.high_end.dir (opposite way_e) F.high_end.dir (SameDirection-turned (opposite way_e) E.high_end.dir (opposite-way way_e E.high_end.dir E.back))
         (SameDirection-trans (opposite way_e) (opposite way_f) F.high_end.dir (opposite-same way_e way_f ways) (opposite-way way_f F.high_end.dir F.back)) in
         let n = (shaped f.high F.high_vertex F.is_high).svertices_apart e.high_svertex f.high_svertex E.high_end F.high_end arrives F.arrives back in
-        let start = at-one F.low_vertex.map.svertices f.low_svertex E.low_end F.low_end (subst (λ (j : ℕ). IsAt F.low_vertex.map.svertices j E.low_end) m leaves) F.leaves in
+        let start = is-at_one F.low_vertex.map.svertices f.low_svertex E.low_end F.low_end (subst (λ (j : ℕ). IsAt F.low_vertex.map.svertices j E.low_end) m leaves) F.leaves in
         edge-same e f g m h n (E.mark ∙ ap (λ (x : MapVertex). x.mark) start ∙ sym F.mark)
 
   -- the point of an edge is between the ends that the edge has
   pub edge-inside : (k : ℕ) (z : SpacePoint) → IsEdgePoint C k z → (e : Edge) × (E : IsEdge C.vertices e) × IsAt C.edges k e × IsBetween E.low_vertex.point z E.high_vertex.point
   edge-inside k z (e, v, w, a, H, b) =
       let E = S.edges.edges k e a in
-      let f = at-one C.vertices e.low v E.low_vertex H.low E.is_low in
-      let g = at-one C.vertices e.high w E.high_vertex H.high E.is_high in
+      let f = is-at_one C.vertices e.low v E.low_vertex H.low E.is_low in
+      let g = is-at_one C.vertices e.high w E.high_vertex H.high E.is_high in
       (e, E, a, subst (λ (x : Vertex). IsBetween E.low_vertex.point z x.point) g (subst (λ (x : Vertex). IsBetween x.point z w.point) f b))
 
   -- two edges with one number stand in one place, so points lie on one edge where one point is common
@@ -203,7 +203,7 @@ module _ (s : Set) (C : Complex) (S : Shows s C) where
         let F = edge-inside k z q in
         let b = between-same E.1.low_vertex.point x E.1.high_vertex.point E.1.low_vertex.point z E.1.high_vertex.point (same-itself E.1.low_vertex.point) e (same-itself E.1.high_vertex.point) E.3 in
         let one = one-edge_through i k E.0 F.0 E.1 F.1 z E.2 F.2 b F.3 in
-        let is = at-one C.edges k F.0 g F.2 t in
+        let is = is-at_one C.edges k F.0 g F.2 t in
         (g, u, a, subst (λ (r : Edge). IsAt C.edges i r) (one ∙ is) E.2, l', b', t', w', o')
 
     pub one-met : (y : SpacePoint) (d : Vector) (m n : PlaneMeet) → IsFirstInPlane C h y d m → IsFirstInPlane C h y d n → IsCornerAt C h f n j → IsCornerAt C h f m j
@@ -219,15 +219,15 @@ module _ (s : Set) (C : Complex) (S : Shows s C) where
     pub one-corner : (m : PlaneMeet) → IsCornerAt C h d m j → IsCornerAt C h d m k → j ≡ k
     one-corner (meets_vertex i) (v, x, e, c, r, o) (w, z, f, b, t, q) =
         let n = e ∙ sym f in
-        let same = at-one C.vertices k.vertex v w (subst (λ (a : ℕ). IsAt C.vertices a v) n c.vertex) b.vertex in
+        let same = is-at_one C.vertices k.vertex v w (subst (λ (a : ℕ). IsAt C.vertices a v) n c.vertex) b.vertex in
         let item = subst (λ (u : Vertex). IsAt (items u.map) j.item x) same c.item in
         let on = subst (λ (u : Vertex). OnItem u.map x d) same o in
         corners-same j k n ((shaped k.vertex w b.vertex).no_items_meet j.item k.item x z d item b.item on q)
     one-corner (meets_edge i) (e, v, a, l, p, b, t, r, o) (f, w, c, m, q, g, u, z, x) =
-        let one = at-one C.edges i e f l m in
+        let one = is-at_one C.edges i e f l m in
         let E = S.edges.edges i f m in
-        let low = at-one C.vertices f.low v E.low_vertex (subst (λ (y : Edge). IsAt C.vertices y.low v) one b) E.is_low in
-        let low' = at-one C.vertices f.low w E.low_vertex g E.is_low in
+        let low = is-at_one C.vertices f.low v E.low_vertex (subst (λ (y : Edge). IsAt C.vertices y.low v) one b) E.is_low in
+        let low' = is-at_one C.vertices f.low w E.low_vertex g E.is_low in
         let side = subst (λ (y : Vertex). IsArcOnSide y f.low_svertex (normal_of h) d a) low (subst (λ (y : Edge). IsArcOnSide v y.low_svertex (normal_of h) d a) one o) in
         let side' = subst (λ (y : Vertex). IsArcOnSide y f.low_svertex (normal_of h) d c) low' x in
         corners-same j k (p ∙ ap (λ (y : Edge). y.low) one ∙ sym q)

@@ -1,5 +1,5 @@
 -- Sides above one place, or above points of one edge or one facet, are linked.
-use Rattle.nef_conn.proofs.Prelude.{◌≡◌, ℕ, ◌≤◌, arith, ap, sym, ◌∙◌, ◌⊎◌, inl, inr, ⊎_elim, List, subst, sign, Chained, Flat, FlatDim, Joined, IsEven, SpacePoint, SamePoint, toward, IsBetween, Set, Vector, blend, dot, cross, opposite, IsZero, IsDirection, IsNormal, SameDirection, zero_vector, up, carriers, FlatDim-one, Flat-by_germs, between-turned, between-inner, ahead, even-germs, signs-same, same-point_sym, toward-point, between-same, same-nought, forms, SameSigns, IsAt, pos_item, Beside, same_way, other_way, beside, normals-not_opposite, amount, far-keeps, far-level, at-one, Vertex, Edge, Complex, HasEnds, Shows, VertexSide, edge-points, edge-way, ahead-back, dim-same, between-way, between-cases, same-itself, same-point_trans, VolumeLink, edge-ways, normal-direction, flat_dim-of, facet-near, joined-even, tied-turned, even-cell, AreLinkedWhereJoined, joined-both, nought-or, zero-decided, SameDirection-turned, SameDirection-trans, dir-self, dir-signs, opposite-turned, opposite-way, direction-left}
+use Rattle.nef_conn.proofs.Prelude.{◌≡◌, ℕ, ◌≤◌, arith, ap, sym, ◌∙◌, ◌⊎◌, inl, inr, ⊎_elim, List, subst, sign, Chained, Flat, FlatDim, Joined, IsEven, SpacePoint, SamePoint, toward, IsBetween, Set, Vector, blend, dot, cross, opposite, IsZero, IsDirection, IsNormal, SameDirection, zero_vector, up, carriers, FlatDim-one, Flat-by_germs, between-turned, between-inner, ahead, even-germs, signs-same, same-point_sym, toward-point, between-same, same-nought, forms, SameSigns, IsAt, pos_item, Beside, same_way, other_way, beside, normals-not_opposite, amount, far-keeps, far-level, is-at_one, Vertex, Edge, Complex, HasEnds, Shows, VertexSide, edge-points, edge-way, ahead-back, dim-same, between-way, between-cases, same-itself, same-point_trans, VolumeLink, edge-ways, normal-direction, flat_dim-of, facet-near, joined-even, tied-turned, even-cell, AreLinkedWhereJoined, joined-both, nought-or, zero-decided, SameDirection-turned, SameDirection-trans, dir-self, dir-signs, opposite-turned, opposite-way, direction-left}
 use Rattle.nef_conn.proofs.OneNamed.{one-vertex}
 use Rattle.nef_conn.proofs.SameRay.{on-ray}
 use Rattle.nef_conn.proofs.Hits.{OverVertex, OverEdge, OverFacet, Over, over-item, side-is}
@@ -71,7 +71,7 @@ module _ (s : Set) (C : Complex) (S : Shows s C) where
       → Seer i v x (blend m d 1 f) → Seer k w y (blend n e 1 f) → Chained (VolumeLink C) x y
   seers-linked i k v w x y d e f m n a b g same h l p q =
       let b' = subst (λ (j : ℕ). IsAt C.vertices j w) (sym g) b in
-      let one = at-one C.vertices i w v b' a in
+      let one = is-at_one C.vertices i w v b' a in
       let q' = subst (λ (u : Vertex). Seer i u y (blend n e 1 f)) one (subst (λ (j : ℕ). Seer j w y (blend n e 1 f)) (sym g) q) in
       let l' = subst (λ (u : Vertex). bound s u f ≤ n) one l in
       same-seers s C S i v a x y (blend m d 1 f) (blend n e 1 f) p q' (ways-same (forms v.map) d e f m n same (omega arith) (omega arith))
@@ -80,7 +80,7 @@ module _ (s : Set) (C : Complex) (S : Shows s C) where
   vertices-over z z' x y e (i, v, a, f, T) (k, w, b, g, U) =
       let n = one-vertex s C S i k v w a b (same-point_trans v.point z w.point f (same-point_trans z z' w.point e (same-point_sym w.point z' g))) in
       let b' = subst (λ (j : ℕ). IsAt C.vertices j w) (sym n) b in
-      let one = at-one C.vertices i w v b' a in
+      let one = is-at_one C.vertices i w v b' a in
       let q = subst (λ (u : Vertex). Seer i u y (blend U.steps zero_vector 1 up)) one (subst (λ (j : ℕ). Seer j w y (blend U.steps zero_vector 1 up)) (sym n) U.seer) in
       same-seers s C S i v a x y (blend T.steps zero_vector 1 up) (blend U.steps zero_vector 1 up) T.seer q (λ h l. ap sign (ap (λ (r : Vector). dot h r) (no-way U.steps up ∙ sym (no-way T.steps up))))
 

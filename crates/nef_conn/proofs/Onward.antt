@@ -1,11 +1,7 @@
 -- An arc that ends at an edge goes on along it: at the edge's other end there is an arc of the same plane on the same side, and the two are linked.
 use Rattle.nef_conn.proofs.Prelude.{◌≡◌, ℕ, ◌+◌, pos, ◌<ℤ◌, ◌+ℤ◌, ◌*ℤ◌, neg_ℤ, arith, ap, ◌∙◌, ◌⊎◌, inl, inr, ⊎_elim, ◌∷◌, subst, refl, [], ints, sign, ring, at, num, ◌⊕◌, ◌⊗◌, Germ, SpacePoint, toward, Set, Vector, opposite, blend, dot, cross, triple, IsDirection, SameDirection, IsOpposite, Label, carriers, SameGerms, FlatDim-by_germs, ahead, near-ahead, joined-germs, steep, forms, IsAt, MapVertex, Arc, Item, arc_item, sloop_item, items, item_normal, Map, OnItem, NearLabel, Valid, normal-is, dot-comb, same-plus, same-minus, amount, far-keeps, arc-at, direction-around, turn-same, at-arc, Vertex, Edge, Complex, Corner, HasEnds, IsCorner, Shows, near-label, flats-carried, IsInFacetOf, source-met, target-met, ahead-back, LinkAlong, facet-near, IsTied, tied-turned, tied-both, tied-ahead, EdgeWays, edge-ways, ends-tied, EndsOnSide, end-level, close_way, on-close, tied-close_way, tied-turn, corner_of_numbers, left-turn, EndsAt, ArcsGoOn, dot-comm, square-cross, level-of_opposite, nought-if, SameDirection-turned, SameDirection-trans, dir-self, opposite-turned, level-way, opposite-way, direction-right, right-turn, back-triple}
 use Rattle.law_complex.proofs.FacetCorners.{ItemAt, item-at}
-
--- ---- directions of a plane
--- what lies in a plane lies in each plane with the same normal
-pub level-kept : (n m d : Vector) → SameDirection n m → dot n d ≡ pos 0 → dot m d ≡ pos 0
-level-kept n m d w z = dot-comm m d ∙ level-way d n m w (dot-comm d n ∙ z)
+use Rattle.law_complex.proofs.FacetEnds.{level-normal}
 
 -- ---- an edge seen from one of its ends
 -- an edge leads from svertex a of vertex i, which is v, to svertex b of vertex j, which is w
@@ -149,7 +145,7 @@ module _ (s : Set) (C : Complex) (S : Shows s C) (i a : ℕ) (v : Vertex) (j b :
 
   by-item : (x : Item) (l : ℕ) → IsAt (items M) l x → OnItem M x d → SameDirection (item_normal x) n → ArcThere M c a b t f
   by-item (sloop_item e) l r o w =
-      absurd (L.shaped.no_svertex_on_item b l V.end (sloop_item e) V.is_end r (record { direction = t-some; level = level-kept n e.normal t (SameDirection-turned e.normal n w) level-t }))
+      absurd (L.shaped.no_svertex_on_item b l V.end (sloop_item e) V.is_end r (record { direction = t-some; level = level-normal n e.normal t (SameDirection-turned e.normal n w) level-t }))
   by-item (arc_item e) l r o w = ⊎_elim from-source from-target side
     where
       same : SameDirection n e.normal

@@ -1,5 +1,5 @@
 -- From a vertex beside which z lies, whose arc ends at an edge that leads to z's line: z's ray comes to this edge, and names the arc or the one linked with it along the edge.
-use Rattle.nef_conn.proofs.Prelude.{◌≡◌, ℕ, ℤ, pos, neg_ℤ, ◌<ℤ◌, arith, refl, ap, sym, ◌∙◌, ◌⊎◌, inl, inr, subst, ints, sign, Chained, Flat, FlatDim, SpacePoint, Form, form_at, normal_of, toward, IsBetween, Set, Vector, opposite, dot, triple, IsDirection, SameDirection, between-inner, span-1, IsAt, Arc, Item, arc_item, item_normal, dir_of, same-plus, same-minus, normal-direction, at-arc, at-one, arc-at, dir-at, turn-same, Vertex, Edge, Complex, Corner, HasEnds, IsCorner, Shows, Cut, PlaneMeet, meets_edge, Meets, IsFirstInPlane, IsArcOnSide, IsCornerAt, RayNames, between-way, between-ends, two-off, meets-on, FacetLink, level-of_opposite, SameDirection-turned, dir-self, direction-opposite, direction-right, right-turn, back-triple}
+use Rattle.nef_conn.proofs.Prelude.{◌≡◌, ℕ, ℤ, pos, neg_ℤ, ◌<ℤ◌, arith, refl, ap, sym, ◌∙◌, ◌⊎◌, inl, inr, subst, ints, sign, Chained, Flat, FlatDim, SpacePoint, Form, form_at, normal_of, toward, IsBetween, Set, Vector, opposite, dot, triple, IsDirection, SameDirection, between-inner, span-1, IsAt, Arc, Item, arc_item, item_normal, dir_of, same-plus, same-minus, normal-direction, at-arc, is-at_one, arc-at, dir-at, turn-same, Vertex, Edge, Complex, Corner, HasEnds, IsCorner, Shows, Cut, PlaneMeet, meets_edge, Meets, IsFirstInPlane, IsArcOnSide, IsCornerAt, RayNames, between-way, between-ends, two-off, meets-on, FacetLink, level-of_opposite, SameDirection-turned, dir-self, direction-opposite, direction-right, right-turn, back-triple}
 use Rattle.nef_conn.proofs.Chain.{chain-here, chain-before}
 use Rattle.nef_conn.proofs.OneNamed.{one-met, one-corner}
 use Rattle.nef_conn.proofs.Sector.{Seen, sector_end, Stops}
@@ -127,7 +127,7 @@ module _ (s : Set) (C : Complex) (S : Shows s C) (h g : Form) (d : Vector) (y z 
       met-named l (e, f, b, at-e, is, at-f, at-b, nb, side) = by L.which
         where
           one : e ≡ L.edge
-          one = at-one C.edges L.number e L.edge at-e L.listed
+          one = is-at_one C.edges L.number e L.edge at-e L.listed
 
           by : ((L.edge.low ≡ k.vertex) × (L.edge.low_svertex ≡ a) × (L.edge.high ≡ L.there) × (L.edge.high_svertex ≡ L.there_end) × HasEnds C L.edge v L.other)
               ⊎ ((L.edge.high ≡ k.vertex) × (L.edge.high_svertex ≡ a) × (L.edge.low ≡ L.there) × (L.edge.low_svertex ≡ L.there_end) × HasEnds C L.edge L.other v) → Chained (FacetLink C) k l
@@ -146,7 +146,7 @@ module _ (s : Set) (C : Complex) (S : Shows s C) (h g : Form) (d : Vector) (y z 
               subst (λ (j : Corner). Chained (FacetLink C) k j) (one-corner s C S h (opposite d) (direction-opposite d T.some) level-opposite k l (meets_edge L.number) here (e, f, b, at-e, is, at-f, at-b, nb, side)) (chain-here (FacetLink C) k)
           by (inr (p, q, r, t, H)) =
               let low = ap (λ (j : Edge). j.low) one in
-              let other = at-one C.vertices L.edge.low f L.other (subst (λ (j : ℕ). IsAt C.vertices j f) low at-f) H.low in
+              let other = is-at_one C.vertices L.edge.low f L.other (subst (λ (j : ℕ). IsAt C.vertices j f) low at-f) H.low in
               let there = is ∙ low ∙ r in
               let on-side = subst (λ (j : ℕ). IsArcOnSide L.other j n (opposite d) b) (ap (λ (j : Edge). j.low_svertex) one ∙ t) (subst (λ (x : Vertex). IsArcOnSide x e.low_svertex n (opposite d) b) other side) in
               let K : IsCorner C l L.other (arc_item b) = record {

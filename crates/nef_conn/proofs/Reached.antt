@@ -4,11 +4,7 @@ use Rattle.nef_conn.proofs.Onward.{EdgeAway, from-low, from-high, arc-there, goe
 use Rattle.nef_conn.proofs.WayInward.{dir-level, dir-some, dir-same}
 use Rattle.nef_conn.proofs.Named.{ReachesItem, carried, onward-named, edge-named, side-same}
 use Rattle.nef_conn.proofs.Faces.{leads-away}
-
-pub within : {A : Type 0} (xs : List A) (k : ℕ) (x : A) → IsAt xs k x → k < length xs
-within [] k x h = absurd (is-at_none h)
-within (y ∷ ys) zero x h = omega arith
-within (y ∷ ys) (suc k) x h = omega (arith, within ys k x h)
+use Rattle.nef_space.proofs.Lists.{is-at_within}
 
 -- the far end of an edge at which an arc ends lies in the arc's plane
 far-on : (s : Set) (C : Complex) (S : Shows s C) (i a : ℕ) (v : Vertex) (j b : ℕ) (w : Vertex) (V : EdgeAway s C i a v j b w) (k : Corner) (c : Arc) (K : IsCorner C k v (arc_item c)) → EndsAt c a
@@ -198,7 +194,7 @@ module _ (s : Set) (C : Complex) (S : Shows s C) where
     downward b = (toward T.vertex.point v.point, toward-normal T.vertex.point v.point b, ahead-back v.point T.vertex.point (way_inward (arc_item c)) T.ahead)
 
   climb : (m : ℕ) (j : Corner) (v : Vertex) (c : Arc) → IsCorner C j v (arc_item c) → Rises (way_inward (arc_item c)) → length C.vertices ≤ j.vertex + m → ReachesItem s C j v (arc_item c)
-  climb zero j v c K U l = absurd (omega (arith, within C.vertices j.vertex v K.vertex))
+  climb zero j v c K U l = absurd (omega (arith, is-at_within C.vertices j.vertex v K.vertex))
   climb (suc m) j v c K U l = ⊎_elim (λ r. r)
       (λ (T : StepOn C j v c). ⊎_elim
       (λ o. let h = o.0 in back-here j v c K T (climb m T.corner T.vertex T.arc T.is_corner (rises-there j v c K T U) (omega arith)))

@@ -3,12 +3,12 @@ use Rattle.nef_conn.proofs.Prelude.{◌≡◌, ℕ, ℤ, pos, ◌*ℤ◌, ◌<�
 use Rattle.std.specs.Bool.{one_answer}
 use Rattle.std.specs.Ordering.{int_eq}
 use Rattle.std.proofs.lemmas.Bool.Decides.{Decides-int_eq}
-use Rattle.nef_conn.proofs.Onward.{level-kept}
+use Rattle.law_complex.proofs.FacetEnds.{level-normal}
 
 -- ---- points
 module _ (g h : Form) (y : SpacePoint) (on_g : form_at g y ≡ pos 0) (on_h : form_at h y ≡ pos 0) (w : SameDirection (normal_of g) (normal_of h)) where
   pub on-too : (q : SpacePoint) → form_at g q ≡ pos 0 → form_at h q ≡ pos 0
-  on-too q e = plane-onward h y q (level-kept (normal_of g) (normal_of h) (toward y q) w (plane-way g y q on_g e)) on_h
+  on-too q e = plane-onward h y q (level-normal (normal_of g) (normal_of h) (toward y q) w (plane-way g y q on_g e)) on_h
 
   lies-too : (C : Complex) (k : ℕ) → LiesIn C g k → LiesIn C h k
   lies-too C k (e, v, u, a, H, i, j) = (e, v, u, a, H, on-too v.point i, on-too u.point j)

@@ -5,8 +5,8 @@ use Rattle.law_sphere.proofs.cyclic.Signs.{sgn, is_plus, is_minus, both, one_of,
 use Rattle.law_sphere.proofs.cyclic.StrictlyOn.{same_test}
 use Rattle.law_sphere.proofs.cyclic.Cyclic.{Says, says_both, says_one, says_passes, says_same, implied, FourTest, every_four, holds_at_four}
 use Rattle.law_sphere.proofs.cyclic.Directions.{way_back_passes_the_same}
-use Rattle.nef_conn.proofs.Onward.{level-kept}
 use Rattle.nef_space.proofs.Vectors.{level-opposite}
+use Rattle.law_complex.proofs.FacetEnds.{level-normal}
 
 -- ---- laws of four directions
 says_plus : (z : ℤ) → Says (pos 0 <ℤ z) (is_plus (sgn z))
@@ -70,8 +70,8 @@ sector_end n m (inl w) c = c.target
 sector_end n m (inr w) c = c.source
 
 pub seen-level : (n m d : Vector) → Seen n m → dot n d ≡ pos 0 → dot m d ≡ pos 0
-seen-level n m d (inl w) z = level-kept n m d w z
-seen-level n m d (inr w) z = level-kept (opposite n) m d w (level-opposite n d z)
+seen-level n m d (inl w) z = level-normal n m d w z
+seen-level n m d (inr w) z = level-normal (opposite n) m d w (level-opposite n d z)
 
 -- the other way round
 abbrev pub seen-back : (n m : Vector) → Seen n m → Seen n (opposite m)
@@ -127,14 +127,14 @@ module _ (n m : Vector) (O : Seen n m) (m-some : IsDirection m) (M : Map) (V : S
     end-level = by O
       where
         by : (O : Seen n m) → dot n (way (sector_end n m O c)) ≡ pos 0
-        by (inl w) = level-kept c.normal n (way c.target) same E.target_level
-        by (inr w) = level-kept c.normal n (way c.source) same E.source_level
+        by (inl w) = level-normal c.normal n (way c.target) same E.target_level
+        by (inr w) = level-normal c.normal n (way c.source) same E.source_level
 
     ends-about : IsOnCircle m (way (start_of n m O c)) × IsOnCircle m (way (sector_end n m O c))
     ends-about = by O
       where
         about : (O : Seen n m) (d : Vector) → IsOnCircle c.normal d → IsOnCircle m d
-        about O d o = record { direction = o.direction; level = seen-level n m d O (level-kept c.normal n d same o.level) }
+        about O d o = record { direction = o.direction; level = seen-level n m d O (level-normal c.normal n d same o.level) }
 
         by : (O : Seen n m) → IsOnCircle m (way (start_of n m O c)) × IsOnCircle m (way (sector_end n m O c))
         by (inl w) = (about (inl w) (way c.source) at-source, about (inl w) (way c.target) at-target)
@@ -166,7 +166,7 @@ module _ (n m : Vector) (O : Seen n m) (m-some : IsDirection m) (M : Map) (V : S
     t = dir_of M.svertices (sector_end n m O c)
 
     at-f : IsOnCircle m f
-    at-f = record { direction = on-direction M (arc_item c) f on; level = seen-level n m f O (level-kept c.normal n f same (on-level M (arc_item c) f on)) }
+    at-f = record { direction = on-direction M (arc_item c) f on; level = seen-level n m f O (level-normal c.normal n f same (on-level M (arc_item c) f on)) }
 
     about : IsOnCircle m s × IsOnCircle m t
     about = ends-about n m O m-some M V k c listed same
@@ -233,4 +233,4 @@ module _ (n m : Vector) (O : Seen n m) (m-some : IsDirection m) (M : Map) (V : S
   turned k (arc_item c) listed same on = arc-turned k c listed same on
   turned k (sloop_item l) listed same on =
       let level-opposite = SameDirection-turned l.normal n same in
-      inl (record { on = record { direction = g-some; level = level-kept n l.normal g level-opposite level }; between = λ e i z p q. record { direction = i; level = level-kept n l.normal e level-opposite z } })
+      inl (record { on = record { direction = g-some; level = level-normal n l.normal g level-opposite level }; between = λ e i z p q. record { direction = i; level = level-normal n l.normal e level-opposite z } })

@@ -1,6 +1,7 @@
 -- Triangles that lie between two lines along up, beside which no vertex lies: what falls from the one side comes down to what leaves the other.
 use Rattle.nef_conn.proofs.Prelude.{◌≡◌, ℕ, ◌+◌, ℤ, pos, ◌+ℤ◌, ◌-ℤ◌, ◌*ℤ◌, ◌<ℤ◌, ◌≤ℤ◌, neg_ℤ, arith, ap, sym, ◌∙◌, ◌⊎◌, inl, inr, ⊎_elim, ◌∷◌, List, refl, [], ints, sign, Lies, ring, at, num, neg, ◌⊕◌, ◌⊖◌, ◌⊗◌, Poly, by_order, mul_pos, mul_nonneg, cancel_lt, plus-is, minus-is, nought-is, sign-plus, sign-minus, plus-of, FlatDim, IsVertex, SpacePoint, Form, form_at, normal_of, slope, plane_through, SamePoint, toward, IsBetween, Within, Set, Vector, opposite, cross, triple, IsDirection, SameDirection, up, FlatDim-one, same-nought, between-way, dim-same, turn-last, turns, same-plus, same-minus, IsFlatIn, through-at, angle, turn-at, angle-turned, angle-inside, between-plus, IsInTriangle, LiesAlong, vector-same, triple-dot, triple-turned, SameDirection-turned, SameDirection-trans, apart, right-turn, each, lies-each, keeps-all, signs-same, all-vertices, reach_all, nonneg-of}
 use Rattle.nef_conn.proofs.Triangles.{on-second, at-corner, never-passes, third-side}
+use Rattle.law_near.proofs.Meets.{triple-same}
 
 -- ---- signs of products
 -- a = b c - d e, with a = t u, t > 0, b, d > 0, c >= 0, e <= 0
@@ -61,9 +62,6 @@ down-turn n v d w =
     let e = right-turn n v up in
     let f = triple-turned n up v in
     turn-last n v (opposite up) d (SameDirection-turned d (opposite up) w) ∙ ap sign (omega (arith, ints))
-
-triple-self : (n v : Vector) → triple n v v ≡ pos 0
-triple-self n v = let e = triple-turned n v v in omega (arith, ints)
 
 -- sums of differences
 pub lam-plus : (n : Vector) (a b c : SpacePoint) → pos 0 ≤ℤ lam n a b → pos 0 <ℤ lam n b c → pos 0 <ℤ lam n a c
@@ -187,7 +185,7 @@ module _ (t : Set) (h : Form) (hn : IsDirection (normal_of h)) (level : slope h 
           where
             left : (pos 0 <ℤ triple n (toward b c) (toward b r)) ⊎ IsBetween b r c → pos 0 ≤ℤ triple n (toward b c) (toward b r)
             left (inl d) = omega (arith, ints)
-            left (inr d) = let e = turn-last n (toward b c) (toward b r) (toward b c) (between-way b r c d) in let f = triple-self n (toward b c) in let z = same-nought (triple n (toward b c) (toward b c)) (triple n (toward b c) (toward b r)) (sym e) f in omega (arith, ints)
+            left (inr d) = let e = turn-last n (toward b c) (toward b r) (toward b c) (between-way b r c d) in let f = triple-same n (toward b c) in let z = same-nought (triple n (toward b c) (toward b c)) (triple n (toward b c) (toward b r)) (sym e) f in omega (arith, ints)
 
             before-start : (yc bc : ℤ) → pos b.w *ℤ yc ≡ pos c.w *ℤ lam n y b +ℤ pos y.w *ℤ bc → yc ≡ pos 0 → bc <ℤ pos 0
             before-start yc bc q e =
@@ -279,7 +277,7 @@ module _ (t : Set) (h : Form) (hn : IsDirection (normal_of h)) (level : slope h 
 
         right : (pos 0 <ℤ triple n (toward q y) (toward q r)) ⊎ IsBetween q r y → pos 0 ≤ℤ angle n q y r
         right (inl d) = omega (arith, ints)
-        right (inr d) = let e = turn-last n (toward q y) (toward q r) (toward q y) (between-way q r y d) in let f = triple-self n (toward q y) in let z = same-nought (triple n (toward q y) (toward q y)) (triple n (toward q y) (toward q r)) (sym e) f in omega (arith, ints)
+        right (inr d) = let e = turn-last n (toward q y) (toward q r) (toward q y) (between-way q r y d) in let f = triple-same n (toward q y) in let z = same-nought (triple n (toward q y) (toward q y)) (triple n (toward q y) (toward q r)) (sym e) f in omega (arith, ints)
 
         rq : pos 0 ≤ℤ triple n (toward y r) (toward y q)
         rq = inside-level n q y r (right g)

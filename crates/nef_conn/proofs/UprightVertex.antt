@@ -1,5 +1,5 @@
 -- What falls beside a vertex of a plane from which an edge runs down along up: it falls beside the edge.
-use Rattle.nef_conn.proofs.Prelude.{◌≡◌, ℕ, ◌+◌, ℤ, pos, ◌<ℤ◌, arith, refl, ap, sym, inl, inr, ⊎_elim, subst, ints, Chained, FlatDim, IsVertex, SpacePoint, Form, form_at, normal_of, slope, SamePoint, InFrame, toward, IsBetween, IsPointBelow, Set, Vector, blend, dot, cross, opposite, IsZero, IsDirection, SameDirection, up, ahead, same-point_sym, forms, IsAt, MapVertex, around_svertex, HasArc, Shaped, amount, at-one, sees-around, Vertex, Edge, Complex, HasEnds, Shows, VertexSide, RayDown, ahead-back, dim-same, plane-ahead, svertex-edge, VolumeLink, around_ends, IsUpright, IsEvenAfter, EdgeWays, edge-ways, tied-ray, AreLinkedWhereJoined, sliced, point_below-same, triple-dot, SameDirection-turned, SameDirection-trans, dir-self, opposite-turned, opposite-same, dot-opposite, level-way, opposite-way, opposite-twice, direction-left}
+use Rattle.nef_conn.proofs.Prelude.{◌≡◌, ℕ, ◌+◌, ℤ, pos, ◌<ℤ◌, arith, refl, ap, sym, inl, inr, ⊎_elim, subst, ints, Chained, FlatDim, IsVertex, SpacePoint, Form, form_at, normal_of, slope, SamePoint, InFrame, toward, IsBetween, IsPointBelow, Set, Vector, blend, dot, cross, opposite, IsZero, IsDirection, SameDirection, up, ahead, same-point_sym, forms, IsAt, MapVertex, around_svertex, HasArc, Shaped, amount, is-at_one, sees-around, Vertex, Edge, Complex, HasEnds, Shows, VertexSide, RayDown, ahead-back, dim-same, plane-ahead, svertex-edge, VolumeLink, around_ends, IsUpright, IsEvenAfter, EdgeWays, edge-ways, tied-ray, AreLinkedWhereJoined, sliced, point_below-same, triple-dot, SameDirection-turned, SameDirection-trans, dir-self, opposite-turned, opposite-same, dot-opposite, level-way, opposite-way, opposite-twice, direction-left}
 use Rattle.nef_conn.proofs.Chain.{chain-both, chain-back, chain-one}
 use Rattle.nef_conn.proofs.Claims.{Claim}
 use Rattle.nef_conn.proofs.Downs.{along-up}
@@ -80,10 +80,10 @@ module _ (s : Set) (C : Complex) (S : Shows s C) (upright : IsUpright C) (linked
           W = edge-ways s C S k e l w d H
 
           one : w ≡ v
-          one = at-one C.vertices i w v (subst (λ (q : ℕ). IsAt C.vertices q w) at-high H.high) a
+          one = is-at_one C.vertices i w v (subst (λ (q : ℕ). IsAt C.vertices q w) at-high H.high) a
 
           high-is : W.high ≡ u
-          high-is = at-one v.map.svertices j W.high u (subst (λ (q : ℕ). IsAt v.map.svertices q W.high) at-svertex (subst (λ (q : Vertex). IsAt q.map.svertices e.high_svertex W.high) one W.is_high)) b
+          high-is = is-at_one v.map.svertices j W.high u (subst (λ (q : ℕ). IsAt v.map.svertices q W.high) at-svertex (subst (λ (q : Vertex). IsAt q.map.svertices e.high_svertex W.high) one W.is_high)) b
 
           along : SameDirection W.low.dir up
           along =
@@ -139,8 +139,8 @@ module _ (s : Set) (C : Complex) (S : Shows s C) (upright : IsUpright C) (linked
         not-low : (k : ℕ) (e : Edge) (l w : Vertex) (d : IsAt C.edges k e) (H : HasEnds C e l w) → e.low ≡ i → e.low_svertex ≡ j → ⊥
         not-low k e l w d H at-low at-svertex =
             let W = edge-ways s C S k e l w d H in
-            let one = at-one C.vertices i l v (subst (λ (q : ℕ). IsAt C.vertices q l) at-low H.low) a in
-            let is = at-one v.map.svertices j W.low u (subst (λ (q : ℕ). IsAt v.map.svertices q W.low) at-svertex (subst (λ (q : Vertex). IsAt q.map.svertices e.low_svertex W.low) one W.is_low)) b in
+            let one = is-at_one C.vertices i l v (subst (λ (q : ℕ). IsAt C.vertices q l) at-low H.low) a in
+            let is = is-at_one v.map.svertices j W.low u (subst (λ (q : ℕ). IsAt v.map.svertices q W.low) at-svertex (subst (λ (q : Vertex). IsAt q.map.svertices e.low_svertex W.low) one W.is_low)) b in
             let g = subst (λ (q : MapVertex). SameDirection q.dir (opposite up)) (sym is) runs in
             let m = normal-way (toward l.point w.point) (opposite up) (SameDirection-trans (toward l.point w.point) W.low.dir (opposite up) W.onward g)
             (toward-normal l.point w.point (S.ordered e.low e.high l w (let E = S.edges.edges k e d in E.upward) H.low H.high)) in

@@ -10,7 +10,7 @@ use Rattle.nef_conn.proofs.Near.{Wedge, wedge-of, wedge-way}
 use Rattle.nef_conn.proofs.NearOver.{blend-rises}
 use Rattle.nef_conn.proofs.RaysEnd.{free-above, ray-down, tied-dim}
 use Rattle.nef_conn.proofs.Silhouettes.{sliced-signs, sliced-off, sliced-ahead, germs-inside, toward-end, two-of, germs-of, three-of, lands, some-flat, even-hit, flatness}
-use Rattle.nef_conn.proofs.Claims.{Claim, up-side, not-flat, beside-fall}
+use Rattle.nef_conn.proofs.Claims.{Claim, up-side, not-flat, beside-fall, down-some}
 use Rattle.nef_conn.proofs.SliceStrip.{lam, Clear}
 
 module _ (s : Set) (C : Complex) (S : Shows s C) (upright : IsUpright C) (linked : AreLinkedWhereJoined s C) (h : Form) (hn : IsDirection (normal_of h)) (level : slope h up ≡ pos 0) where
@@ -19,9 +19,6 @@ module _ (s : Set) (C : Complex) (S : Shows s C) (upright : IsUpright C) (linked
 
   abbrev t : Set
   t = sliced s h
-
-  down-some : IsDirection (opposite up)
-  down-some z = let e = z.2 in omega (arith, ints)
 
   module _ (y : SpacePoint) (on-y : form_at h y ≡ pos 0) (corner-y : FlatDim (sliced s h) y 0) (down : FlatDim s (ahead s y (opposite up)) 3 ⊎ ((b : SpacePoint) (x z : VertexSide) → form_at h b ≡ pos 0 → pos 0 <ℤ lam (normal_of h) y b → Clear (sliced s h) h hn level y b → ((r : SpacePoint) → IsBetween y r b → FlatDim s r 3) → FlatDim s b 3 → InFrame b
       → Beside-point s C S upright linked y (toward y b) x → RayDown C b z → Wedge s 3 y (toward y b) (opposite up) → Wedge (sliced s h) 2 y (toward y b) (opposite up) → Chained (VolumeLink C) x z))

@@ -3,12 +3,10 @@ use Rattle.nef_core.proofs.Prelude.{◌≡◌, ◌≢◌, ℕ, zero, suc, ◌+�
 use Rattle.nef_core.specs.Counts.{one_if, is_own_slot, is_done_by, total, at_most_one, claims, deposits, givings_back, claims_of, deposits_of, givings_back_of, handings_out}
 use Rattle.nef_core.proofs.Places.{get_set_here, get_set_other, same_or_not}
 use Rattle.nef_core.proofs.Schedules.{claimed, RestIsOpen, fresh_after, fresh_start}
+use Rattle.nef_core.proofs.Deposits.{same_slot}
 
 no_slot : (x : Slot) → None ≡ Some x → ⊥
 no_slot x e = cc
-
-same_slot : (x y : Slot) → Some x ≡ Some y → x ≡ y
-same_slot x y e = cc
 
 -- a count over all slots, where one is set
 total_set : (count : Slot → ℕ) (slots : List Slot) (i : ℕ) (x y : Slot) → slice_get slots i ≡ Some x → total count (set slots i y) + count x ≡ total count slots + count y

@@ -4,6 +4,7 @@ use Rattle.std.proofs.lemmas.Bool.Decides.{nat_tests}
 use Rattle.std.proofs.Math.ListN.{length-set, length-replicate}
 use Rattle.nef_core.specs.declared.board.Claim.TheVariants.{Got, NoneLeft}
 use Rattle.nef_core.proofs.Places.{get_set_other, same_or_not, get_replicate}
+use Rattle.nef_core.proofs.Deposits.{done_not_held, open_not_done, open_not_held}
 
 -- a claim that finds a number
 pub claimed : (s : State) (w : ℕ) → s.next < length s.slots → after s (Claim w) ≡ record { next = s.next + 1; slots = slice_set s.slots s.next (InHand w) }
@@ -29,15 +30,6 @@ grows s (e ∷ es) h = let a = next_grows s e h.0 in let b = grows (after s e) e
 -- what was not handed out is open
 abbrev pub RestIsOpen : State → Type 0
 RestIsOpen s = (j : ℕ) → s.next ≤ j → j < length s.slots → slice_get s.slots j ≡ Some Open
-
-open_not_held : (w : ℕ) → Some Open ≡ Some (InHand w) → ⊥
-open_not_held w e = cc
-
-done_not_held : (v w : ℕ) → Some (Done v) ≡ Some (InHand w) → ⊥
-done_not_held v w e = cc
-
-open_not_done : (w : ℕ) → Some Open ≡ Some (Done w) → ⊥
-open_not_done w e = cc
 
 -- one place below `next` is set
 fresh_set : (s : State) (i w : ℕ) (x : Slot) → slice_get s.slots i ≡ Some (InHand w) → RestIsOpen s → RestIsOpen (record { next = s.next; slots = slice_set s.slots i x })

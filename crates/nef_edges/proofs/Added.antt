@@ -1,20 +1,20 @@
 -- The edges from the svertices that lead on, collected svertex by svertex.
-use Rattle.nef_edges.proofs.Prelude.{◌≡◌, ℕ, ◌+◌, ◌≤◌, pos, List, [], ◌∷◌, ◌++◌, length, map, arith, refl, sym, ap, subst, ◌∙◌, inl, inr, ◌⊎◌, ⊎_elim, ints, IsNormal, vector_of, IsAt, MapVertex, InOrder, at-one, IsEdge, IsEdgeBelow, Edges, SVertex, svertex_of, Vertex, Edge, vertex_of, edge_of, EdgeEnd, IsEarlierSvertex, AreJoined, AreEdges, is-at_none}
+use Rattle.nef_edges.proofs.Prelude.{◌≡◌, ℕ, ◌+◌, ◌≤◌, pos, List, [], ◌∷◌, ◌++◌, length, map, arith, refl, sym, ap, subst, ◌∙◌, inl, inr, ◌⊎◌, ⊎_elim, ints, IsNormal, vector_of, IsAt, MapVertex, InOrder, is-at_one, IsEdge, IsEdgeBelow, Edges, SVertex, svertex_of, Vertex, Edge, vertex_of, edge_of, EdgeEnd, IsEarlierSvertex, AreJoined, AreEdges, is-at_none}
 use Rattle.law_complex.specs.Complexes.{Vertex as PlainVertex, Edge as PlainEdge}
 use Rattle.nef_edges.proofs.Arrivals.{before-more, before-row}
 use Rattle.nef_edges.proofs.Existing.{edge-same, one-edge}
 use Rattle.nef_edges.proofs.Partners.{IsPair}
-use Rattle.nef_edges.proofs.Places.{at-within, at-before, at-last, at-more, at-map, map-at}
 use Rattle.nef_edges.proofs.Rays.{ahead-normal}
+use Rattle.nef_space.proofs.Lists.{is-at_last, is-at_left, is-at_map, is-at_more, is-at_within, map-is_at}
 
 -- one more element that is above all others
 pub order-more : {A : Type 0} (Below : A → A → Type 0) (xs : List A) (y : A) → InOrder Below xs → ((k : ℕ) (x : A) → IsAt xs k x → Below x y) → InOrder Below (xs ++ y ∷ [])
-order-more {A} Below xs y o f i k x z l a b = by (at-more xs y i x a) (at-more xs y k z b)
+order-more {A} Below xs y o f i k x z l a b = by (is-at_more xs y i x a) (is-at_more xs y k z b)
   where
     by : IsAt xs i x ⊎ ((i ≡ length xs) × (y ≡ x)) → IsAt xs k z ⊎ ((k ≡ length xs) × (y ≡ z)) → Below x z
     by (inl c) (inl d) = o i k x z l c d
     by (inl c) (inr d) = subst (Below x) d.1 (f i x c)
-    by (inr c) (inl d) = absurd (let m = at-within xs k z d in let e = c.0 in omega arith)
+    by (inr c) (inl d) = absurd (let m = is-at_within xs k z d in let e = c.0 in omega arith)
     by (inr c) (inr d) = absurd (let e = c.0 in let g = d.0 in omega arith)
 
 module _ (vs : List Vertex) (J : AreJoined (map vertex_of vs)) where
@@ -28,8 +28,8 @@ module _ (vs : List Vertex) (J : AreJoined (map vertex_of vs)) where
   -- the lower end of an edge as the program has it
   low-end : (e : PlainEdge) → IsEdge (map vertex_of vs) e → (v : Vertex) × (s : SVertex) × IsAt vs e.low v × IsAt v.map.svertices e.low_svertex s × IsNormal (vector_of s.dir)
   low-end e E =
-      let w = map-at vertex_of vs e.low E.low_vertex E.is_low in
-      let t = map-at svertex_of w.0.map.svertices e.low_svertex E.low_end (subst (λ (x : PlainVertex). IsAt x.map.svertices e.low_svertex E.low_end) (sym w.2) E.leaves) in
+      let w = is-at_map vertex_of vs e.low E.low_vertex E.is_low in
+      let t = is-at_map svertex_of w.0.map.svertices e.low_svertex E.low_end (subst (λ (x : PlainVertex). IsAt x.map.svertices e.low_svertex E.low_end) (sym w.2) E.leaves) in
       let n = ahead-normal E.low_vertex.point E.high_vertex.point E.low_end.dir (J.ordered e.low e.high E.low_vertex E.high_vertex E.upward E.is_low E.is_high) E.ahead in
       (w.0, t.0, w.1, t.1, subst (λ (x : MapVertex). IsNormal x.dir) (sym t.2) n)
 
@@ -60,8 +60,8 @@ module _ (vs : List Vertex) (J : AreJoined (map vertex_of vs)) where
       this : (e : PlainEdge) → IsEdge (map vertex_of vs) e → e.low ≡ i → e.low_svertex ≡ k → ⊥
       this e E g h =
           let w = low-end e E in
-          let f = at-one vs i w.0 v (subst (λ l. IsAt vs l w.0) g w.2) a in
-          let u = at-one v.map.svertices k w.1 s (subst (λ (x : Vertex). IsAt x.map.svertices k w.1) f (subst (λ l. IsAt w.0.map.svertices l w.1) h w.3)) b in
+          let f = is-at_one vs i w.0 v (subst (λ l. IsAt vs l w.0) g w.2) a in
+          let u = is-at_one v.map.svertices k w.1 s (subst (λ (x : Vertex). IsAt x.map.svertices k w.1) f (subst (λ l. IsAt w.0.map.svertices l w.1) h w.3)) b in
           n (subst (λ (x : SVertex). IsNormal (vector_of x.dir)) u w.4)
 
   -- one that an edge leads on from
@@ -80,8 +80,8 @@ module _ (vs : List Vertex) (J : AreJoined (map vertex_of vs)) where
 
     mark-is : P.edge.mark ≡ s.mark
     mark-is =
-        let w = at-one (map vertex_of vs) i E.low_vertex (vertex_of v) (subst (λ n. IsAt (map vertex_of vs) n E.low_vertex) low-is E.is_low) (at-map vertex_of vs i v a) in
-        let t = at-one (vertex_of v).map.svertices k E.low_end (svertex_of s) (subst (λ (x : PlainVertex). IsAt x.map.svertices k E.low_end) w (subst (λ n. IsAt E.low_vertex.map.svertices n E.low_end) end-is E.leaves)) (at-map svertex_of v.map.svertices k s b) in
+        let w = is-at_one (map vertex_of vs) i E.low_vertex (vertex_of v) (subst (λ n. IsAt (map vertex_of vs) n E.low_vertex) low-is E.is_low) (map-is_at vertex_of vs i v a) in
+        let t = is-at_one (vertex_of v).map.svertices k E.low_end (svertex_of s) (subst (λ (x : PlainVertex). IsAt x.map.svertices k E.low_end) w (subst (λ n. IsAt E.low_vertex.map.svertices n E.low_end) end-is E.leaves)) (map-is_at svertex_of v.map.svertices k s b) in
         E.mark ∙ ap (λ (x : MapVertex). x.mark) t
 
     new-is : P.edge ≡ edge_of new_edge
@@ -101,23 +101,23 @@ module _ (vs : List Vertex) (J : AreJoined (map vertex_of vs)) where
         edges n e c = ⊎_elim
             (λ d. let f = A.edges n e d in (f.0, step i k e.low e.low_svertex f.1))
             (λ d. subst (λ (f : Edge). IsEdge (map vertex_of vs) (edge_of f) × IsEarlierSvertex i (k + 1) f.low f.low_svertex) d.1 (subst (IsEdge (map vertex_of vs)) new-is E, inr (refl, omega arith)))
-            (at-more es new_edge n e c)
+            (is-at_more es new_edge n e c)
 
         complete : (e : PlainEdge) → IsEdge (map vertex_of vs) e → IsEarlierSvertex i (k + 1) e.low e.low_svertex → (n : ℕ) × (f : Edge) × IsAt (es ++ new_edge ∷ []) n f × (edge_of f ≡ e)
         complete e F q = ⊎_elim
-            (λ h. let r = A.complete e F h in (r.0, r.1, at-before es (new_edge ∷ []) r.0 r.1 r.2, r.3))
-            (λ h. (length es, new_edge, at-last es new_edge, sym new-is ∙ one-edge (map vertex_of vs) J.ordered J.shaped P.edge e E F (low-is ∙ sym h.0) (end-is ∙ sym h.1)))
+            (λ h. let r = A.complete e F h in (r.0, r.1, is-at_left es (new_edge ∷ []) r.0 r.1 r.2, r.3))
+            (λ h. (length es, new_edge, is-at_last es new_edge, sym new-is ∙ one-edge (map vertex_of vs) J.ordered J.shaped P.edge e E F (low-is ∙ sym h.0) (end-is ∙ sym h.1)))
             (before-more i k e.low e.low_svertex q)
 
   -- when all have been counted, these are the edges
   pub edges-all : (es : List Edge) → AreEdges vs (IsEarlierSvertex (length vs) 0) es → Edges (map vertex_of vs) (map edge_of es)
   edges-all es A = record {
-    edges = λ k e a. let f = map-at edge_of es k e a in subst (IsEdge (map vertex_of vs)) f.2 (A.edges k f.0 f.1).0;
+    edges = λ k e a. let f = is-at_map edge_of es k e a in subst (IsEdge (map vertex_of vs)) f.2 (A.edges k f.0 f.1).0;
     complete = λ e E.
         let w = low-end e E in
-        let r = A.complete e E (inl (at-within vs e.low w.0 w.2)) in
-        (r.0, subst (IsAt (map edge_of es) r.0) r.3 (at-map edge_of es r.0 r.1 r.2));
+        let r = A.complete e E (inl (is-at_within vs e.low w.0 w.2)) in
+        (r.0, subst (IsAt (map edge_of es) r.0) r.3 (map-is_at edge_of es r.0 r.1 r.2));
     ordered = λ i k x y l a b.
-        let f = map-at edge_of es i x a in let g = map-at edge_of es k y b in
+        let f = is-at_map edge_of es i x a in let g = is-at_map edge_of es k y b in
         subst (IsEdgeBelow x) g.2 (subst (λ (e : PlainEdge). IsEdgeBelow e (edge_of g.0)) f.2 (A.ordered i k f.0 g.0 l f.1 g.1));
   }

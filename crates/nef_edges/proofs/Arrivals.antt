@@ -1,6 +1,6 @@
 -- EdgeEnds that arrive, collected svertex by svertex.
-use Rattle.nef_edges.proofs.Prelude.{◌≡◌, ℕ, zero, suc, ◌+◌, ◌<◌, ◌≤◌, List, [], ◌∷◌, ◌++◌, length, Bool, false, arith, refl, sym, ap, subst, ◌∙◌, inl, inr, ◌⊎◌, ⊎_elim, IsTrue, false≢true, opposite, IsNormal, vector_of, IsAt, at-one, SVertex, Vertex, EdgeEnd, IsEarlierSvertex, IsArriving, AreArriving, is-at_none}
-use Rattle.nef_edges.proofs.Places.{at-within, at-before, at-last, at-more}
+use Rattle.nef_edges.proofs.Prelude.{◌≡◌, ℕ, zero, suc, ◌+◌, ◌<◌, ◌≤◌, List, [], ◌∷◌, ◌++◌, length, Bool, false, arith, refl, sym, ap, subst, ◌∙◌, inl, inr, ◌⊎◌, ⊎_elim, IsTrue, false≢true, opposite, IsNormal, vector_of, IsAt, is-at_one, SVertex, Vertex, EdgeEnd, IsEarlierSvertex, IsArriving, AreArriving, is-at_none}
+use Rattle.nef_space.proofs.Lists.{is-at_last, is-at_left, is-at_more, is-at_within}
 
 pub IsTrue-false : (b : Bool) → IsTrue b → b ≡ false → ⊥
 IsTrue-false b h e = false≢true (sym e ∙ h)
@@ -33,8 +33,8 @@ before-row vs i k v a l j m w s b t (inl h) = elim (before-more i 0 j 0 (before-
 
     same : j ≡ i → IsEarlierSvertex i k j m
     same e =
-        let f = at-one vs i w v (subst (λ n. IsAt vs n w) e b) a in
-        let n = at-within w.map.svertices m s t in
+        let f = is-at_one vs i w v (subst (λ n. IsAt vs n w) e b) a in
+        let n = is-at_within w.map.svertices m s t in
         let n' : m < length v.map.svertices = subst (λ (x : Vertex). m < length x.map.svertices) f n in
         inr (e, omega arith)
 
@@ -58,8 +58,8 @@ module _ (vs : List Vertex) where
         where
           this : j ≡ i → m ≡ k → ⊥
           this g h =
-              let f = at-one vs i w v (subst (λ n. IsAt vs n w) g d) b in
-              let u = at-one v.map.svertices k t s (subst (λ (x : Vertex). IsAt x.map.svertices k t) f (subst (λ n. IsAt w.map.svertices n t) h e)) c in
+              let f = is-at_one vs i w v (subst (λ n. IsAt vs n w) g d) b in
+              let u = is-at_one v.map.svertices k t s (subst (λ (x : Vertex). IsAt x.map.svertices k t) f (subst (λ n. IsAt w.map.svertices n t) h e)) c in
               n (subst (λ (x : SVertex). IsNormal (opposite (vector_of x.dir))) u up)
 
   -- svertex k of vertex i as an end that arrives
@@ -71,9 +71,9 @@ module _ (vs : List Vertex) where
   arriving-add i k hs h a is e f = record { each = each; all = all }
     where
       each : (l : ℕ) (g : EdgeEnd) → IsAt (hs ++ h ∷ []) l g → IsArriving vs g
-      each l g b = ⊎_elim (λ c. a.each l g c) (λ c. subst (IsArriving vs) c.1 is) (at-more hs h l g b)
+      each l g b = ⊎_elim (λ c. a.each l g c) (λ c. subst (IsArriving vs) c.1 is) (is-at_more hs h l g b)
 
       all : (j m : ℕ) (w : Vertex) (t : SVertex) → IsAt vs j w → IsAt w.map.svertices m t → IsNormal (opposite (vector_of t.dir)) → IsEarlierSvertex i (k + 1) j m → (l : ℕ) × (g : EdgeEnd) × IsAt (hs ++ h ∷ []) l g × (g.vertex ≡ j) × (g.svertex ≡ m)
       all j m w t d b up q = ⊎_elim
-          (λ g. let r = a.all j m w t d b up g in (r.0, r.1, at-before hs (h ∷ []) r.0 r.1 r.2, r.3, r.4))
-          (λ g. (length hs, h, at-last hs h, e ∙ sym g.0, f ∙ sym g.1)) (before-more i k j m q)
+          (λ g. let r = a.all j m w t d b up g in (r.0, r.1, is-at_left hs (h ∷ []) r.0 r.1 r.2, r.3, r.4))
+          (λ g. (length hs, h, is-at_last hs h, e ∙ sym g.0, f ∙ sym g.1)) (before-more i k j m q)

@@ -1,7 +1,7 @@
 -- An edge whose ends are checked alone is matched.
 use Rattle.nef_edges.proofs.Prelude.{◌≡◌, ◌<◌, List, map, ap, subst, ◌∙◌, toward, cross, opposite, IsZero, IsNormal, SameDirection, point_of, vector_of, Dir, IsAt, SVertex, svertex_of, Vertex, Edge, vertex_of, edge_of, IsMatched, AreMatchedEnds, dir-self}
-use Rattle.nef_edges.proofs.Places.{at-map}
 use Rattle.nef_edges.proofs.Rays.{from_opposite}
+use Rattle.nef_space.proofs.Lists.{map-is_at}
 
 pub matched-ends : (v w : Vertex) (s t : SVertex) (b : Dir) → vector_of b ≡ opposite (vector_of t.dir) → s.dir ≡ b → IsNormal (vector_of s.dir) → IsZero (cross (toward (point_of v.point) (point_of w.point)) (vector_of s.dir)) → AreMatchedEnds v s w t
 matched-ends v w s t b r d n z =
@@ -19,10 +19,10 @@ ends-matched vs e v w s t a b c d h m E = record {
   high_vertex = vertex_of w;
   low_end = svertex_of s;
   high_end = svertex_of t;
-  is_low = at-map vertex_of vs e.low v a;
-  is_high = at-map vertex_of vs e.high w c;
-  leaves = at-map svertex_of v.map.svertices e.low_svertex s b;
-  arrives = at-map svertex_of w.map.svertices e.high_svertex t d;
+  is_low = map-is_at vertex_of vs e.low v a;
+  is_high = map-is_at vertex_of vs e.high w c;
+  leaves = map-is_at svertex_of v.map.svertices e.low_svertex s b;
+  arrives = map-is_at svertex_of w.map.svertices e.high_svertex t d;
   upward = h;
   leading = E.leading;
   on_line = E.on_line;

@@ -1,5 +1,5 @@
 -- Vertices in order, each with at most one svertex in every direction, have a list of all their edges.
-use Rattle.nef_edges.proofs.Prelude.{◌≡◌, ℕ, zero, suc, ◌<◌, pos, arith, refl, ap, sym, ◌∙◌, ◌⊎◌, inl, inr, ⊎_elim, List, [], ◌∷◌, ◌++◌, subst, cases_order, ints, Lies, each, lies-each, lies-left, lies-right, toward, IsAhead, IsBetween, IsPointBelow, SameDirection, IsOpposite, Label, Decided, IsAt, MapVertex, Shaped, InOrder, Found, search_list, at-one, lies-at, at-lies, SameDirection-decided, IsOpposite-decided, IsEdge, IsEdgeBelow, Edges, IsFrom, is-at_none, is-at_first}
+use Rattle.nef_edges.proofs.Prelude.{◌≡◌, ℕ, zero, suc, ◌<◌, pos, arith, refl, ap, sym, ◌∙◌, ◌⊎◌, inl, inr, ⊎_elim, List, [], ◌∷◌, ◌++◌, subst, cases_order, ints, Lies, each, lies-each, lies-left, lies-right, toward, IsAhead, IsBetween, IsPointBelow, SameDirection, IsOpposite, Label, Decided, IsAt, MapVertex, Shaped, InOrder, Found, search_list, is-at_one, lies-at, at-lies, SameDirection-decided, IsOpposite-decided, IsEdge, IsEdgeBelow, Edges, IsFrom, is-at_none, is-at_first}
 use Rattle.law_near.proofs.Decided.{decided-lt}
 use Rattle.law_sphere.proofs.cones.Listing.{numbers, at-number, at-or, Collected, Sorted, collect, sort, chain-order}
 use Rattle.law_complex.specs.Complexes.{Vertex, Edge}
@@ -25,8 +25,8 @@ module _ (vs : List Vertex) where
     -- of two edges from one svertex the higher ends can't lie one after the other
     not-later : (e f : Edge) → IsEdge vs e → IsEdge vs f → e.low ≡ f.low → e.low_svertex ≡ f.low_svertex → e.high < f.high → ⊥
     not-later e f E F h i l =
-        let same = at-one vs f.low E.low_vertex F.low_vertex (subst (λ k. IsAt vs k E.low_vertex) h E.is_low) F.is_low in
-        let start = at-one F.low_vertex.map.svertices f.low_svertex E.low_end F.low_end (subst (λ (v : Vertex). IsAt v.map.svertices f.low_svertex E.low_end) same (subst (λ k. IsAt E.low_vertex.map.svertices k E.low_end) i E.leaves)) F.leaves in
+        let same = is-at_one vs f.low E.low_vertex F.low_vertex (subst (λ k. IsAt vs k E.low_vertex) h E.is_low) F.is_low in
+        let start = is-at_one F.low_vertex.map.svertices f.low_svertex E.low_end F.low_end (subst (λ (v : Vertex). IsAt v.map.svertices f.low_svertex E.low_end) same (subst (λ k. IsAt E.low_vertex.map.svertices k E.low_end) i E.leaves)) F.leaves in
         let p = F.low_vertex.point in let u = E.high_vertex.point in let v = F.high_vertex.point in let d = F.low_end.dir in
         let up : f.low < e.high = (let m = E.upward in omega (arith, m, h)) in
         let below = ordered f.low e.high F.low_vertex E.high_vertex up F.is_low E.is_high in
@@ -40,9 +40,9 @@ module _ (vs : List Vertex) where
       where
         same : e.high ≡ f.high → e ≡ f
         same g =
-            let low = at-one vs f.low E.low_vertex F.low_vertex (subst (λ k. IsAt vs k E.low_vertex) h E.is_low) F.is_low in
-            let start = at-one F.low_vertex.map.svertices f.low_svertex E.low_end F.low_end (subst (λ (v : Vertex). IsAt v.map.svertices f.low_svertex E.low_end) low (subst (λ k. IsAt E.low_vertex.map.svertices k E.low_end) i E.leaves)) F.leaves in
-            let high = at-one vs f.high E.high_vertex F.high_vertex (subst (λ k. IsAt vs k E.high_vertex) g E.is_high) F.is_high in
+            let low = is-at_one vs f.low E.low_vertex F.low_vertex (subst (λ k. IsAt vs k E.low_vertex) h E.is_low) F.is_low in
+            let start = is-at_one F.low_vertex.map.svertices f.low_svertex E.low_end F.low_end (subst (λ (v : Vertex). IsAt v.map.svertices f.low_svertex E.low_end) low (subst (λ k. IsAt E.low_vertex.map.svertices k E.low_end) i E.leaves)) F.leaves in
+            let high = is-at_one vs f.high E.high_vertex F.high_vertex (subst (λ k. IsAt vs k E.high_vertex) g E.is_high) F.is_high in
             let arrives = subst (λ (v : Vertex). IsAt v.map.svertices e.high_svertex E.high_end) high E.arrives in
             let way = opposites-same F.low_end.dir E.high_end.dir F.high_end.dir (subst (λ (s : MapVertex). IsOpposite s.dir E.high_end.dir) start E.back) F.back in
             let end = (shaped f.high F.high_vertex F.is_high).svertices_apart e.high_svertex f.high_svertex E.high_end F.high_end arrives F.arrives way in
@@ -102,8 +102,8 @@ module _ (vs : List Vertex) where
 
         unmade : ((j : ℕ) (w : Vertex) → IsAt vs j w → Found w.map.svertices (λ b t. Leads j w t) → ⊥) → (e : Edge) → IsEdge vs e → e.low ≡ i → e.low_svertex ≡ a → ⊥
         unmade none e E h k =
-            let low = at-one vs i E.low_vertex v (subst (λ n. IsAt vs n E.low_vertex) h E.is_low) is_low in
-            let start = at-one v.map.svertices a E.low_end u (subst (λ (x : Vertex). IsAt x.map.svertices a E.low_end) low (subst (λ n. IsAt E.low_vertex.map.svertices n E.low_end) k E.leaves)) leaves in
+            let low = is-at_one vs i E.low_vertex v (subst (λ n. IsAt vs n E.low_vertex) h E.is_low) is_low in
+            let start = is-at_one v.map.svertices a E.low_end u (subst (λ (x : Vertex). IsAt x.map.svertices a E.low_end) low (subst (λ n. IsAt E.low_vertex.map.svertices n E.low_end) k E.leaves)) leaves in
             none e.high E.high_vertex E.is_high (record {
               number = e.high_svertex;
               element = E.high_end;
@@ -124,7 +124,7 @@ module _ (vs : List Vertex) where
 
       no-svertex : (v : Vertex) → IsAt vs p.0 v → ((u : MapVertex) → IsAt v.map.svertices p.1 u → ⊥) → (e : Edge) → IsEdge vs e → e.low ≡ p.0 → e.low_svertex ≡ p.1 → ⊥
       no-svertex v l none e E h k =
-          let low = at-one vs p.0 E.low_vertex v (subst (λ n. IsAt vs n E.low_vertex) h E.is_low) l in
+          let low = is-at_one vs p.0 E.low_vertex v (subst (λ n. IsAt vs n E.low_vertex) h E.is_low) l in
           none E.low_end (subst (λ (x : Vertex). IsAt x.map.svertices p.1 E.low_end) low (subst (λ n. IsAt E.low_vertex.map.svertices n E.low_end) k E.leaves))
 
       at : (v : Vertex) → IsAt vs p.0 v → ((u : MapVertex) × IsAt v.map.svertices p.1 u) ⊎ ((u : MapVertex) → IsAt v.map.svertices p.1 u → ⊥) → Decided ((e : Edge) × IsFrom vs p.0 p.1 e)

@@ -5,17 +5,17 @@ use Rattle.nef_complex.specs.declared.complex.Complex.{Complex}
 use Rattle.nef_complex.proofs.Carried.{items-held}
 use Rattle.nef_edges.proofs.Existing.{edges-exist}
 use Rattle.nef_edges.proofs.Partners.{partner, partner-back}
-use Rattle.nef_edges.proofs.Places.{at-some, some-at, at-map, map-at, at-within}
+use Rattle.nef_space.proofs.Lists.{is-at_map, is-at_within, map-is_at}
 
 module _ (s : Set) (carriers : List Plane) (vertices : List Vertex) (V : AreVerticesOf s carriers vertices) where
   ordered : InOrder (λ u v. IsPointBelow u.point v.point) (map vertex_of vertices)
   ordered i k x y l a b =
-      let u = map-at vertex_of vertices i x a in let v = map-at vertex_of vertices k y b in
+      let u = is-at_map vertex_of vertices i x a in let v = is-at_map vertex_of vertices k y b in
       subst (λ (w : PlainVertex). IsPointBelow x.point w.point) v.2 (subst (λ (w : PlainVertex). IsPointBelow w.point (vertex_of v.0).point) u.2
-      (V.sorted i k u.0 v.0 l (at-some vertices i u.0 u.1) (at-some vertices k v.0 v.1)))
+      (V.sorted i k u.0 v.0 l u.1 v.1))
 
   shaped : (k : ℕ) (v : PlainVertex) → IsAt (map vertex_of vertices) k v → Shaped v.map
-  shaped k v a = let u = map-at vertex_of vertices k v a in subst (λ (w : PlainVertex). Shaped w.map) u.2 (V.maps k u.0 (at-some vertices k u.0 u.1)).sphere_map.valid.shaped
+  shaped k v a = let u = is-at_map vertex_of vertices k v a in subst (λ (w : PlainVertex). Shaped w.map) u.2 (V.maps k u.0 u.1).sphere_map.valid.shaped
 
   pub are-joined : AreJoined (map vertex_of vertices)
   are-joined =
@@ -27,7 +27,7 @@ module _ (s : Set) (carriers : List Plane) (vertices : List Vertex) (V : AreVert
   carriers-ordered i j g h l a b =
       let es = edges-exist (map vertex_of vertices) ordered shaped in
       let shown = V.shown es.0 es.1 in
-      shown.carriers.ordered i j (form_of g) (form_of h) l (at-map form_of carriers i g (some-at carriers i g a)) (at-map form_of carriers j h (some-at carriers j h b))
+      shown.carriers.ordered i j (form_of g) (form_of h) l (map-is_at form_of carriers i g a) (map-is_at form_of carriers j h b)
 
   -- what a complex is put together from
   module _ (es : List Edge) (E : Edges (map vertex_of vertices) (map edge_of es)) where
@@ -39,11 +39,11 @@ module _ (s : Set) (carriers : List Plane) (vertices : List Vertex) (V : AreVert
 
     pub have-ends : HaveEnds vertices es
     have-ends k e a =
-        let F = E.edges k (edge_of e) (at-map edge_of es k e (some-at es k e a)) in
+        let F = E.edges k (edge_of e) (map-is_at edge_of es k e a) in
         (vertex-within e.low F.low_vertex F.is_low, vertex-within e.high F.high_vertex F.is_high)
       where
         vertex-within : (i : ℕ) (v : PlainVertex) → IsAt (map vertex_of vertices) i v → i < length vertices
-        vertex-within i v b = let u = map-at vertex_of vertices i v b in at-within vertices i u.0 u.1
+        vertex-within i v b = let u = is-at_map vertex_of vertices i v b in is-at_within vertices i u.0 u.1
 
     pub shows-set : (c : Complex) → c.carriers ≡ carriers → c.vertices ≡ vertices → c.edges ≡ es → AreFlagged c.carriers c.vertices c.has_item → IsIndexed c → ShowsSet s c
     shows-set c h v e F I = record {

@@ -1,9 +1,9 @@
 -- Edges that are matched end by end are the edges of the vertices.
-use Rattle.nef_edges.proofs.Prelude.{◌≡◌, ℕ, zero, suc, ◌+◌, ◌<◌, ◌≤◌, pos, ℤ, ◌-ℤ◌, ◌*ℤ◌, neg_ℤ, List, [], ◌∷◌, length, arith, sym, ap, subst, ◌∙◌, inl, inr, ⊎_elim, cases_order, cases_lt, ints, ring, at, neg, ◌⊖◌, ◌⊗◌, SpacePoint, toward, IsAhead, IsBetween, IsPointBelow, Vector, cross, opposite, IsZero, IsNormal, SameDirection, IsOpposite, IsAt, MapVertex, at-one, IsEdge, IsEdgeBelow, Edges, on_line, AreJoined, IsMatched, AreMatched, SameDirection-turned, SameDirection-trans}
+use Rattle.nef_edges.proofs.Prelude.{◌≡◌, ℕ, zero, suc, ◌+◌, ◌<◌, ◌≤◌, pos, ℤ, ◌-ℤ◌, ◌*ℤ◌, neg_ℤ, List, [], ◌∷◌, length, arith, sym, ap, subst, ◌∙◌, inl, inr, ⊎_elim, cases_order, cases_lt, ints, ring, at, neg, ◌⊖◌, ◌⊗◌, SpacePoint, toward, IsAhead, IsBetween, IsPointBelow, Vector, cross, opposite, IsZero, IsNormal, SameDirection, IsOpposite, IsAt, MapVertex, is-at_one, IsEdge, IsEdgeBelow, Edges, on_line, AreJoined, IsMatched, AreMatched, SameDirection-turned, SameDirection-trans}
 use Rattle.law_complex.specs.Complexes.{Vertex, Edge}
 use Rattle.nef_edges.proofs.Existing.{edge-same, one-edge}
-use Rattle.nef_edges.proofs.Places.{at-within}
 use Rattle.nef_edges.proofs.Rays.{normal-kept, ahead-normal, middle-between, to_opposite, opposites-same}
+use Rattle.nef_space.proofs.Lists.{is-at_within}
 
 -- ---- points on one line
 line-back : (p q : SpacePoint) (d : Vector) → IsZero (cross (toward p q) d) → IsZero (cross (toward q p) d)
@@ -43,10 +43,10 @@ module _ (vs : List Vertex) (es : List Edge) (J : AreJoined vs) (M : AreMatched 
       u = F.high_vertex.point
 
       low-is : F.low_vertex ≡ E.low_vertex
-      low-is = at-one vs e.low F.low_vertex E.low_vertex (subst (λ n. IsAt vs n F.low_vertex) h F.is_low) E.is_low
+      low-is = is-at_one vs e.low F.low_vertex E.low_vertex (subst (λ n. IsAt vs n F.low_vertex) h F.is_low) E.is_low
 
       start-is : F.low_end ≡ E.low_end
-      start-is = at-one E.low_vertex.map.svertices e.low_svertex F.low_end E.low_end
+      start-is = is-at_one E.low_vertex.map.svertices e.low_svertex F.low_end E.low_end
           (subst (λ (w : Vertex). IsAt w.map.svertices e.low_svertex F.low_end) low-is (subst (λ n. IsAt F.low_vertex.map.svertices n F.low_end) i F.leaves)) E.leaves
 
       ahead : IsAhead p d u
@@ -57,7 +57,7 @@ module _ (vs : List Vertex) (es : List Edge) (J : AreJoined vs) (M : AreMatched 
 
       same : f.high ≡ e.high → IsEdge vs e
       same g =
-          let high = at-one vs e.high F.high_vertex E.high_vertex (subst (λ n. IsAt vs n F.high_vertex) g F.is_high) E.is_high in
+          let high = is-at_one vs e.high F.high_vertex E.high_vertex (subst (λ n. IsAt vs n F.high_vertex) g F.is_high) E.is_high in
           let arrives = subst (λ (w : Vertex). IsAt w.map.svertices f.high_svertex F.high_end) high F.arrives in
           let way = opposites-same E.low_end.dir F.high_end.dir E.high_end.dir back E.back in
           let end = (J.shaped e.high E.high_vertex E.is_high).svertices_apart f.high_svertex e.high_svertex F.high_end E.high_end arrives E.arrives way in
@@ -73,10 +73,10 @@ module _ (vs : List Vertex) (es : List Edge) (J : AreJoined vs) (M : AreMatched 
       -- and none lies behind it: g is the edge that arrives there, and is matched to it already
       module _ (b : f.high < e.high) (g : Edge) (G : IsEdge vs g) (gh : g.high ≡ e.high) (gi : g.high_svertex ≡ e.high_svertex) where
         top-is : G.high_vertex ≡ E.high_vertex
-        top-is = at-one vs e.high G.high_vertex E.high_vertex (subst (λ n. IsAt vs n G.high_vertex) gh G.is_high) E.is_high
+        top-is = is-at_one vs e.high G.high_vertex E.high_vertex (subst (λ n. IsAt vs n G.high_vertex) gh G.is_high) E.is_high
 
         end-is : G.high_end ≡ E.high_end
-        end-is = at-one E.high_vertex.map.svertices e.high_svertex G.high_end E.high_end
+        end-is = is-at_one E.high_vertex.map.svertices e.high_svertex G.high_end E.high_end
             (subst (λ (w : Vertex). IsAt w.map.svertices e.high_svertex G.high_end) top-is (subst (λ n. IsAt G.high_vertex.map.svertices n G.high_end) gi G.arrives)) E.arrives
 
         one-way : SameDirection G.low_end.dir E.low_end.dir
@@ -101,7 +101,7 @@ module _ (vs : List Vertex) (es : List Edge) (J : AreJoined vs) (M : AreMatched 
             let a = above in
             let one = one-edge vs J.ordered J.shaped c g (later m c C (omega (arith, a, ch))) G ch ci in
             let n = M.once m k c e C l (ap (λ (x : Edge). x.high) one ∙ gh) (ap (λ (x : Edge). x.high_svertex) one ∙ gi) in
-            let z = ap (λ (x : Edge). x.low) (at-one es k c e (subst (λ j. IsAt es j c) n C) l) in
+            let z = ap (λ (x : Edge). x.low) (is-at_one es k c e (subst (λ j. IsAt es j c) n C) l) in
             omega (arith, a, ch, z)
 
         twice : ⊥
@@ -122,7 +122,7 @@ module _ (vs : List Vertex) (es : List Edge) (J : AreJoined vs) (M : AreMatched 
 
   -- downward on the lower vertex
   right-from : (n k : ℕ) (e : Edge) → IsAt es k e → length vs ≤ e.low + n → IsEdge vs e
-  right-from zero k e l h = let E = M.each k e l in let w = at-within vs e.low E.low_vertex E.is_low in absurd (omega (arith, w, h))
+  right-from zero k e l h = let E = M.each k e l in let w = is-at_within vs e.low E.low_vertex E.is_low in absurd (omega (arith, w, h))
   right-from (suc n) k e l h = right-after k e l (λ m c C b. right-from n m c C (omega (arith, b, h))) (M.each k e l)
 
   right : (k : ℕ) (e : Edge) → IsAt es k e → IsEdge vs e
@@ -162,10 +162,10 @@ module _ (vs : List Vertex) (es : List Edge) (J : AreJoined vs) (S : Edges vs es
   -- of two edges to one svertex the lower ends can't lie one after the other
   module _ (e f : Edge) (E : IsEdge vs e) (F : IsEdge vs f) (h : e.high ≡ f.high) (i : e.high_svertex ≡ f.high_svertex) where
     top-same : E.high_vertex ≡ F.high_vertex
-    top-same = at-one vs f.high E.high_vertex F.high_vertex (subst (λ n. IsAt vs n E.high_vertex) h E.is_high) F.is_high
+    top-same = is-at_one vs f.high E.high_vertex F.high_vertex (subst (λ n. IsAt vs n E.high_vertex) h E.is_high) F.is_high
 
     end-same : E.high_end ≡ F.high_end
-    end-same = at-one F.high_vertex.map.svertices f.high_svertex E.high_end F.high_end
+    end-same = is-at_one F.high_vertex.map.svertices f.high_svertex E.high_end F.high_end
         (subst (λ (w : Vertex). IsAt w.map.svertices f.high_svertex E.high_end) top-same (subst (λ n. IsAt E.high_vertex.map.svertices n E.high_end) i E.arrives)) F.arrives
 
     way-same : SameDirection E.low_end.dir F.low_end.dir
@@ -182,7 +182,7 @@ module _ (vs : List Vertex) (es : List Edge) (J : AreJoined vs) (S : Edges vs es
 
     one-start : e.low ≡ f.low → e.low_svertex ≡ f.low_svertex
     one-start g =
-        let low = at-one vs f.low E.low_vertex F.low_vertex (subst (λ n. IsAt vs n E.low_vertex) g E.is_low) F.is_low in
+        let low = is-at_one vs f.low E.low_vertex F.low_vertex (subst (λ n. IsAt vs n E.low_vertex) g E.is_low) F.is_low in
         (J.shaped f.low F.low_vertex F.is_low).svertices_apart e.low_svertex f.low_svertex E.low_end F.low_end (subst (λ (w : Vertex). IsAt w.map.svertices e.low_svertex E.low_end) low E.leaves) F.leaves way-same
 
   not-below : (e f : Edge) → e.low ≡ f.low → e.low_svertex ≡ f.low_svertex → IsEdgeBelow e f → ⊥

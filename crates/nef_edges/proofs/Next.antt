@@ -2,7 +2,8 @@
 use Rattle.nef_edges.proofs.Prelude.{◌≡◌, ℕ, ◌+◌, ◌<◌, ◌≤◌, List, length, get_or, true, false, Ordering, Less, Equal, Greater, arith, refl, sym, ap, ◌∙◌, ⊎_elim, IsStrictWeakOrder, upto, IsPermutation, IsPartitionPoint, ordering_reverse, is_lt, is_le, is_gt, false≢true, cases_lt, ranks_by, sorted_far, Contains-permutation, IsPermutation-sym, IsAt, Vertex, EdgeEnd, end_order, end_lt, AreArriving, IsAfter, NoneAfter, IsNextEnd}
 use Rattle.std.specs.List.Sorted.{IsSortedBy, IsPartitionedBy}
 use Rattle.nef_edges.proofs.Lines.{end_total}
-use Rattle.nef_edges.proofs.Places.{at-within, at-read, read-at}
+use Rattle.nef_edges.proofs.Places.{at-read}
+use Rattle.nef_space.proofs.Lists.{is-at_read, is-at_within}
 
 -- all ends from number p on stand after f
 abbrev pub AllAfter : List EdgeEnd → EdgeEnd → ℕ → Type 0
@@ -40,7 +41,7 @@ module _ (hs : List EdgeEnd) (sorted : IsSortedBy end_lt hs) where
   -- of two sorted ends the later isn't less
   pub not-less : (i k : ℕ) (g h : EdgeEnd) → IsAt hs i g → IsAt hs k h → i ≤ k → end_lt h g ≡ false
   not-less i k g h a b l =
-      let far = sorted_far end_lt weak hs sorted i k g l (at-within hs k h b) in
+      let far = sorted_far end_lt weak hs sorted i k g l (is-at_within hs k h b) in
       ap (λ r. end_lt r g) (sym (at-read hs k g h b)) ∙ ap (end_lt (get_or hs k g)) (sym (at-read hs i g g a)) ∙ far
 
   module _ (f : EdgeEnd) where
@@ -69,11 +70,11 @@ module _ (hs : List EdgeEnd) (sorted : IsSortedBy end_lt hs) where
       none-before k h a l t = false≢true (sym (ap is_le t) ∙ sym (ap (λ (g : EdgeEnd). is_le (end_order g f)) (at-read hs k h h a)) ∙ point.0 k h (omega arith) l)
 
       pub all-from : AllAfter hs f p
-      all-from k h a l = no-le-greater (end_order h f) (sym (ap (λ (g : EdgeEnd). is_le (end_order g f)) (at-read hs k h h a)) ∙ point.1 k h l (at-within hs k h a))
+      all-from k h a l = no-le-greater (end_order h f) (sym (ap (λ (g : EdgeEnd). is_le (end_order g f)) (at-read hs k h h a)) ∙ point.1 k h l (is-at_within hs k h a))
 
     module _ (p : ℕ) (none : NoneAfter hs f p) (all : AllAfter hs f p) where
       pub next-within : (k : ℕ) (g : EdgeEnd) → IsAt hs k g → IsAfter f g → p < length hs
-      next-within k g a t = ⊎_elim (λ l. absurd (none k g a l t)) (λ l. let m = at-within hs k g a in omega arith) (cases_lt k p)
+      next-within k g a t = ⊎_elim (λ l. absurd (none k g a l t)) (λ l. let m = is-at_within hs k g a in omega arith) (cases_lt k p)
 
       pub next-is : (h : EdgeEnd) → IsAt hs p h → IsNextEnd hs f h
       next-is h a = record {
@@ -86,10 +87,10 @@ module _ (hs : List EdgeEnd) (sorted : IsSortedBy end_lt hs) where
 pub sorted-kept : (vs : List Vertex) (P : ℕ → ℕ → Type 0) (hs gs : List EdgeEnd) → IsPermutation hs gs → AreArriving vs P hs → AreArriving vs P gs
 sorted-kept vs P hs gs moved a = record {
   each = λ k h b.
-      let c = Contains-permutation gs hs h (IsPermutation-sym hs gs moved) (k, at-within gs k h b, at-read gs k h h b) in
-      a.each c.0 h (read-at hs c.0 h c.1 (sym c.2));
+      let c = Contains-permutation gs hs h (IsPermutation-sym hs gs moved) (k, is-at_within gs k h b, at-read gs k h h b) in
+      a.each c.0 h (is-at_read hs c.0 h c.1 (sym c.2));
   all = λ j m v s b c up q.
       let r = a.all j m v s b c up q in
-      let d = Contains-permutation hs gs r.1 moved (r.0, at-within hs r.0 r.1 r.2, at-read hs r.0 r.1 r.1 r.2) in
-      (d.0, r.1, read-at gs d.0 r.1 d.1 (sym d.2), r.3, r.4);
+      let d = Contains-permutation hs gs r.1 moved (r.0, is-at_within hs r.0 r.1 r.2, at-read hs r.0 r.1 r.1 r.2) in
+      (d.0, r.1, is-at_read gs d.0 r.1 d.1 (sym d.2), r.3, r.4);
 }

@@ -1,10 +1,10 @@
 -- The next end that arrives is the partner of one that leads on.
-use Rattle.nef_edges.proofs.Prelude.{◌≡◌, ℕ, ◌<◌, pos, neg_ℤ, List, length, map, arith, refl, sym, ap, subst, ◌∙◌, inl, inr, ◌⊎◌, ⊎_elim, Ordering, Less, Equal, Greater, cases_lt, ints, MatchOrdering, nat_cmp, ordering_then, tied_back, ranked, toward, Set, Vector, opposite, IsNormal, IsZero, cross, SameDirection, IsOpposite, point_of, vector_of, Dir, same_directions_equal, IsAt, MapVertex, at-one, normals-not_opposite, Complex as PlainComplex, IsEdge, Shows, SVertex, svertex_of, Vertex, vertex_of, EdgeEnd, line_order, IsEarlierSvertex, IsArriving, AreArriving, IsAfter, IsNextEnd, IsFrom, IsTo, AreJoined, dir-self}
+use Rattle.nef_edges.proofs.Prelude.{◌≡◌, ℕ, ◌<◌, pos, neg_ℤ, List, length, map, arith, refl, sym, ap, subst, ◌∙◌, inl, inr, ◌⊎◌, ⊎_elim, Ordering, Less, Equal, Greater, cases_lt, ints, MatchOrdering, nat_cmp, ordering_then, tied_back, ranked, toward, Set, Vector, opposite, IsNormal, IsZero, cross, SameDirection, IsOpposite, point_of, vector_of, Dir, same_directions_equal, IsAt, MapVertex, is-at_one, normals-not_opposite, Complex as PlainComplex, IsEdge, Shows, SVertex, svertex_of, Vertex, vertex_of, EdgeEnd, line_order, IsEarlierSvertex, IsArriving, AreArriving, IsAfter, IsNextEnd, IsFrom, IsTo, AreJoined, dir-self}
 use Rattle.law_complex.specs.Complexes.{Vertex as PlainVertex, Edge as PlainEdge}
 use Rattle.law_complex.proofs.Joining.{svertex-edge}
 use Rattle.nef_edges.proofs.Lines.{OnOneLine, tied-line, line-tied, StandsBetween, stands-between, line_total}
-use Rattle.nef_edges.proofs.Places.{at-within, at-map, map-at}
 use Rattle.nef_edges.proofs.Rays.{normal-kept, ahead-normal, middle-between, to_opposite, from_opposite, opposites-same}
+use Rattle.nef_space.proofs.Lists.{is-at_map, is-at_within, map-is_at}
 
 -- ---- in a complex that shows a set a svertex that leads to later points is the lower end of an edge
 pub partner : (s : Set) (C : PlainComplex) → Shows s C → (i a : ℕ) (v : PlainVertex) (u : MapVertex) → IsAt C.vertices i v → IsAt v.map.svertices a u → IsNormal u.dir → (e : PlainEdge) × IsFrom C.vertices i a e
@@ -13,8 +13,8 @@ partner s C S i a v u l m up = by (svertex-edge s C S i a v u l m)
     -- an edge arrives from before
     higher : (e : PlainEdge) → IsEdge C.vertices e → e.high ≡ i → e.high_svertex ≡ a → ⊥
     higher e E h k =
-        let w = at-one C.vertices i E.high_vertex v (subst (λ n. IsAt C.vertices n E.high_vertex) h E.is_high) l in
-        let t = at-one v.map.svertices a E.high_end u (subst (λ (x : PlainVertex). IsAt x.map.svertices a E.high_end) w (subst (λ n. IsAt E.high_vertex.map.svertices n E.high_end) k E.arrives)) m in
+        let w = is-at_one C.vertices i E.high_vertex v (subst (λ n. IsAt C.vertices n E.high_vertex) h E.is_high) l in
+        let t = is-at_one v.map.svertices a E.high_end u (subst (λ (x : PlainVertex). IsAt x.map.svertices a E.high_end) w (subst (λ n. IsAt E.high_vertex.map.svertices n E.high_end) k E.arrives)) m in
         let n = ahead-normal E.low_vertex.point E.high_vertex.point E.low_end.dir (S.ordered e.low e.high E.low_vertex E.high_vertex E.upward E.is_low E.is_high) E.ahead in
         normals-not_opposite E.low_end.dir u.dir n up (subst (λ (x : MapVertex). IsOpposite E.low_end.dir x.dir) t E.back)
 
@@ -38,8 +38,8 @@ partner-back s C S j b w t l m down = by (svertex-edge s C S j b w t l m)
     -- an edge leads on from there
     lower : (e : PlainEdge) → IsEdge C.vertices e → e.low ≡ j → e.low_svertex ≡ b → ⊥
     lower e E h k =
-        let v = at-one C.vertices j E.low_vertex w (subst (λ n. IsAt C.vertices n E.low_vertex) h E.is_low) l in
-        let u = at-one w.map.svertices b E.low_end t (subst (λ (x : PlainVertex). IsAt x.map.svertices b E.low_end) v (subst (λ n. IsAt E.low_vertex.map.svertices n E.low_end) k E.leaves)) m in
+        let v = is-at_one C.vertices j E.low_vertex w (subst (λ n. IsAt C.vertices n E.low_vertex) h E.is_low) l in
+        let u = is-at_one w.map.svertices b E.low_end t (subst (λ (x : PlainVertex). IsAt x.map.svertices b E.low_end) v (subst (λ n. IsAt E.low_vertex.map.svertices n E.low_end) k E.leaves)) m in
         let n = ahead-normal E.low_vertex.point E.high_vertex.point E.low_end.dir (S.ordered e.low e.high E.low_vertex E.high_vertex E.upward E.is_low E.is_high) E.ahead in
         turned-normal t.dir (subst (λ (x : MapVertex). IsNormal x.dir) u n) down
 
@@ -90,10 +90,10 @@ module _ (vs : List Vertex) (J : AreJoined (map vertex_of vs)) (hs : List EdgeEn
   plain = map vertex_of vs
 
   is-low : IsAt (map vertex_of vs) f.vertex (vertex_of F.vertex)
-  is-low = at-map vertex_of vs f.vertex F.vertex F.has_vertex
+  is-low = map-is_at vertex_of vs f.vertex F.vertex F.has_vertex
 
   leaves : IsAt (vertex_of F.vertex).map.svertices f.svertex (svertex_of F.svertex)
-  leaves = at-map svertex_of F.vertex.map.svertices f.svertex F.svertex F.has_svertex
+  leaves = map-is_at svertex_of F.vertex.map.svertices f.svertex F.svertex F.has_svertex
 
   found : (e : PlainEdge) × IsFrom (map vertex_of vs) f.vertex f.svertex e
   found = J.joined f.vertex f.svertex (vertex_of F.vertex) (svertex_of F.svertex) is-low leaves (subst (λ (d : Dir). IsNormal (vector_of d)) F.dir F.up)
@@ -105,18 +105,18 @@ module _ (vs : List Vertex) (J : AreJoined (map vertex_of vs)) (hs : List EdgeEn
   E = found.1.0
 
   low-is : E.low_vertex ≡ vertex_of F.vertex
-  low-is = at-one (map vertex_of vs) f.vertex E.low_vertex (vertex_of F.vertex) (subst (λ n. IsAt (map vertex_of vs) n E.low_vertex) found.1.1 E.is_low) is-low
+  low-is = is-at_one (map vertex_of vs) f.vertex E.low_vertex (vertex_of F.vertex) (subst (λ n. IsAt (map vertex_of vs) n E.low_vertex) found.1.1 E.is_low) is-low
 
   end-is : E.low_end ≡ svertex_of F.svertex
-  end-is = at-one (vertex_of F.vertex).map.svertices f.svertex E.low_end (svertex_of F.svertex)
+  end-is = is-at_one (vertex_of F.vertex).map.svertices f.svertex E.low_end (svertex_of F.svertex)
       (subst (λ (x : PlainVertex). IsAt x.map.svertices f.svertex E.low_end) low-is (subst (λ n. IsAt E.low_vertex.map.svertices n E.low_end) found.1.2 E.leaves)) leaves
 
   -- the higher end as the program has it
   high : (w : Vertex) × IsAt vs edge.high w × (vertex_of w ≡ E.high_vertex)
-  high = map-at vertex_of vs edge.high E.high_vertex E.is_high
+  high = is-at_map vertex_of vs edge.high E.high_vertex E.is_high
 
   end : (t : SVertex) × IsAt high.0.map.svertices edge.high_svertex t × (svertex_of t ≡ E.high_end)
-  end = map-at svertex_of high.0.map.svertices edge.high_svertex E.high_end (subst (λ (x : PlainVertex). IsAt x.map.svertices edge.high_svertex E.high_end) (sym high.2) E.arrives)
+  end = is-at_map svertex_of high.0.map.svertices edge.high_svertex E.high_end (subst (λ (x : PlainVertex). IsAt x.map.svertices edge.high_svertex E.high_end) (sym high.2) E.arrives)
 
   along : SameDirection (vector_of f.dir) (opposite (vector_of end.0.dir))
   along = subst (λ (d : Dir). SameDirection (vector_of d) (opposite (vector_of end.0.dir))) (sym F.dir)
@@ -124,7 +124,7 @@ module _ (vs : List Vertex) (J : AreJoined (map vertex_of vs)) (hs : List EdgeEn
 
   -- it is an end that arrives, on the line of f
   met : (k : ℕ) × (g : EdgeEnd) × IsAt hs k g × (g.vertex ≡ edge.high) × (g.svertex ≡ edge.high_svertex)
-  met = all.all edge.high edge.high_svertex high.0 end.0 high.1 end.1 (normal-kept (vector_of f.dir) (opposite (vector_of end.0.dir)) along F.up) (inl (at-within vs edge.high high.0 high.1))
+  met = all.all edge.high edge.high_svertex high.0 end.0 high.1 end.1 (normal-kept (vector_of f.dir) (opposite (vector_of end.0.dir)) along F.up) (inl (is-at_within vs edge.high high.0 high.1))
 
   abbrev g : EdgeEnd
   g = met.1
@@ -133,10 +133,10 @@ module _ (vs : List Vertex) (J : AreJoined (map vertex_of vs)) (hs : List EdgeEn
   G = all.each met.0 met.1 met.2
 
   same-vertex : G.vertex ≡ high.0
-  same-vertex = at-one vs edge.high G.vertex high.0 (subst (λ n. IsAt vs n G.vertex) met.3 G.has_vertex) high.1
+  same-vertex = is-at_one vs edge.high G.vertex high.0 (subst (λ n. IsAt vs n G.vertex) met.3 G.has_vertex) high.1
 
   same-end : G.svertex ≡ end.0
-  same-end = at-one high.0.map.svertices edge.high_svertex G.svertex end.0
+  same-end = is-at_one high.0.map.svertices edge.high_svertex G.svertex end.0
       (subst (λ (x : Vertex). IsAt x.map.svertices edge.high_svertex G.svertex) same-vertex (subst (λ n. IsAt G.vertex.map.svertices n G.svertex) met.4 G.has_svertex)) end.1
 
   same-dir : f.dir ≡ g.dir
@@ -181,7 +181,7 @@ module _ (vs : List Vertex) (J : AreJoined (map vertex_of vs)) (hs : List EdgeEn
     line = tied-line f h (tied_back line_total h f between.line)
 
     is-vertex : IsAt (map vertex_of vs) h.vertex (vertex_of H.vertex)
-    is-vertex = at-map vertex_of vs h.vertex H.vertex H.has_vertex
+    is-vertex = map-is_at vertex_of vs h.vertex H.vertex H.has_vertex
 
     not-between : h.vertex < g.vertex → ⊥
     not-between l =
@@ -198,13 +198,13 @@ module _ (vs : List Vertex) (J : AreJoined (map vertex_of vs)) (hs : List EdgeEn
 
     is-end : edge.high_svertex ≡ h.svertex
     is-end =
-        let w = at-one vs edge.high H.vertex high.0 (subst (λ n. IsAt vs n H.vertex) (sym is-high) H.has_vertex) high.1 in
-        let t = at-map svertex_of high.0.map.svertices h.svertex H.svertex (subst (λ (x : Vertex). IsAt x.map.svertices h.svertex H.svertex) w H.has_svertex) in
-        let r = at-map svertex_of high.0.map.svertices edge.high_svertex end.0 end.1 in
+        let w = is-at_one vs edge.high H.vertex high.0 (subst (λ n. IsAt vs n H.vertex) (sym is-high) H.has_vertex) high.1 in
+        let t = map-is_at svertex_of high.0.map.svertices h.svertex H.svertex (subst (λ (x : Vertex). IsAt x.map.svertices h.svertex H.svertex) w H.has_svertex) in
+        let r = map-is_at svertex_of high.0.map.svertices edge.high_svertex end.0 end.1 in
         let d = vector_of f.dir in
         let back : SameDirection d (opposite (vector_of H.svertex.dir)) = subst (SameDirection d) (ap vector_of line.same_dir ∙ H.back) (dir-self d f.dir.some) in
         let same = opposites-same d (vector_of end.0.dir) (vector_of H.svertex.dir) (from_opposite d (vector_of end.0.dir) along) (from_opposite d (vector_of H.svertex.dir) back) in
-        (J.shaped edge.high (vertex_of high.0) (at-map vertex_of vs edge.high high.0 high.1)).svertices_apart edge.high_svertex h.svertex (svertex_of end.0) (svertex_of H.svertex) r t same
+        (J.shaped edge.high (vertex_of high.0) (map-is_at vertex_of vs edge.high high.0 high.1)).svertices_apart edge.high_svertex h.svertex (svertex_of end.0) (svertex_of H.svertex) r t same
 
     pub pair-is : IsPair vs f h
     pair-is = record { edge = edge; from = found.1; high = is-high; high_svertex = is-end }

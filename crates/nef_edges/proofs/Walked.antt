@@ -1,10 +1,10 @@
 -- Edges laid out svertex by svertex, and those that are joined later.
-use Rattle.nef_edges.proofs.Prelude.{◌≡◌, ℕ, zero, suc, ◌+◌, ◌<◌, ◌≤◌, pos, set, List, [], ◌∷◌, ◌++◌, length, map, arith, refl, sym, ap, subst, ◌∙◌, inl, inr, ◌⊎◌, ⊎_elim, Bool, true, cases_order, ints, IsNormal, vector_of, IsAt, MapVertex, InOrder, at-one, IsEdgeBelow, Edges, SVertex, svertex_of, Vertex, Edge, vertex_of, edge_of, IsEarlierSvertex, AreJoined, IsMatched, AreMatched, ArriveApart, AreMarkedArrivals, slot_of, AreLaid, IsPart, IsJoinedAt, is-at_none, is-at_first}
+use Rattle.nef_edges.proofs.Prelude.{◌≡◌, ℕ, zero, suc, ◌+◌, ◌<◌, ◌≤◌, pos, set, List, [], ◌∷◌, ◌++◌, length, map, arith, refl, sym, ap, subst, ◌∙◌, inl, inr, ◌⊎◌, ⊎_elim, Bool, true, cases_order, ints, IsNormal, vector_of, IsAt, MapVertex, InOrder, is-at_one, IsEdgeBelow, Edges, SVertex, svertex_of, Vertex, Edge, vertex_of, edge_of, IsEarlierSvertex, AreJoined, IsMatched, AreMatched, ArriveApart, AreMarkedArrivals, slot_of, AreLaid, IsPart, IsJoinedAt, is-at_none, is-at_first}
 use Rattle.law_complex.specs.Complexes.{Vertex as PlainVertex, Edge as PlainEdge}
 use Rattle.nef_edges.proofs.Added.{order-more}
 use Rattle.nef_edges.proofs.Arrivals.{before-more, before-row}
 use Rattle.nef_edges.proofs.Matched.{matched-are_edges}
-use Rattle.nef_edges.proofs.Places.{at-within, at-before, at-last, at-more, at-map, map-at}
+use Rattle.nef_space.proofs.Lists.{is-at_last, is-at_left, is-at_map, is-at_more, is-at_within, map-is_at}
 
 -- ---- one element is another
 module _ {A : Type 0} where
@@ -27,7 +27,7 @@ pub part-same : (ns ms : List ℕ) → ms ≡ ns → IsPart ns ms
 part-same ns ms e j k a = (j, subst (λ (xs : List ℕ). IsAt xs j k) (sym e) a)
 
 pub part-more : (ns ms : List ℕ) (n : ℕ) → ms ≡ ns ++ n ∷ [] → IsPart ns ms
-part-more ns ms n e j k a = (j, subst (λ (xs : List ℕ). IsAt xs j k) (sym e) (at-before ns (n ∷ []) j k a))
+part-more ns ms n e j k a = (j, subst (λ (xs : List ℕ). IsAt xs j k) (sym e) (is-at_left ns (n ∷ []) j k a))
 
 pub part-trans : (ns ms ls : List ℕ) → IsPart ns ms → IsPart ms ls → IsPart ns ls
 part-trans ns ms ls f g j k a = let l = f j k a in g l.0 k l.1
@@ -77,8 +77,8 @@ module _ (vs : List Vertex) where
     where
       this : (j m : ℕ) (w : Vertex) (t : SVertex) → IsAt vs j w → IsAt w.map.svertices m t → IsNormal (vector_of t.dir) → j ≡ i → m ≡ k → ⊥
       this j m w t c d up g h =
-          let f = at-one vs i w v (subst (λ l. IsAt vs l w) g c) a in
-          let u = at-one v.map.svertices k t s (subst (λ (x : Vertex). IsAt x.map.svertices k t) f (subst (λ l. IsAt w.map.svertices l t) h d)) b in
+          let f = is-at_one vs i w v (subst (λ l. IsAt vs l w) g c) a in
+          let u = is-at_one v.map.svertices k t s (subst (λ (x : Vertex). IsAt x.map.svertices k t) f (subst (λ l. IsAt w.map.svertices l t) h d)) b in
           n (subst (λ (x : SVertex). IsNormal (vector_of x.dir)) u up)
 
   -- one that the edge f leads on from, which is matched or loose
@@ -98,7 +98,7 @@ module _ (vs : List Vertex) where
         each n e c = ⊎_elim
             (λ d. next i k e.low e.low_svertex (A.each n e d))
             (λ d. subst (λ (g : Edge). IsEarlierSvertex i (k + 1) g.low g.low_svertex) d.1 (inr (fi, omega (arith, fk))))
-            (at-more es f n e c)
+            (is-at_more es f n e c)
 
         now : IsMatched (map vertex_of vs) (edge_of f) ⊎ ((j : ℕ) × (0 ≤ j) × IsAt ms j (length es))
         now = ⊎_elim (λ m. inl m) (λ l. inr (l.0, omega arith, l.1)) M
@@ -107,12 +107,12 @@ module _ (vs : List Vertex) where
         matched n e c = ⊎_elim
             (λ d. (laid-part (IsEarlierSvertex i k) es ns ms P A).matched n e d)
             (λ d. subst (λ (g : Edge). IsMatched (map vertex_of vs) (edge_of g) ⊎ ((j : ℕ) × (0 ≤ j) × IsAt ms j n)) d.1 (subst (λ (m : ℕ). IsMatched (map vertex_of vs) (edge_of f) ⊎ ((j : ℕ) × (0 ≤ j) × IsAt ms j m)) (sym d.0) now))
-            (at-more es f n e c)
+            (is-at_more es f n e c)
 
         all : (j m : ℕ) (w : Vertex) (t : SVertex) → IsAt vs j w → IsAt w.map.svertices m t → IsNormal (vector_of t.dir) → IsEarlierSvertex i (k + 1) j m → (n : ℕ) × (e : Edge) × IsAt (es ++ f ∷ []) n e × (e.low ≡ j) × (e.low_svertex ≡ m)
         all j m w t a b up q = ⊎_elim
-            (λ h. let r = A.all j m w t a b up h in (r.0, r.1, at-before es (f ∷ []) r.0 r.1 r.2, r.3, r.4))
-            (λ h. (length es, f, at-last es f, fi ∙ sym h.0, fk ∙ sym h.1))
+            (λ h. let r = A.all j m w t a b up h in (r.0, r.1, is-at_left es (f ∷ []) r.0 r.1 r.2, r.3, r.4))
+            (λ h. (length es, f, is-at_last es f, fi ∙ sym h.0, fk ∙ sym h.1))
             (before-more i k j m q)
 
   -- ---- a loose edge is joined
@@ -137,7 +137,7 @@ module _ (vs : List Vertex) where
 
         others : (k : ℕ) (e : Edge) → IsAt es k e → (k ≡ n → ⊥) → IsMatched (map vertex_of vs) (edge_of e) ⊎ ((l : ℕ) × (j + 1 ≤ l) × IsAt ns l k)
         others k e a o = ⊎_elim (λ m. inl m)
-            (λ l. ⊎_elim (λ h. absurd (o (at-one ns j k n (subst (λ (m : ℕ). IsAt ns m k) h l.2) here))) (λ h. inr (l.0, ⊎_elim (λ b. absurd (let c = l.1 in omega arith)) (λ b. omega arith) h, l.2)) (cases_order l.0 j))
+            (λ l. ⊎_elim (λ h. absurd (o (is-at_one ns j k n (subst (λ (m : ℕ). IsAt ns m k) h l.2) here))) (λ h. inr (l.0, ⊎_elim (λ b. absurd (let c = l.1 in omega arith)) (λ b. omega arith) h, l.2)) (cases_order l.0 j))
             (A.matched k e a)
 
         matched : (k : ℕ) (e : Edge) → IsAt fs k e → IsMatched (map vertex_of vs) (edge_of e) ⊎ ((l : ℕ) × (j + 1 ≤ l) × IsAt ns l k)
@@ -152,7 +152,7 @@ module _ (vs : List Vertex) where
             let t = set-from es n r.0 J.new r.1 r.2 in
             ⊎_elim
             (λ h.
-            let o = at-one es n r.1 J.old (subst (λ (m : ℕ). IsAt es m r.1) h.0 r.2) J.is_old in
+            let o = is-at_one es n r.1 J.old (subst (λ (m : ℕ). IsAt es m r.1) h.0 r.2) J.is_old in
             (n, J.new, subst (λ (xs : List Edge). IsAt xs n J.new) (sym J.changed) h.1, J.low ∙ ap (λ (x : Edge). x.low) (sym o) ∙ r.3, J.low_svertex ∙ ap (λ (x : Edge). x.low_svertex) (sym o) ∙ r.4))
             (λ h. (r.0, r.1, subst (λ (xs : List Edge). IsAt xs r.0 r.1) (sym J.changed) h, r.3, r.4))
             t
@@ -166,7 +166,7 @@ module _ (vs : List Vertex) where
   pub laid-whole : (C : ℕ → ℕ → Type 0) (es : List Edge) (ns : List ℕ) (j : ℕ) → length ns ≤ j → AreLaid vs C es ns j → AreLaid vs C es [] 0
   laid-whole C es ns j l A = record {
     each = A.each;
-    matched = λ k e a. ⊎_elim (λ m. inl m) (λ r. absurd (let w = at-within ns r.0 k r.2 in let b = r.1 in omega arith)) (A.matched k e a);
+    matched = λ k e a. ⊎_elim (λ m. inl m) (λ r. absurd (let w = is-at_within ns r.0 k r.2 in let b = r.1 in omega arith)) (A.matched k e a);
     all = A.all;
     ordered = A.ordered;
   }
@@ -174,14 +174,14 @@ module _ (vs : List Vertex) where
   -- when all have been counted and joined, these are matched
   pub laid-matched : (es : List Edge) → AreLaid vs (IsEarlierSvertex (length vs) 0) es [] 0 → ArriveApart es (length es) → AreMatched (map vertex_of vs) (map edge_of es)
   laid-matched es A P = record {
-    each = λ k e a. let f = map-at edge_of es k e a in subst (IsMatched (map vertex_of vs)) f.2 (is-matched k f.0 f.1);
+    each = λ k e a. let f = is-at_map edge_of es k e a in subst (IsMatched (map vertex_of vs)) f.2 (is-matched k f.0 f.1);
     all = all;
     once = λ k l e f a b p q.
-        let g = map-at edge_of es k e a in let h = map-at edge_of es l f b in
-        P k l g.0 h.0 g.1 h.1 (at-within es k g.0 g.1) (at-within es l h.0 h.1) (ap (λ (x : PlainEdge). x.high) g.2 ∙ p ∙ ap (λ (x : PlainEdge). x.high) (sym h.2))
+        let g = is-at_map edge_of es k e a in let h = is-at_map edge_of es l f b in
+        P k l g.0 h.0 g.1 h.1 (is-at_within es k g.0 g.1) (is-at_within es l h.0 h.1) (ap (λ (x : PlainEdge). x.high) g.2 ∙ p ∙ ap (λ (x : PlainEdge). x.high) (sym h.2))
         (ap (λ (x : PlainEdge). x.high_svertex) g.2 ∙ q ∙ ap (λ (x : PlainEdge). x.high_svertex) (sym h.2));
     ordered = λ i k x y l a b.
-        let f = map-at edge_of es i x a in let g = map-at edge_of es k y b in
+        let f = is-at_map edge_of es i x a in let g = is-at_map edge_of es k y b in
         subst (IsEdgeBelow x) g.2 (subst (λ (e : PlainEdge). IsEdgeBelow e (edge_of g.0)) f.2 (A.ordered i k f.0 g.0 l f.1 g.1));
   }
     where
@@ -190,10 +190,10 @@ module _ (vs : List Vertex) where
 
       all : (i a : ℕ) (v : PlainVertex) (u : MapVertex) → IsAt (map vertex_of vs) i v → IsAt v.map.svertices a u → IsNormal u.dir → (k : ℕ) × (e : PlainEdge) × IsAt (map edge_of es) k e × (e.low ≡ i) × (e.low_svertex ≡ a)
       all i a v u b c n =
-          let w = map-at vertex_of vs i v b in
-          let t = map-at svertex_of w.0.map.svertices a u (subst (λ (x : PlainVertex). IsAt x.map.svertices a u) (sym w.2) c) in
-          let r = A.all i a w.0 t.0 w.1 t.1 (subst (λ (x : MapVertex). IsNormal x.dir) (sym t.2) n) (inl (at-within vs i w.0 w.1)) in
-          (r.0, edge_of r.1, at-map edge_of es r.0 r.1 r.2, r.3, r.4)
+          let w = is-at_map vertex_of vs i v b in
+          let t = is-at_map svertex_of w.0.map.svertices a u (subst (λ (x : PlainVertex). IsAt x.map.svertices a u) (sym w.2) c) in
+          let r = A.all i a w.0 t.0 w.1 t.1 (subst (λ (x : MapVertex). IsNormal x.dir) (sym t.2) n) (inl (is-at_within vs i w.0 w.1)) in
+          (r.0, edge_of r.1, map-is_at edge_of es r.0 r.1 r.2, r.3, r.4)
 
   pub laid-are_edges : (es : List Edge) → AreJoined (map vertex_of vs) → AreLaid vs (IsEarlierSvertex (length vs) 0) es [] 0 → ArriveApart es (length es) → Edges (map vertex_of vs) (map edge_of es)
   laid-are_edges es J A P = matched-are_edges (map vertex_of vs) (map edge_of es) J (laid-matched es A P)
@@ -201,7 +201,7 @@ module _ (vs : List Vertex) where
 -- ---- the marks of what is taken
 module _ (starts : List ℕ) (es : List Edge) (n : ℕ) (f : Edge) (here : IsAt es n f) where
   one-more : (k : ℕ) (e : Edge) → IsAt es k e → k < n + 1 → (k < n) ⊎ ((k ≡ n) × (f ≡ e))
-  one-more k e a l = ⊎_elim (λ h. inr (h, at-one es n f e here (subst (λ (m : ℕ). IsAt es m e) h a))) (λ h. inl (⊎_elim (λ b. b) (λ b. absurd (omega arith)) h)) (cases_order k n)
+  one-more k e a l = ⊎_elim (λ h. inr (h, is-at_one es n f e here (subst (λ (m : ℕ). IsAt es m e) h a))) (λ h. inl (⊎_elim (λ b. b) (λ b. absurd (omega arith)) h)) (cases_order k n)
 
   pub taken-more : (marks new : List Bool) → AreMarkedArrivals starts marks es n → ((k : ℕ) → IsAt marks k true → IsAt new k true) → IsAt new (slot_of starts f.high f.high_svertex) true → AreMarkedArrivals starts new es (n + 1)
   taken-more marks new T kept set k e a l = ⊎_elim

@@ -10,7 +10,7 @@ sets_after-append : (ss : List Set) (ns ms : List Node) → sets_after ss (ns ++
 sets_after-append ss [] ms = refl
 sets_after-append ss (n ∷ ns) ms = sets_after-append (ss ++ set_of ss n ∷ []) ns ms
 
-operand-append : (ss ts : List Set) (k : ℕ) → k < length ss → operand (ss ++ ts) k ≡ operand ss k
+pub operand-append : (ss ts : List Set) (k : ℕ) → k < length ss → operand (ss ++ ts) k ≡ operand ss k
 operand-append ss ts k h = get_or-append ss ts Set.empty k h
 
 -- the first sets stay
@@ -23,7 +23,7 @@ pub earlier-sets_stay : EarlierSetsStay
 earlier-sets_stay ns n k h =
     ap (λ ss. operand ss k) (sets_after-append [] ns (n ∷ [])) ∙ operand-append (sets_after [] ns) (set_of (sets_after [] ns) n ∷ []) k (let e = sets_after-length [] ns in omega arith)
 
-operand-last : (ss : List Set) (s : Set) → operand (ss ++ s ∷ []) (length ss) ≡ s
+pub operand-last : (ss : List Set) (s : Set) → operand (ss ++ s ∷ []) (length ss) ≡ s
 operand-last ss s = get_or-append_seam ss s [] Set.empty
 
 pub new-set : NewSetIsOfItsNode

@@ -1,5 +1,5 @@
 -- Links across facets, by what the ray inward in a carrier names.
-use Rattle.nef_facets.proofs.Prelude.{◌≡◌, ℕ, pos, List, [], ◌∷◌, ◌++◌, refl, ap, sym, ◌∙◌, subst, Form, form_at, normal_of, toward, Set, Vector, opposite, SameDirection, plane_dir, point-toward, IsAt, Item, items, item_normal, OnItem, on-direction, on-level, at-one, Vertex, Complex, IsCorner, Shows, item_plane, RayNames, through-at, through-level, same-itself, Corner as ProgramCorner, corner_of, Cell, Tie, LinkAcross, one-vertex, one-named, HasNoSvertex, level-of_opposite, through-same, on_item-way, cell_of, corner_at, IsTieAcross, Adds, dot-zero, SameDirection-turned, SameDirection-trans, dir-self, opposite-same, direction-left, direction-right}
+use Rattle.nef_facets.proofs.Prelude.{◌≡◌, ℕ, pos, List, [], ◌∷◌, ◌++◌, refl, ap, sym, ◌∙◌, subst, Form, form_at, normal_of, toward, Set, Vector, opposite, SameDirection, plane_dir, point-toward, IsAt, Item, items, item_normal, OnItem, on-direction, on-level, is-at_one, Vertex, Complex, IsCorner, Shows, item_plane, RayNames, through-at, through-level, same-itself, Corner as ProgramCorner, corner_of, Cell, Tie, LinkAcross, one-vertex, one-named, HasNoSvertex, level-of_opposite, through-same, on_item-way, cell_of, corner_at, IsTieAcross, Adds, dot-zero, SameDirection-turned, SameDirection-trans, dir-self, opposite-same, direction-left, direction-right}
 use Rattle.law_complex.specs.Complexes.{Corner}
 use Rattle.nef_conn.proofs.WayInward.{names-same, dir-same}
 use Rattle.nef_facets.proofs.Adding.{adds-one}
@@ -16,8 +16,8 @@ module _ (C : Complex) (j : Corner) (v : Vertex) (x : Item) (b : IsCorner C j v 
 
   pub link-is : (k : Corner) → LinkAcross C j k → Names k v x
   link-is k L =
-      let e = at-one C.vertices j.vertex L.vertex v L.corner.vertex b.vertex in
-      let f = at-one (items v.map) j.item L.item x (subst (λ (u : Vertex). IsAt (items u.map) j.item L.item) e L.corner.item) b.item in
+      let e = is-at_one C.vertices j.vertex L.vertex v L.corner.vertex b.vertex in
+      let f = is-at_one (items v.map) j.item L.item x (subst (λ (u : Vertex). IsAt (items u.map) j.item L.item) e L.corner.item) b.item in
       subst (λ (z : Item). Names k v z) f (subst (λ (u : Vertex). Names k u L.item) e (L.inward, L.named))
 
   -- ---- the way inward in a plane with the item's normal
@@ -70,7 +70,7 @@ module _ (s : Set) (C : Complex) (S : Shows s C) where
   pub no-svertex : (j : Corner) (v : Vertex) (x : Item) → IsCorner C j v x → (d : Vector) → OnItem v.map x d → HasNoSvertex C v.point d
   no-svertex j v x b d o k i w u a e t q =
       let n = one-vertex s C S k j.vertex w v a b.vertex e in
-      let f = at-one C.vertices j.vertex w v (subst (λ (r : ℕ). IsAt C.vertices r w) n a) b.vertex in
+      let f = is-at_one C.vertices j.vertex w v (subst (λ (r : ℕ). IsAt C.vertices r w) n a) b.vertex in
       let listed = subst (λ (r : Vertex). IsAt r.map.svertices i u) f t in
       (S.cones j.vertex v b.vertex).valid.shaped.no_svertex_on_item i j.item u x listed b.item (on_item-way v.map x d u.dir (SameDirection-turned u.dir d q) o)
 

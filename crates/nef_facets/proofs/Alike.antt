@@ -1,13 +1,15 @@
 -- Linked items have one normal and one mark, and the vertices lie in one plane of that normal.
-use Rattle.nef_facets.proofs.Prelude.{◌≡◌, ℕ, pos, sym, ◌∙◌, inl, inr, ⊎_elim, [], ◌∷◌, List, subst, ring, at, num, neg, ◌⊕◌, ◌⊗◌, IsChain, Chained, SpacePoint, Form, form_at, normal_of, slope, plane_through, SamePoint, toward, Set, Vector, opposite, dot, SameDirection, plane_dir, Label, ahead, joined-germs, labels-by_germs, label-one, IsAt, Item, arc_item, items, item_normal, item_mark, on-level, at-one, at-arc, Vertex, Edge, Complex, HasEnds, IsCorner, Shows, item_plane, PlaneMeet, meets_vertex, meets_edge, IsFirstInPlane, IsCornerAt, plane-onward, plane-back, plane-ahead, ahead-same, through-at, through-level, AreAlong, LinkAlong, LinkAcross, FacetLink, facet-near, AreTiedItems, EdgeWays, edge-ways, end-level, along-tied, across-tied, dot-comm, SameDirection-turned, SameDirection-trans, level-way}
+use Rattle.nef_facets.proofs.Prelude.{◌≡◌, ℕ, pos, sym, ◌∙◌, inl, inr, ⊎_elim, [], ◌∷◌, List, subst, ring, at, num, neg, ◌⊕◌, ◌⊗◌, IsChain, Chained, SpacePoint, Form, form_at, normal_of, slope, plane_through, SamePoint, toward, Set, Vector, opposite, dot, SameDirection, plane_dir, Label, ahead, joined-germs, labels-by_germs, label-one, IsAt, Item, arc_item, items, item_normal, item_mark, on-level, is-at_one, at-arc, Vertex, Edge, Complex, HasEnds, IsCorner, Shows, item_plane, PlaneMeet, meets_vertex, meets_edge, IsFirstInPlane, IsCornerAt, plane-onward, plane-back, plane-ahead, ahead-same, through-at, through-level, AreAlong, LinkAlong, LinkAcross, FacetLink, facet-near, AreTiedItems, EdgeWays, edge-ways, end-level, along-tied, across-tied, dot-comm, SameDirection-turned, SameDirection-trans, level-way}
 use Rattle.law_complex.specs.Complexes.{Corner}
 use Rattle.law_complex.proofs.links.EdgeEnds.{corner_of_numbers}
+use Rattle.law_complex.proofs.FacetEnds.{level-normal}
+use Rattle.nef_conn.proofs.Named.{own-plane}
 
 -- a corner has one item
 pub corner-one : (C : Complex) (k : Corner) (v w : Vertex) (x y : Item) → IsCorner C k v x → IsCorner C k w y → (P : Vertex → Item → Type 0) → P v x → P w y
 corner-one C k v w x y a b P p =
-    let e = at-one C.vertices k.vertex v w a.vertex b.vertex in
-    let f = at-one (items w.map) k.item x y (subst (λ (r : Vertex). IsAt (items r.map) k.item x) e a.item) b.item in
+    let e = is-at_one C.vertices k.vertex v w a.vertex b.vertex in
+    let f = is-at_one (items w.map) k.item x y (subst (λ (r : Vertex). IsAt (items r.map) k.item x) e a.item) b.item in
     subst (λ (r : Item). P w r) f (subst (λ (r : Vertex). P r x) e p)
 
 pub record AreLikeCorners (C : Complex) (j k : Corner) : Type 0 where
@@ -20,11 +22,6 @@ pub record AreLikeCorners (C : Complex) (j k : Corner) : Type 0 where
   pub one_normal : SameDirection (item_normal item) (item_normal other_item)
   pub level : dot (item_normal item) (toward vertex.point other_vertex.point) ≡ pos 0
   pub one_mark : item_mark item ≡ item_mark other_item
-
--- a plane holds the point that it goes through
-through-itself : (n : Vector) (p : SpacePoint) → form_at (plane_through n p) p ≡ pos 0
-through-itself n p = ring (n.x ∷ n.y ∷ n.z ∷ p.x ∷ p.y ∷ p.z ∷ pos p.w ∷ [])
-    (at 0 ⊗ at 6 ⊗ at 3 ⊕ at 1 ⊗ at 6 ⊗ at 4 ⊕ at 2 ⊗ at 6 ⊗ at 5 ⊕ neg (at 0 ⊗ at 3 ⊕ at 1 ⊗ at 4 ⊕ at 2 ⊗ at 5) ⊗ at 6) (num (pos 0)) tt
 
 module _ (s : Set) (C : Complex) (S : Shows s C) where
   tied-mark : (j k : Corner) (T : AreTiedItems s C j k) → item_mark T.item ≡ item_mark T.other_item
@@ -72,7 +69,7 @@ module _ (s : Set) (C : Complex) (S : Shows s C) where
     pub alike-ends : AreLikeCorners C (corner_of_numbers e.low i) (corner_of_numbers e.high j)
     alike-ends =
         let T = along-tied s C S n e a i j A in
-        let f = at-one C.vertices e.high w T.other_vertex A.ends.high T.other_corner.vertex in
+        let f = is-at_one C.vertices e.high w T.other_vertex A.ends.high T.other_corner.vertex in
         from-tied (corner_of_numbers e.low i) (corner_of_numbers e.high j) T
         (subst (λ (r : Vertex). dot (item_normal T.item) (toward T.vertex.point r.point) ≡ pos 0) f
         (corner-one C (corner_of_numbers e.low i) v T.vertex (arc_item A.low_arc) T.item low-corner T.corner (λ u x. dot (item_normal x) (toward u.point w.point) ≡ pos 0) level-along))
@@ -105,14 +102,14 @@ module _ (s : Set) (C : Complex) (S : Shows s C) where
       where
         by : (t : Vertex) × IsAt C.vertices i t × SamePoint t.point I.place → form_at plane w.point ≡ pos 0
         by (t, b, same) =
-            let f = at-one C.vertices i t w b (subst (λ (n : ℕ). IsAt C.vertices n w) e a) in
-            plane-ahead plane p w.point d (ahead-same p I.place w.point d (subst (λ (r : Vertex). SamePoint r.point I.place) f same) I.ahead) level-d (through-itself (item_normal x) p)
+            let f = is-at_one C.vertices i t w b (subst (λ (n : ℕ). IsAt C.vertices n w) e a) in
+            plane-ahead plane p w.point d (ahead-same p I.place w.point d (subst (λ (r : Vertex). SamePoint r.point I.place) f same) I.ahead) level-d (own-plane (item_normal x) p)
     named-in (meets_edge i) I (e, v, c, b, f, l, o, r, side) w a = by I.meets.1
       where
         by : (g : Edge) × (u : Vertex) × (t : Vertex) × IsAt C.edges i g × HasEnds C g u t × (form_at plane u.point ≡ pos 0) × (form_at plane t.point ≡ pos 0) → form_at plane w.point ≡ pos 0
         by (g, u, t, h, G, on, also) =
-            let same = at-one C.edges i g e h b in
-            let q = at-one C.vertices e.low u w (subst (λ (z : Edge). IsAt C.vertices z.low u) same G.low) (subst (λ (n : ℕ). IsAt C.vertices n w) f a) in
+            let same = is-at_one C.edges i g e h b in
+            let q = is-at_one C.vertices e.low u w (subst (λ (z : Edge). IsAt C.vertices z.low u) same G.low) (subst (λ (n : ℕ). IsAt C.vertices n w) f a) in
             subst (λ (z : Vertex). form_at plane z.point ≡ pos 0) q on
 
     alike-across : AreLikeCorners C j k
@@ -133,16 +130,13 @@ IsFormAt C h k = (v : Vertex) (x : Item) → IsCorner C k v x → (form_at h v.p
 abbrev pub IsLabelAt : Complex → Label → Corner → Type 0
 IsLabelAt C l k = (v : Vertex) (x : Item) → IsCorner C k v x → l ≡ item_mark x
 
-turned-level : (n m d : Vector) → SameDirection n m → dot n d ≡ pos 0 → dot m d ≡ pos 0
-turned-level n m d w z = dot-comm m d ∙ level-way d n m w (dot-comm d n ∙ z)
-
 module _ (C : Complex) (j k : Corner) (A : AreLikeCorners C j k) where
   form-onward : (h : Form) → IsFormAt C h j → IsFormAt C h k
   form-onward h f v x c =
       let r = f A.vertex A.item A.corner in
       let n = SameDirection-turned (normal_of h) (item_normal A.item) r.1 in
       corner-one C k A.other_vertex v A.other_item x A.other_corner c (λ u y. (form_at h u.point ≡ pos 0) × SameDirection (normal_of h) (item_normal y)) (
-        plane-onward h A.vertex.point A.other_vertex.point (turned-level (item_normal A.item) (normal_of h) (toward A.vertex.point A.other_vertex.point) n A.level) r.0,
+        plane-onward h A.vertex.point A.other_vertex.point (level-normal (item_normal A.item) (normal_of h) (toward A.vertex.point A.other_vertex.point) n A.level) r.0,
         SameDirection-trans (normal_of h) (item_normal A.item) (item_normal A.other_item) r.1 A.one_normal,
       )
 
@@ -152,7 +146,7 @@ module _ (C : Complex) (j k : Corner) (A : AreLikeCorners C j k) where
       let n = SameDirection-trans (normal_of h) (item_normal A.other_item) (item_normal A.item) r.1 (SameDirection-turned (item_normal A.item) (item_normal A.other_item) A.one_normal) in
       corner-one C j A.vertex v A.item x A.corner c (λ u y. (form_at h u.point ≡ pos 0) × SameDirection (normal_of h) (item_normal y)) (
         plane-back h A.vertex.point A.other_vertex.point
-            (turned-level (item_normal A.item) (normal_of h) (toward A.vertex.point A.other_vertex.point) (SameDirection-turned (normal_of h) (item_normal A.item) n) A.level) r.0,
+            (level-normal (item_normal A.item) (normal_of h) (toward A.vertex.point A.other_vertex.point) (SameDirection-turned (normal_of h) (item_normal A.item) n) A.level) r.0,
         n,
       )
 

@@ -1,7 +1,7 @@
 -- Lists of corners.
-use Rattle.nef_facets.proofs.Prelude.{◌≡◌, ℕ, zero, suc, ◌+◌, ◌<◌, pos, List, [], ◌∷◌, ◌++◌, length, arith, refl, ap, sym, ◌∙◌, subst, inl, inr, ⊎_elim, ◌⊎◌, append_assoc, length-append, ints, IsAt, items, at-one, Either, earlier, last, is-at_either, is-at_last, is-at_left, is-at_within, is-at_some, less-or-last, some-at, at-within, Vertex as PlainVertex, Complex as PlainComplex, Corner, corner_of, IsCornerBelow, corner_from, corners_at, HasItem, AreCorners, StandFrom}
+use Rattle.nef_facets.proofs.Prelude.{◌≡◌, ℕ, zero, suc, ◌+◌, ◌<◌, pos, List, [], ◌∷◌, ◌++◌, length, arith, refl, ap, sym, ◌∙◌, subst, inl, inr, ⊎_elim, ◌⊎◌, append_assoc, length-append, ints, IsAt, items, is-at_one, Either, earlier, last, is-at_either, is-at_last, is-at_left, is-at_within, is-at_some, less-or-last, Vertex as PlainVertex, Complex as PlainComplex, Corner, corner_of, IsCornerBelow, corner_from, corners_at, HasItem, AreCorners, StandFrom}
 use Rattle.law_complex.specs.Complexes.{Corner as PlainCorner}
-use Rattle.nef_facets.proofs.Lists.{is-at_parts, is-at_second}
+use Rattle.nef_space.proofs.Lists.{is-at_parts, is-at_right}
 
 abbrev pub corner : ℕ → ℕ → Corner
 corner i k = record { vertex = i; item = k }
@@ -47,7 +47,7 @@ module _ (C : PlainComplex) (n : ℕ) (ks : List Corner) (A : AreCornersTo C n k
       let r = at-corners n m j k a in
       let x = is-at_some (items u.map) j (let h = r.0 in omega arith) in
       let e : corner n j ≡ k = sym r.1 in
-      subst (λ (l : Corner). HasItem C (corner_of l) × (l.vertex < n + 1)) e ((u, x.0, record { vertex = at; item = some-at (items u.map) j x.0 x.1 }), omega arith)
+      subst (λ (l : Corner). HasItem C (corner_of l) × (l.vertex < n + 1)) e ((u, x.0, record { vertex = at; item = x.1 }), omega arith)
 
   pub corners-next : AreCornersTo C (n + 1) new
   corners-next = record {
@@ -58,10 +58,10 @@ module _ (C : PlainComplex) (n : ℕ) (ks : List Corner) (A : AreCornersTo C n k
     where
       here : (k : PlainCorner) → HasItem C k → k.vertex ≡ n → (i : ℕ) × IsAt new i (corner_from k)
       here k (v, x, c) e =
-          let f = at-one C.vertices n v u (subst (λ (i : ℕ). IsAt C.vertices i v) e c.vertex) at in
-          let w = at-within (items v.map) k.item x c.item in
+          let f = is-at_one C.vertices n v u (subst (λ (i : ℕ). IsAt C.vertices i v) e c.vertex) at in
+          let w = is-at_within (items v.map) k.item x c.item in
           let g : length (items v.map) ≡ length (items u.map) = ap (λ (r : PlainVertex). length (items r.map)) f in
-          (length ks + k.item, is-at_second ks (corners_at n m) k.item (corner_from k) (subst (λ (i : ℕ). IsAt (corners_at n m) k.item (corner i k.item)) (sym e) (corners-have n m k.item (omega arith))))
+          (length ks + k.item, is-at_right ks (corners_at n m) k.item (corner_from k) (subst (λ (i : ℕ). IsAt (corners_at n m) k.item (corner i k.item)) (sym e) (corners-have n m k.item (omega arith))))
 
       order : (i j : ℕ) (x y : Corner) → i < j → IsAt ks i x ⊎ ((a : ℕ) × (i ≡ length ks + a) × IsAt (corners_at n m) a x) → IsAt ks j y ⊎ ((b : ℕ) × (j ≡ length ks + b) × IsAt (corners_at n m) b y)
           → IsCornerBelow (corner_of x) (corner_of y)

@@ -1,5 +1,5 @@
 -- Orbits of the next corners are cycles, and those of one facet are its cycles.
-use Rattle.nef_facets.proofs.Prelude.{◌≡◌, ℕ, zero, suc, ◌<◌, List, [], ◌∷◌, length, map, arith, refl, ap, sym, subst, Option, Some, Result, Ok, Err, IfOk, All, IsAt, Chained, Set, chain-here, chain-trans, is-at_one, is-at_within, is-at_some, is-at_is, some-at, at-some, at-map, map-at, Complex as PlainComplex, Shows, Corner, corner_of, FacetLink, Cycle, NextCorner, IsCornerBelow, StepsTo, IsCycle, IsCycleBelow, Cycles, IsFacetOf, FacetNumbers, cycle_corners, CornersAreInOrder, AreCorners, corner_from, AreNext, IsStep, StepsOver, IsOrbit, AreOrbits, AreCornersOf, AreNumberedOrbits, IsCycleOf, AreCycleRows, is-at_none, is-at_first}
+use Rattle.nef_facets.proofs.Prelude.{◌≡◌, ℕ, zero, suc, ◌<◌, List, [], ◌∷◌, length, map, arith, refl, ap, sym, subst, Option, Some, Result, Ok, Err, IfOk, All, IsAt, Chained, Set, chain-here, chain-trans, is-at_one, is-at_within, is-at_some, is-at_is, map-is_at, is-at_map, Complex as PlainComplex, Shows, Corner, corner_of, FacetLink, Cycle, NextCorner, IsCornerBelow, StepsTo, IsCycle, IsCycleBelow, Cycles, IsFacetOf, FacetNumbers, cycle_corners, CornersAreInOrder, AreCorners, corner_from, AreNext, IsStep, StepsOver, IsOrbit, AreOrbits, AreCornersOf, AreNumberedOrbits, IsCycleOf, AreCycleRows, is-at_none, is-at_first}
 use Rattle.law_complex.specs.Complexes.{Corner as PlainCorner}
 use Rattle.nef_facets.proofs.FirstCorners.{facet-one, facet-item, item-facet}
 use Rattle.nef_facets.proofs.NextCorners.{next-injective, next-linked}
@@ -48,8 +48,8 @@ module _ (C : PlainComplex) (ks : List Corner) (ns : List ℕ) (O : CornersAreIn
 
   above : (i : ℕ) (is : List ℕ) (x : Corner) (xs : List Corner) → All (λ k. i < k) is → AreCornersOf ks is xs → IsAt ks i x → All (IsCornerBelow (corner_of x)) (map corner_of xs)
   above i is x xs l A a = all-of (IsCornerBelow (corner_of x)) (map corner_of xs) (λ k y b.
-      let u = map-at corner_of xs k y (some-at (map corner_of xs) k y b) in
-      let v = at-some xs k u.0 u.1 in
+      let u = is-at_map corner_of xs k y b in
+      let v = u.1 in
       let j = is-at_some is k (let h = is-at_within xs k u.0 v in let e = A.as_many in omega arith) in
       let less : i < j.0 = subst (λ (n : ℕ). i < n) (is-at_is is k j.0 0 j.1) (l k 0 (is-at_within is k j.0 j.1)) in
       subst (λ (w : PlainCorner). IsCornerBelow (corner_of x) w) u.2 (O i j.0 x u.0 less a (A.each k j.0 u.0 j.1 v)))
@@ -92,12 +92,12 @@ module _ (C : PlainComplex) (rows : List (List ℕ)) (F : FacetNumbers C rows) (
 
     one-number : (k : ℕ) (x : PlainCorner) → IsAt (map corner_of y.corners) k x → IsFacetOf rows x n
     one-number k x a =
-        let p = map-at corner_of y.corners k x a in
-        let w = is-at_some Y.orbit k (let h = is-at_within y.corners k p.0 (at-some y.corners k p.0 p.1) in let e = (Y.corners).as_many in omega arith) in
-        let i = (Y.corners).each k w.0 p.0 w.1 (at-some y.corners k p.0 p.1) in
+        let p = is-at_map corner_of y.corners k x a in
+        let w = is-at_some Y.orbit k (let h = is-at_within y.corners k p.0 p.1 in let e = (Y.corners).as_many in omega arith) in
+        let i = (Y.corners).each k w.0 p.0 w.1 p.1 in
         let l = subst (λ (z : PlainCorner). (m : ℕ) × IsFacetOf rows z m) p.2 (item-facet C rows F (corner_of p.0) (K.each w.0 p.0 i)) in
         let f = first-corner in
-        let c = cycle-chained C (map corner_of y.corners) is-cycle (corner_of f.0) x k (at-map corner_of y.corners 0 f.0 (some-at y.corners 0 f.0 f.1)) a in
+        let c = cycle-chained C (map corner_of y.corners) is-cycle (corner_of f.0) x k (map-is_at corner_of y.corners 0 f.0 f.1) a in
         let e = (F.numbered.by_class (corner_of f.0) x n l.0 first-number l.1).1 c in
         subst (λ (q : ℕ). IsFacetOf rows x q) (sym e) l.1
 
@@ -117,35 +117,35 @@ module _ (C : PlainComplex) (rows : List (List ℕ)) (F : FacetNumbers C rows) (
         let b : IsAt Y.orbit k p.0 = subst (λ (w : List ℕ). IsAt w k p.0) same o.4 in
         let x = is-at_some y.corners k (let l = is-at_within Y.orbit k p.0 b in let e = (Y.corners).as_many in omega arith) in
         let e = is-at_one ks p.0 x.0 (corner_from j) ((Y.corners).each k p.0 x.0 b x.1) p.1 in
-        let a : IsAt (row_cycle y) k j = subst (λ (w : PlainCorner). IsAt (row_cycle y) k w) (ap corner_of e) (at-map corner_of y.corners k x.0 (some-at y.corners k x.0 x.1)) in
+        let a : IsAt (row_cycle y) k j = subst (λ (w : PlainCorner). IsAt (row_cycle y) k w) (ap corner_of e) (map-is_at corner_of y.corners k x.0 x.1) in
         let f = facet-one rows j g.0 n (one-number g.0 m y Y k j a) h in
         let r = is-at_one ys n g.2 row (subst (λ (q : ℕ). IsAt ys q g.2) f g.4) at in
-        (g.1, k, row_cycle y, at-map row_cycle row g.1 y (some-at row g.1 y (subst (λ (w : List Cycle). IsAt w g.1 y) r g.5)), a)
+        (g.1, k, row_cycle y, map-is_at row_cycle row g.1 y (subst (λ (w : List Cycle). IsAt w g.1 y) r g.5), a)
 
     below : (q r : ℕ) (x z : List PlainCorner) → q < r → IsAt (cycle_corners row) q x → IsAt (cycle_corners row) r z → IsCycleBelow x z
     below q r x z h a b =
-        let u = map-at row_cycle row q x a in
-        let v = map-at row_cycle row r z b in
-        let g = G.ordered n q r row u.0 v.0 h at (at-some row q u.0 u.1) (at-some row r v.0 v.1) in
+        let u = is-at_map row_cycle row q x a in
+        let v = is-at_map row_cycle row r z b in
+        let g = G.ordered n q r row u.0 v.0 h at u.1 v.1 in
         let f = first-corner n g.0 u.0 g.3 in
         let e = first-corner n g.1 v.0 g.4 in
         let l = B.ordered g.0 g.1 g.3.first g.4.first g.3.orbit g.4.orbit g.2 g.3.listed g.4.listed g.3.is_first g.4.is_first in (
           corner_of f.0,
           corner_of e.0,
-          subst (λ (w : List PlainCorner). IsAt w 0 (corner_of f.0)) u.2 (at-map corner_of (u.0).corners 0 f.0 (some-at (u.0).corners 0 f.0 f.1)),
-          subst (λ (w : List PlainCorner). IsAt w 0 (corner_of e.0)) v.2 (at-map corner_of (v.0).corners 0 e.0 (some-at (v.0).corners 0 e.0 e.1)),
+          subst (λ (w : List PlainCorner). IsAt w 0 (corner_of f.0)) u.2 (map-is_at corner_of (u.0).corners 0 f.0 f.1),
+          subst (λ (w : List PlainCorner). IsAt w 0 (corner_of e.0)) v.2 (map-is_at corner_of (v.0).corners 0 e.0 e.1),
           K.ordered g.3.first g.4.first f.0 e.0 l f.2 e.2,
         )
 
     pub facet-cycles : Cycles C (λ k. IsFacetOf rows k n) (cycle_corners row)
     facet-cycles = record {
       cycles = λ i x a.
-          let u = map-at row_cycle row i x a in
-          let g = G.each n i row u.0 at (at-some row i u.0 u.1) in
+          let u = is-at_map row_cycle row i x a in
+          let g = G.each n i row u.0 at u.1 in
           subst (λ (w : List PlainCorner). IsCycle C w) u.2 (is-cycle n g.0 u.0 g.2);
       within = λ i k x j a b.
-          let u = map-at row_cycle row i x a in
-          let g = G.each n i row u.0 at (at-some row i u.0 u.1) in
+          let u = is-at_map row_cycle row i x a in
+          let g = G.each n i row u.0 at u.1 in
           one-number n g.0 u.0 g.2 k j (subst (λ (w : List PlainCorner). IsAt w k j) (sym u.2) b);
       complete = listed;
       ordered = below;

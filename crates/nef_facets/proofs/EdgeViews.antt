@@ -1,5 +1,5 @@
 -- Edges seen from either of their ends.
-use Rattle.nef_facets.proofs.Prelude.{◌≡◌, ℕ, sym, inl, inr, ⊎_elim, subst, cases_order, SamePoint, toward, IsBetween, Set, opposite, SameDirection, IsOpposite, ahead, between-turned, point_below-apart, same-point_sym, IsAt, MapVertex, at-one, Vertex, Edge, Complex, HasEnds, Shows, ahead-back, opposites-same, IsTied, tied-turned, EdgeWays, edge-ways, ends-tied, Leads, SameDirection-turned, SameDirection-trans, opposite-turned, opposite-way}
+use Rattle.nef_facets.proofs.Prelude.{◌≡◌, ℕ, sym, inl, inr, ⊎_elim, subst, cases_order, SamePoint, toward, IsBetween, Set, opposite, SameDirection, IsOpposite, ahead, between-turned, point_below-apart, same-point_sym, IsAt, MapVertex, is-at_one, Vertex, Edge, Complex, HasEnds, Shows, ahead-back, opposites-same, IsTied, tied-turned, EdgeWays, edge-ways, ends-tied, Leads, SameDirection-turned, SameDirection-trans, opposite-turned, opposite-way}
 use Rattle.nef_conn.proofs.SameRay.{on-ray}
 
 -- an edge from svertex a of vertex i to svertex b of vertex j
@@ -80,10 +80,10 @@ back-way s C i a j b V = SameDirection-trans (toward V.to.point V.from.point) (o
 -- ---- one edge leads to a svertex
 module _ (s : Set) (C : Complex) (S : Shows s C) (i a i' a' j b : ℕ) (V : EdgeFrom s C i a j b) (W : EdgeFrom s C i' a' j b) where
   one-to : W.to ≡ V.to
-  one-to = at-one C.vertices j W.to V.to W.is_to V.is_to
+  one-to = is-at_one C.vertices j W.to V.to W.is_to V.is_to
 
   one-end : W.end ≡ V.end
-  one-end = at-one V.to.map.svertices b W.end V.end (subst (λ (r : Vertex). IsAt r.map.svertices b W.end) one-to W.is_end) V.is_end
+  one-end = is-at_one V.to.map.svertices b W.end V.end (subst (λ (r : Vertex). IsAt r.map.svertices b W.end) one-to W.is_end) V.is_end
 
   other-way : SameDirection (toward V.to.point W.from.point) V.end.dir
   other-way = subst (λ (r : MapVertex). SameDirection (toward V.to.point W.from.point) r.dir) one-end (subst (λ (r : Vertex). SameDirection (toward r.point W.from.point) W.end.dir) one-to (back-way s C i' a' j b W))
@@ -100,7 +100,7 @@ module _ (s : Set) (C : Complex) (S : Shows s C) (i a i' a' j b : ℕ) (V : Edge
       (λ l. absurd (point_below-apart W.from.point V.from.point (S.ordered i' i W.from V.from l W.is_from V.is_from) (same-point_sym V.from.point W.from.point same-point))) o) (cases_order i i')
 
   pub one-from : W.from ≡ V.from
-  one-from = at-one C.vertices i W.from V.from (subst (λ (r : ℕ). IsAt C.vertices r W.from) (sym one-vertex) W.is_from) V.is_from
+  one-from = is-at_one C.vertices i W.from V.from (subst (λ (r : ℕ). IsAt C.vertices r W.from) (sym one-vertex) W.is_from) V.is_from
 
   pub one-svertex : a ≡ a'
   one-svertex =

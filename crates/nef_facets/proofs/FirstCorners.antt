@@ -1,5 +1,5 @@
 -- The first corners of facets, and the numbers of items.
-use Rattle.nef_facets.proofs.Prelude.{◌≡◌, ◌≢◌, ℕ, ◌<◌, ◌≤◌, ◌+◌, List, [], ◌∷◌, ◌++◌, length, arith, sym, ◌∙◌, ⊎_elim, subst, length-append, cases_order, IsAt, items, Either, earlier, last, is-at_either, is-at_one, is-at_within, is-at_some, less-or-last, some-at, at-within, Complex, Corner, corner_of, IsFacetOf, FacetNumbers, corner_from, HasItem, AreCorners, AreFirsts}
+use Rattle.nef_facets.proofs.Prelude.{◌≡◌, ◌≢◌, ℕ, ◌<◌, ◌≤◌, ◌+◌, List, [], ◌∷◌, ◌++◌, length, arith, sym, ◌∙◌, ⊎_elim, subst, length-append, cases_order, IsAt, items, Either, earlier, last, is-at_either, is-at_one, is-at_within, is-at_some, less-or-last, Complex, Corner, corner_of, IsFacetOf, FacetNumbers, corner_from, HasItem, AreCorners, AreFirsts}
 use Rattle.law_complex.specs.Complexes.{Corner as PlainCorner}
 use Rattle.nef_facets.proofs.Order.{number-below}
 
@@ -15,21 +15,21 @@ module _ (C : Complex) (rows : List (List ℕ)) (N : FacetNumbers C rows) where
       let e = S.as_many in
       let h = is-at_within rows k.vertex row a in
       let v = is-at_some C.vertices k.vertex (omega arith) in
-      let l = some-at C.vertices k.vertex v.0 v.1 in
+      let l = v.1 in
       let f = S.row k.vertex v.0 row l a in
       let i = is-at_within row k.item n b in
       let x = is-at_some (items v.0.map) k.item (omega arith) in
-      (v.0, x.0, record { vertex = l; item = some-at (items v.0.map) k.item x.0 x.1 })
+      (v.0, x.0, record { vertex = l; item = x.1 })
 
   -- each item has a number
   pub item-facet : (k : PlainCorner) → HasItem C k → (n : ℕ) × IsFacetOf rows k n
   item-facet k (v, x, c) =
       let S = N.shape in
       let e = S.as_many in
-      let h = at-within C.vertices k.vertex v c.vertex in
+      let h = is-at_within C.vertices k.vertex v c.vertex in
       let r = is-at_some rows k.vertex (omega arith) in
       let f = S.row k.vertex v r.0 c.vertex r.1 in
-      let i = at-within (items v.map) k.item x c.item in
+      let i = is-at_within (items v.map) k.item x c.item in
       let n = is-at_some r.0 k.item (omega arith) in
       (n.0, (r.0, r.1, n.1))
 

@@ -1,16 +1,6 @@
 -- Elements of lists by their places.
-use Rattle.nef_facets.proofs.Prelude.{◌≡◌, ℕ, zero, suc, ◌+◌, List, [], ◌∷◌, ◌++◌, length, ◌≤◌, map, arith, refl, sym, ◌∙◌, subst, inl, inr, ◌⊎◌, ⊎_elim, length-append, IsAt, Either, earlier, last, is-at_either, is-at_one, is-at_within, at-parts, some-at, at-some, at-map}
-
--- an element of two lists one after the other is one of the first, or of the second
-pub is-at_parts : {X : Type 0} (xs ys : List X) (k : ℕ) (x : X) → IsAt (xs ++ ys) k x → IsAt xs k x ⊎ ((j : ℕ) × (k ≡ length xs + j) × IsAt ys j x)
-is-at_parts xs ys k x a = ⊎_elim (λ b. inl (at-some xs k x b)) (λ r. inr (r.0, r.1, at-some ys r.0 x r.2)) (at-parts xs ys k x (some-at (xs ++ ys) k x a))
-
-pub is-at_second : {X : Type 0} (xs ys : List X) (j : ℕ) (x : X) → IsAt ys j x → IsAt (xs ++ ys) (length xs + j) x
-is-at_second {X} [] ys j x a = subst (λ (n : ℕ). IsAt {X = X} ys n x) {x = j} {y = zero + j} (omega arith) a
-is-at_second {X} (z ∷ xs) ys j x a = subst (λ (n : ℕ). IsAt {X = X} (z ∷ xs ++ ys) n x) {x = suc (length xs + j)} {y = suc (length xs) + j} (omega arith) (is-at_second xs ys j x a)
-
-pub is-at_map : {X Y : Type 0} (f : X → Y) (xs : List X) (k : ℕ) (x : X) → IsAt xs k x → IsAt (map f xs) k (f x)
-is-at_map f xs k x a = at-some (map f xs) k (f x) (at-map f xs k x (some-at xs k x a))
+use Rattle.nef_facets.proofs.Prelude.{◌≡◌, ℕ, zero, suc, ◌+◌, List, [], ◌∷◌, ◌++◌, length, ◌≤◌, map, arith, refl, sym, ◌∙◌, subst, inl, inr, ◌⊎◌, ⊎_elim, length-append, IsAt, Either, earlier, last, is-at_either, is-at_one, is-at_within, at-parts, map-is_at}
+use Rattle.nef_space.proofs.Lists.{is-at_parts, is-at_right}
 
 -- one element for each of the first n of a list
 pub record HasOneForEach {A B : Type 0} (P : A → B → Type 0) (n : ℕ) (xs : List A) (ys : List B) : Type 0 where

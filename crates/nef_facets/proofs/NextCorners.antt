@@ -1,13 +1,11 @@
 -- Each arc has a next corner, and no two corners have one next corner.
-use Rattle.nef_facets.proofs.Prelude.{◌≡◌, ℕ, ◌+◌, pos, ◌<ℤ◌, ◌+ℤ◌, ◌*ℤ◌, neg_ℤ, arith, refl, ap, sym, ◌∙◌, inl, inr, ⊎_elim, [], ◌∷◌, subst, ints, sign, ring, at, num, ◌⊕◌, ◌⊗◌, Chained, Germ, SpacePoint, toward, Set, Vector, opposite, blend, dot, cross, triple, IsDirection, SameDirection, Label, carriers, SameGerms, FlatDim-by_germs, ahead, near-ahead, joined-germs, steep, forms, IsAt, Arc, MapSloop, Item, arc_item, sloop_item, items, item_normal, Map, OnItem, NearLabel, Valid, normal-is, dot-comb, same-plus, same-minus, amount, far-keeps, at-one, arc-at, direction-around, turn-same, at-arc, Vertex, Complex, IsCorner, Shows, near-label, flats-carried, IsInFacetOf, target-met, FacetLink, facet-near, IsTied, tied-turned, tied-both, tied-ahead, end-level, close_way, on-close, tied-close_way, tied-turn, chain-link, chain-turned, IsNextArc, NextCorner, dot-comm, square-cross, nought-if, SameDirection-turned, SameDirection-trans, dir-self, dot-opposite, level-way, opposite-way, direction-right}
+use Rattle.nef_facets.proofs.Prelude.{◌≡◌, ℕ, ◌+◌, pos, ◌<ℤ◌, ◌+ℤ◌, ◌*ℤ◌, neg_ℤ, arith, refl, ap, sym, ◌∙◌, inl, inr, ⊎_elim, [], ◌∷◌, subst, ints, sign, ring, at, num, ◌⊕◌, ◌⊗◌, Chained, Germ, SpacePoint, toward, Set, Vector, opposite, blend, dot, cross, triple, IsDirection, SameDirection, Label, carriers, SameGerms, FlatDim-by_germs, ahead, near-ahead, joined-germs, steep, forms, IsAt, Arc, MapSloop, Item, arc_item, sloop_item, items, item_normal, Map, OnItem, NearLabel, Valid, normal-is, dot-comb, same-plus, same-minus, amount, far-keeps, is-at_one, arc-at, direction-around, turn-same, at-arc, Vertex, Complex, IsCorner, Shows, near-label, flats-carried, IsInFacetOf, target-met, FacetLink, facet-near, IsTied, tied-turned, tied-both, tied-ahead, end-level, close_way, on-close, tied-close_way, tied-turn, chain-link, chain-turned, IsNextArc, NextCorner, dot-comm, square-cross, nought-if, SameDirection-turned, SameDirection-trans, dir-self, dot-opposite, level-way, opposite-way, direction-right}
 use Rattle.nef_space.proofs.Vectors.{back-triple}
 use Rattle.law_complex.specs.Complexes.{Corner}
 use Rattle.law_complex.proofs.FacetCorners.{ItemAt, item-at}
 use Rattle.law_complex.proofs.links.EdgeEnds.{corner_of_numbers, left-turn}
 use Rattle.nef_facets.proofs.EdgeViews.{EdgeFrom, edge-from, one-vertex, one-svertex}
-
-pub turned-level : (n m d : Vector) → SameDirection n m → dot n d ≡ pos 0 → dot m d ≡ pos 0
-turned-level n m d w z = dot-comm m d ∙ level-way d n m w (dot-comm d n ∙ z)
+use Rattle.law_complex.proofs.FacetEnds.{level-normal}
 
 -- an arc of one normal that ends at a svertex
 pub record ArcInto (M : Map) (b : ℕ) (n : Vector) : Type 0 where
@@ -127,7 +125,7 @@ module _ (s : Set) (C : Complex) (S : Shows s C) (i a j b : ℕ) (V : EdgeFrom s
     one_normal = SameDirection-turned e.normal n w;
   }
   by-item (sloop_item e) l r o w =
-      absurd (L.shaped.no_svertex_on_item b l V.end (sloop_item e) V.is_end r (record { direction = t-some; level = turned-level n e.normal t (SameDirection-turned e.normal n w) level-t }))
+      absurd (L.shaped.no_svertex_on_item b l V.end (sloop_item e) V.is_end r (record { direction = t-some; level = level-normal n e.normal t (SameDirection-turned e.normal n w) level-t }))
 
   pub next-arc : ArcInto M b n
   next-arc = by-item found.item found.number found.listed found.on found.same
@@ -165,7 +163,7 @@ module _ (s : Set) (C : Complex) (S : Shows s C) (i a j b : ℕ) (V : EdgeFrom s
   one-arc = (S.cones i v V.is_from).valid.shaped.no_items_meet k l (arc_item c) (arc_item e)
       (close_way s C S (corner_of_numbers i k) v c first a V.start V.is_start g) first.item second.item
       (on-close s C S (corner_of_numbers i k) v c first a V.start V.is_start g (square-cross c.normal V.start.dir) (inl (leaves, left-is)))
-      (on-close s C S (corner_of_numbers i l) v e second a V.start V.is_start g (turned-level c.normal e.normal g w (square-cross c.normal V.start.dir))
+      (on-close s C S (corner_of_numbers i l) v e second a V.start V.is_start g (level-normal c.normal e.normal g w (square-cross c.normal V.start.dir))
       (inl (also, same-plus (triple c.normal V.start.dir g) (triple e.normal V.start.dir g) (turn-same c.normal e.normal V.start.dir V.start.dir g g w (dir-self V.start.dir u-is) (dir-self g g-is)) left-is)))
 
 -- ---- next corners
@@ -173,8 +171,8 @@ module _ (s : Set) (C : Complex) (S : Shows s C) where
   -- what stands where an arc is no sloop
   pub arc-no_sloop : (k : Corner) (v w : Vertex) (c : Arc) (l : MapSloop) → IsAt C.vertices k.vertex v → IsAt v.map.arcs k.item c → IsCorner C k w (sloop_item l) → ⊥
   arc-no_sloop k v w c l a b h =
-      let e = at-one C.vertices k.vertex v w a h.vertex in
-      differ (at-one (items w.map) k.item (arc_item c) (sloop_item l) (subst (λ (r : Vertex). IsAt (items r.map) k.item (arc_item c)) e (at-arc v.map.arcs v.map.sloop k.item c b)) h.item)
+      let e = is-at_one C.vertices k.vertex v w a h.vertex in
+      differ (is-at_one (items w.map) k.item (arc_item c) (sloop_item l) (subst (λ (r : Vertex). IsAt (items r.map) k.item (arc_item c)) e (at-arc v.map.arcs v.map.sloop k.item c b)) h.item)
     where
       differ : ◌≡◌ {A = Item} (arc_item c) (sloop_item l) → ⊥
       differ e = cc
@@ -188,8 +186,8 @@ module _ (s : Set) (C : Complex) (S : Shows s C) where
       let W = subst (λ (c : Arc). EdgeFrom s C j.vertex y.this_arc.source k.vertex c.target) (sym e) (edge-from s C S y.number y.edge y.is_edge j.vertex y.this_arc.source k.vertex y.that_arc.target y.leads) in
       let p = i.vertex in let q = j.vertex in let a = x.this_arc.source in let b = y.this_arc.source in let m = k.vertex in let t = x.that_arc.target in
       let same = one-vertex s C S p a q b m t V W in
-      let there = at-one C.vertices i.vertex y.here V.from (subst (λ (n : ℕ). IsAt C.vertices n y.here) (sym same) y.is_here) V.is_from in
-      let here = at-one C.vertices i.vertex x.here V.from x.is_here V.is_from in
+      let there = is-at_one C.vertices i.vertex y.here V.from (subst (λ (n : ℕ). IsAt C.vertices n y.here) (sym same) y.is_here) V.is_from in
+      let here = is-at_one C.vertices i.vertex x.here V.from x.is_here V.is_from in
       corner-same i j same
       (one-arc s C S p a m t V i.item j.item x.this_arc y.this_arc (subst (λ (v : Vertex). IsAt v.map.arcs i.item x.this_arc) here x.is_this) (subst (λ (v : Vertex). IsAt v.map.arcs j.item y.this_arc) there y.is_this)
       refl (sym (one-svertex s C S p a q b m t V W))
@@ -198,8 +196,8 @@ module _ (s : Set) (C : Complex) (S : Shows s C) where
 
   pub next-injective : (i j k : Corner) → NextCorner C i k → NextCorner C j k → i ≡ j
   next-injective i j k (inl x) (inl y) =
-      let e = at-one C.vertices k.vertex x.there y.there x.is_there y.is_there in
-      arcs-apart i j k x y (at-one y.there.map.arcs k.item x.that_arc y.that_arc (subst (λ (v : Vertex). IsAt v.map.arcs k.item x.that_arc) e x.is_that) y.is_that)
+      let e = is-at_one C.vertices k.vertex x.there y.there x.is_there y.is_there in
+      arcs-apart i j k x y (is-at_one y.there.map.arcs k.item x.that_arc y.that_arc (subst (λ (v : Vertex). IsAt v.map.arcs k.item x.that_arc) e x.is_that) y.is_that)
   next-injective i j k (inl x) (inr (e, v', l, h)) = absurd (arc-no_sloop k x.there v' x.that_arc l x.is_there x.is_that (subst (λ (r : Corner). IsCorner C r v' (sloop_item l)) e h))
   next-injective i j k (inr (e, v', l, h)) (inl y) = absurd (arc-no_sloop k y.there v' y.that_arc l y.is_there y.is_that (subst (λ (r : Corner). IsCorner C r v' (sloop_item l)) e h))
   next-injective i j k (inr x) (inr y) = x.0 ∙ sym y.0

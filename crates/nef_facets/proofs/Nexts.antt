@@ -1,5 +1,5 @@
 -- The next corners of all corners, edge by edge.
-use Rattle.nef_facets.proofs.Prelude.{◌≡◌, ◌≢◌, ℕ, ◌+◌, ◌<◌, ◌≤◌, List, length, arith, refl, ap, sym, ◌∙◌, ◌⊎◌, inl, inr, ⊎_elim, subst, set, cases_order, IsAt, Set, vector_of, Arc, Item, arc_item, sloop_item, MapSloop, at-one, arc-at, at-arc, ends-of, SArc, map_of, arc_of, is-at_within, is-at_some, less-or-last, at-map, map-at, at-within, Vertex as PlainVertex, Edge as PlainEdge, Complex as PlainComplex, IsCorner, Shows, svertex-edge, Corner, vertex_of, complex_of, corner_of, Leads, NextCorner, CornersAreInOrder, AreCorners, HasItem, IsArcInto, LeavesFrom, HasNext, AreNext, set-same, set-other}
+use Rattle.nef_facets.proofs.Prelude.{◌≡◌, ◌≢◌, ℕ, ◌+◌, ◌<◌, ◌≤◌, List, length, arith, refl, ap, sym, ◌∙◌, ◌⊎◌, inl, inr, ⊎_elim, subst, set, cases_order, IsAt, Set, vector_of, Arc, Item, arc_item, sloop_item, MapSloop, is-at_one, arc-at, at-arc, ends-of, SArc, map_of, arc_of, is-at_within, is-at_some, less-or-last, map-is_at, is-at_map, Vertex as PlainVertex, Edge as PlainEdge, Complex as PlainComplex, IsCorner, Shows, svertex-edge, Corner, vertex_of, complex_of, corner_of, Leads, NextCorner, CornersAreInOrder, AreCorners, HasItem, IsArcInto, LeavesFrom, HasNext, AreNext, set-same, set-other}
 use Rattle.nef_complex.specs.declared.complex.Vertex.{Vertex}
 use Rattle.nef_complex.specs.declared.complex.Complex.{Complex}
 use Rattle.nef_facets.proofs.CornerLists.{corner}
@@ -29,25 +29,25 @@ module _ (s : Set) (c : Complex) (S : Shows s (complex_of c)) (n : ℕ) (e : Pla
   V = edge-from s C S n e listed i a j b leads
 
   pub from-within : i < length c.vertices
-  from-within = let r = map-at vertex_of c.vertices i V.from V.is_from in at-within c.vertices i r.0 r.1
+  from-within = let r = is-at_map vertex_of c.vertices i V.from V.is_from in is-at_within c.vertices i r.0 r.1
 
   pub to-within : j < length c.vertices
-  to-within = let r = map-at vertex_of c.vertices j V.to V.is_to in at-within c.vertices j r.0 r.1
+  to-within = let r = is-at_map vertex_of c.vertices j V.to V.is_to in is-at_within c.vertices j r.0 r.1
 
   module _ (u w : Vertex) (p : IsAt c.vertices i u) (q : IsAt c.vertices j w) (k : ℕ) (r : SArc) (l : IsAt u.map.arcs k r) (leaves : r.source ≡ a) where
     is-here : IsAt C.vertices i (vertex_of u)
-    is-here = at-map vertex_of c.vertices i u p
+    is-here = map-is_at vertex_of c.vertices i u p
 
     is-there : IsAt C.vertices j (vertex_of w)
-    is-there = at-map vertex_of c.vertices j w q
+    is-there = map-is_at vertex_of c.vertices j w q
 
     is-this : IsAt (map_of u.map).arcs k (arc_of r)
-    is-this = at-map arc_of u.map.arcs k r l
+    is-this = map-is_at arc_of u.map.arcs k r l
 
     pub into : (m : ℕ) × IsArcInto (map_of w.map) b (vector_of r.normal) m
     into =
-        let f = at-one C.vertices i (vertex_of u) V.from is-here V.is_from in
-        let g = at-one C.vertices j V.to (vertex_of w) V.is_to is-there in
+        let f = is-at_one C.vertices i (vertex_of u) V.from is-here V.is_from in
+        let g = is-at_one C.vertices j V.to (vertex_of w) V.is_to is-there in
         let A = next-arc s C S i a j b V k (arc_of r) (subst (λ (v : PlainVertex). IsAt v.map.arcs k (arc_of r)) f is-this) leaves in
         (A.number, (A.arc, subst (λ (v : PlainVertex). IsAt v.map.arcs A.number A.arc) g A.listed, A.target, A.one_normal))
 
@@ -89,8 +89,8 @@ module _ (C : PlainComplex) (ks : List Corner) (i a n : ℕ) (start old : List �
   -- the arc of a corner that leaves from there
   same-arc : (k : Corner) → k.item ≡ n → LeavesFrom C (corner_of k) i a → (r.source ≡ a) × (k ≡ corner i n)
   same-arc k e (v, t, b, d, f, g) =
-      let x = at-one C.vertices i v u (subst (λ (m : ℕ). IsAt C.vertices m v) f b) p in
-      let y = at-one u.map.arcs n t r (subst (λ (m : ℕ). IsAt u.map.arcs m t) e (subst (λ (w : PlainVertex). IsAt w.map.arcs k.item t) x d)) q in
+      let x = is-at_one C.vertices i v u (subst (λ (m : ℕ). IsAt C.vertices m v) f b) p in
+      let y = is-at_one u.map.arcs n t r (subst (λ (m : ℕ). IsAt u.map.arcs m t) e (subst (λ (w : PlainVertex). IsAt w.map.arcs k.item t) x d)) q in
       (sym (ap (λ (z : Arc). z.source) y) ∙ g, ap (λ (m : ℕ). corner m k.item) f ∙ ap (λ (m : ℕ). corner i m) e)
 
   pub added-pass : r.source ≢ a → HaveNextCorners C ks i a (n + 1) start old
@@ -114,8 +114,8 @@ module _ (C : PlainComplex) (ks : List Corner) (i a n : ℕ) (start old : List �
 pub added-all : (C : PlainComplex) (ks : List Corner) (i a n : ℕ) (old new : List ℕ) → HaveNextCorners C ks i a n old new → (u : PlainVertex) → IsAt C.vertices i u → length u.map.arcs ≤ n
     → (m : ℕ) (k : Corner) → IsAt ks m k → LeavesFrom C (corner_of k) i a → HasNext C ks new m
 added-all C ks i a n old new A u p h m k b (v, t, d, f, g, e) =
-    let x = at-one C.vertices i v u (subst (λ (r : ℕ). IsAt C.vertices r v) g d) p in
-    let l = at-within u.map.arcs k.item t (subst (λ (w : PlainVertex). IsAt w.map.arcs k.item t) x f) in
+    let x = is-at_one C.vertices i v u (subst (λ (r : ℕ). IsAt C.vertices r v) g d) p in
+    let l = is-at_within u.map.arcs k.item t (subst (λ (w : PlainVertex). IsAt w.map.arcs k.item t) x f) in
     A.added m k (omega arith) b (v, t, d, f, g, e)
 
 -- ---- edge by edge
@@ -140,7 +140,7 @@ next-more C ks n ns ms new e A at-n len kept low also high = record {
   sloops = λ i k v l a c. also i (kept i (A.sloops i k v l a c));
   arcs = λ m i f k h b a o. ⊎_elim
       (λ g. also i (kept i (A.arcs m i f k g b a o)))
-      (λ g. let same = at-one C.edges n f e (subst (λ (r : ℕ). IsAt C.edges r f) g b) at-n in
+      (λ g. let same = is-at_one C.edges n f e (subst (λ (r : ℕ). IsAt C.edges r f) g b) at-n in
       ⊎_elim (λ x. also i (low i k a (subst (λ (d : PlainEdge). LeavesFrom C (corner_of k) d.low d.low_svertex) same x)))
       (λ x. high i k a (subst (λ (d : PlainEdge). LeavesFrom C (corner_of k) d.high d.high_svertex) same x)) o)
       (less-or-last m n h);

@@ -1,7 +1,7 @@
 -- Numbers of classes of ties between items are facet numbers.
-use Rattle.nef_facets.proofs.Prelude.{◌≡◌, ℕ, ◌+◌, List, ◌++◌, length, map, sym, ◌∙◌, inl, inr, ⊎_elim, ◌⊎◌, ◌↔◌, subst, Result, Ok, Err, length-map, IfOk, IsAt, Chained, chain-link, chain-map, is-at_left, at-some, at-map, Complex, LinkAlong, LinkAcross, FacetLink, count_items, FacetNumbers, Cell, Tie, AreTiedWithin, AreTied, HasCounts, AreNumbers, cell_of}
+use Rattle.nef_facets.proofs.Prelude.{◌≡◌, ℕ, ◌+◌, List, ◌++◌, length, map, sym, ◌∙◌, inl, inr, ⊎_elim, ◌⊎◌, ◌↔◌, subst, Result, Ok, Err, length-map, IfOk, IsAt, Chained, chain-link, chain-map, is-at_left, map-is_at, Complex, LinkAlong, LinkAcross, FacetLink, count_items, FacetNumbers, Cell, Tie, AreTiedWithin, AreTied, HasCounts, AreNumbers, cell_of}
 use Rattle.law_complex.specs.Complexes.{Corner}
-use Rattle.nef_facets.proofs.Lists.{is-at_parts, is-at_second}
+use Rattle.nef_space.proofs.Lists.{is-at_parts, is-at_right}
 
 abbrev corner_of_cell : Cell → Corner
 corner_of_cell x = record { vertex = x.row; item = x.column }
@@ -18,7 +18,7 @@ module _ (as' bs ts : List Tie) (e : ts ≡ as' ++ bs) (x y : Cell) where
   first-tied (k, t, a, f, g) = (k, t, subst (λ (r : List Tie). IsAt r k t) (sym e) (is-at_left as' bs k t a), f, g)
 
   second-tied : AreTied bs x y → AreTied ts x y
-  second-tied (k, t, a, f, g) = (length as' + k, t, subst (λ (r : List Tie). IsAt r (length as' + k) t) (sym e) (is-at_second as' bs k t a), f, g)
+  second-tied (k, t, a, f, g) = (length as' + k, t, subst (λ (r : List Tie). IsAt r (length as' + k) t) (sym e) (is-at_right as' bs k t a), f, g)
 
 pub both-links : (C : Complex) (as' bs ts : List Tie) → ts ≡ as' ++ bs
     → ((j k : Corner) → AreTied as' (cell_of j) (cell_of k) ↔ LinkAlong C j k) → ((j k : Corner) → AreTied bs (cell_of j) (cell_of k) ↔ LinkAcross C j k)
@@ -40,7 +40,7 @@ module _ (C : Complex) (ts : List Tie) (links : (j k : Corner) → AreTied ts (c
   facet-numbers rows H N = record {
     shape = record {
       as_many = H.as_many ∙ length-map C.vertices count_items;
-      row = λ i v ns a b. H.row i (count_items v) ns (at-some (map count_items C.vertices) i (count_items v) (at-map count_items C.vertices i v a)) b;
+      row = λ i v ns a b. H.row i (count_items v) ns (map-is_at count_items C.vertices i v a) b;
     };
     numbered = record {
       by_class = λ j k m n a b.

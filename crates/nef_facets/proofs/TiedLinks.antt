@@ -1,7 +1,7 @@
 -- A list that has exactly the ties of links.
-use Rattle.nef_facets.proofs.Prelude.{◌≡◌, ℕ, List, [], map, refl, ap, sym, ◌∙◌, subst, ◌⊎◌, inl, inr, ◌↔◌, arith, Contains, Form, Vector, opposite, plane_dir, IsAt, Item, arc_item, items, item_normal, at-arc, get-from_at, Vertex, Complex, IsCorner, item_plane, PlaneMeet, meets_vertex, meets_edge, IsCornerAt, at-contains, contains-at, got-at, Cell, Tie, IsCellIn, AreTied, AreTiedWithin, LinkAlong, LinkAcross, count_items, cell_of, corner_at, edge_tie, IsTieAlong, IsTieAcross, Any, Adds}
-use Rattle.nef_smap.proofs.Lists.{map-at, at-within}
+use Rattle.nef_facets.proofs.Prelude.{◌≡◌, ℕ, List, [], map, refl, ap, sym, ◌∙◌, subst, ◌⊎◌, inl, inr, ◌↔◌, arith, Contains, Form, Vector, opposite, plane_dir, IsAt, Item, arc_item, items, item_normal, at-arc, Vertex, Complex, IsCorner, item_plane, PlaneMeet, meets_vertex, meets_edge, IsCornerAt, at-contains, contains-at, Cell, Tie, IsCellIn, AreTied, AreTiedWithin, LinkAlong, LinkAcross, count_items, cell_of, corner_at, edge_tie, IsTieAlong, IsTieAcross, Any, Adds}
 use Rattle.law_complex.specs.Complexes.{Corner}
+use Rattle.nef_space.proofs.Lists.{is-at_within, map-is_at}
 
 pub tie-same : (t u : Tie) → t.first ≡ u.first → t.second ≡ u.second → t ≡ u
 tie-same t u e f = ap (λ x. make x t.second) e ∙ ap (λ x. make u.first x) f
@@ -23,20 +23,20 @@ module _ (Link : Corner → Corner → Type 0) (Q : ℕ → Tie → Type 0) (to 
 
   pub tied : (j k : Corner) → AreTied ts (cell_of j) (cell_of k) ↔ Link j k
   tied j k = (
-    λ (n, t, a, e, f). subst (λ (x : Cell). Link (corner_at x) k) e (subst (λ (x : Cell). Link (corner_at t.first) (corner_at x)) f (linked t (at-contains ts n t (got-at ts n t a)))),
-    λ L. let p = contains-at ts (corner_tie j k) (A.all (corner_tie j k) (from j k L)) in (p.0, corner_tie j k, get-from_at ts p.0 (corner_tie j k) p.1, refl, refl),
+    λ (n, t, a, e, f). subst (λ (x : Cell). Link (corner_at x) k) e (subst (λ (x : Cell). Link (corner_at t.first) (corner_at x)) f (linked t (at-contains ts n t a))),
+    λ L. let p = contains-at ts (corner_tie j k) (A.all (corner_tie j k) (from j k L)) in (p.0, corner_tie j k, p.1, refl, refl),
   )
 
   pub tied-within : (counts : List ℕ) → ((j k : Corner) → Link j k → IsCellIn counts (cell_of j) × IsCellIn counts (cell_of k)) → AreTiedWithin counts ts
-  tied-within counts f n t a = f (corner_at t.first) (corner_at t.second) (linked t (at-contains ts n t (got-at ts n t a)))
+  tied-within counts f n t a = f (corner_at t.first) (corner_at t.second) (linked t (at-contains ts n t a))
 
 module _ (C : Complex) where
   -- ---- corners are elements of the table
   cell-in : (k : Corner) (v : Vertex) (x : Item) → IsCorner C k v x → IsCellIn (map count_items C.vertices) (cell_of k)
   cell-in k v x c = record {
     count = count_items v;
-    is_row = get-from_at (map count_items C.vertices) k.vertex (count_items v) (map-at count_items C.vertices k.vertex v c.vertex);
-    within = at-within (items v.map) k.item x c.item;
+    is_row = (map-is_at count_items C.vertices k.vertex v c.vertex);
+    within = is-at_within (items v.map) k.item x c.item;
   }
 
   met-in : (h : Form) (f : Vector) (m : PlaneMeet) (k : Corner) → IsCornerAt C h f m k → IsCellIn (map count_items C.vertices) (cell_of k)

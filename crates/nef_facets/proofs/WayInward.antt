@@ -1,12 +1,12 @@
 -- The corner that the way inward from an item names.
-use Rattle.nef_facets.proofs.Prelude.{◌≡◌, ℕ, zero, suc, ◌<◌, ◌≤◌, ◌+◌, ◌^◌, ℤ, pos, neg_ℤ, nat_abs, List, [], ◌∷◌, length, map, Option, Some, None, MatchOption, slice_get, arith, refl, sym, subst, ints, SpacePoint, Form, normal_of, slope, Set, Vector, opposite, IsAtMost, SameDirection, plane_dir, form_of, ray_limit, plane_dir_limit, Plane, IsAt, Item, items, item_normal, OnItem, at-one, map-from_get, map_of, Vertex, Complex, IsCorner, Shows, PlaneMeet, IsFirstInPlane, IsCornerAt, Corner as ProgramCorner, complex_of, corner_of, vertex_of, ShowsSet, Cell, Tie, LinkAcross, HasNoSvertex, FromVertex, level-of_opposite, IsNamedFrom, IsLinkedFrom, corner_at, IsTieAcross, Any, one-met}
-use Rattle.nef_smap.proofs.Lists.{at-within}
+use Rattle.nef_facets.proofs.Prelude.{◌≡◌, ℕ, zero, suc, ◌<◌, ◌≤◌, ◌+◌, ◌^◌, ℤ, pos, neg_ℤ, nat_abs, List, [], ◌∷◌, length, map, Option, Some, None, MatchOption, slice_get, arith, refl, sym, subst, ints, SpacePoint, Form, normal_of, slope, Set, Vector, opposite, IsAtMost, SameDirection, plane_dir, form_of, ray_limit, plane_dir_limit, Plane, IsAt, Item, items, item_normal, OnItem, is-at_one, map-is_at, map_of, Vertex, Complex, IsCorner, Shows, PlaneMeet, IsFirstInPlane, IsCornerAt, Corner as ProgramCorner, complex_of, corner_of, vertex_of, ShowsSet, Cell, Tie, LinkAcross, HasNoSvertex, FromVertex, level-of_opposite, IsNamedFrom, IsLinkedFrom, corner_at, IsTieAcross, Any, one-met}
 use Rattle.law_complex.specs.Complexes.{Corner}
 use Rattle.nef_complex.specs.declared.complex.Complex.{Complex as ProgramComplex}
 use Rattle.nef_complex.specs.declared.complex.Vertex.{Vertex as ProgramVertex}
-use Rattle.nef_locate.proofs.Marks.{image-within}
 use Rattle.nef_facets.specs.Carriers.{IsPlaneAt, IsPlaneThrough}
 use Rattle.nef_facets.proofs.AcrossLinks.{linked, unlinked, no-svertex}
+use Rattle.nef_space.proofs.Lists.{is-at_within}
+use Rattle.nef_smap.proofs.Lists.{map-within}
 
 -- ---- the corner at what is first met
 module _ (s : Set) (C : Complex) (S : Shows s C) (h : Form) (y : SpacePoint) (d b : Vector) (back : b ≡ opposite d) (m : PlaneMeet) (I : IsFirstInPlane C h y d m) where
@@ -37,7 +37,7 @@ module _ (s : Set) (c : ProgramComplex) (S : ShowsSet s c) (k : Corner) (v : Ver
   module _ (on : OnItem v.map x d) where
     pub none-along : FromVertex C k.vertex (λ p. HasNoSvertex C p d)
     none-along u a =
-        let e = at-one C.vertices k.vertex v u corner.vertex a in
+        let e = is-at_one C.vertices k.vertex v u corner.vertex a in
         no-svertex s C S.shows k u x (record { vertex = a; item = subst (λ (w : Vertex). IsAt (items w.map) k.item x) e corner.item }) d (subst (λ (w : Vertex). OnItem w.map x d) e on)
 
     pub linked-from : (r : Option ProgramCorner) → FromVertex C k.vertex (λ p. IsNamedFrom C (form_of h) p d r) → IsLinkedFrom C k r
@@ -58,10 +58,10 @@ small-back f d e a = subst (IsAtMost ray_limit) (sym e) (record { of_x = less f.
 pub item-below : (c : ProgramComplex) (i : ℕ) (v : ProgramVertex) → slice_get c.vertices i ≡ Some v → (j : ℕ) (t : Tie) → IsTieAcross (complex_of c) i j t → j < length (items (map_of v.map))
 item-below c i v e j t (f, L) =
     let M = subst (λ (x : Cell). LinkAcross (complex_of c) (corner_at x) (corner_at t.second)) f L in
-    let listed = map-from_get vertex_of c.vertices i v e in
-    at-within (items (map_of v.map)) j M.item (subst (λ (u : Vertex). IsAt (items u.map) j M.item) (at-one (complex_of c).vertices i M.vertex (vertex_of v) M.corner.vertex listed) M.corner.item)
+    let listed = map-is_at vertex_of c.vertices i v e in
+    is-at_within (items (map_of v.map)) j M.item (subst (λ (u : Vertex). IsAt (items u.map) j M.item) (is-at_one (complex_of c).vertices i M.vertex (vertex_of v) M.corner.vertex listed) M.corner.item)
 
 pub vertex-below : (c : ProgramComplex) (i : ℕ) (t : Tie) → Any (IsTieAcross (complex_of c) i) t → i < length c.vertices
 vertex-below c i t (j, (f, L)) =
     let M = subst (λ (x : Cell). LinkAcross (complex_of c) (corner_at x) (corner_at t.second)) f L in
-    image-within vertex_of c.vertices i M.vertex M.corner.vertex
+    map-within vertex_of c.vertices i M.vertex M.corner.vertex

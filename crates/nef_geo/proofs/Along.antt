@@ -44,7 +44,7 @@ plain c d n m u x k b l p eb el e =
     (given (neg (at 5)) (at 8) (at 4 ⊗ at 7) el
     (given (at 0 ⊗ at 6 ⊖ at 5 ⊗ at 4) (at 7) (at 3 ⊗ at 4) eb none))) tt))
 
-positive_weight : (s : SpacePoint) → pos 0 <ℤ pos s.w
+pub positive_weight : (s : SpacePoint) → pos 0 <ℤ pos s.w
 positive_weight s = let p = s.proper in omega (arith, ints)
 
 on_ray : (s : SpacePoint) (d : Vector) (n m : ℤ) (p : pos 0 <ℤ m) (q : SpacePoint) → IsReached s d n m p q → IsOnRay s d n m q

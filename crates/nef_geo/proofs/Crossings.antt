@@ -1,6 +1,7 @@
 -- Where a ray crosses a plane.
 use Rattle.nef_geo.proofs.Prelude.{◌≡◌, ◌≢◌, ℕ, ◌+◌, ◌*◌, ℤ, pos, ◌+ℤ◌, ◌-ℤ◌, ◌*ℤ◌, ◌<ℤ◌, nat_abs, List, [], ◌∷◌, inl, inr, arith, ap, ◌∙◌, ints, SpacePoint, Form, form_at, slope, toward, IsAhead, Vector, dot, IsDirection, none, given, follows, mul_pos, mul_neg, by_order, pos-abs, Poly, at, num, neg, ◌⊕◌, ◌⊖◌, ◌⊗◌, ring, IsCrossing, IsReached, IsReachedBy, IsStretched, point_at, HasOppositeSigns, self-pos}
 use Rattle.nef_geo.proofs.Directions.{SameDirection-stretched}
+use Rattle.nef_geo.proofs.Along.{positive_weight}
 
 -- variables: 0 to 3 the form, 4 to 7 the start, 8 to 10 the direction, 11 and 12 the step, 13 to 16 the point
 abbrev all : Form → SpacePoint → Vector → (n m x y z w : ℤ) → List ℤ
@@ -25,9 +26,6 @@ form_at-reached h s d n m x y z w positive r =
     (given (at 1) (at 14) (reach_poly 5 9) r.y_is
     (given (at 2) (at 15) (reach_poly 6 10) r.z_is
     (given (at 3) (at 16) (at 7 ⊗ at 12) r.w_is none)))) tt
-
-positive_weight : (s : SpacePoint) → pos 0 <ℤ pos s.w
-positive_weight s = let p = s.proper in omega (arith, ints)
 
 -- one coordinate of the way from the start to the point
 way : (c d n m w sw x k : ℤ) → k ≡ w → x ≡ c *ℤ m +ℤ n *ℤ d → w ≡ sw *ℤ m → x *ℤ sw -ℤ c *ℤ k ≡ (n *ℤ sw) *ℤ d

@@ -277,7 +277,7 @@ same_if_equal d e h =
     same_vector : (x y z x' y' z' : ℤ) → x ≡ x' → y ≡ y' → z ≡ z' → vector x y z ≡ vector x' y' z'
     same_vector x y z x' y' z' p q r = rw (p, q, r) refl
 
-itself : (x : ℤ) → int_eq x x ≡ true
+pub itself : (x : ℤ) → int_eq x x ≡ true
 itself x = (Decides-int_eq x x).1 refl
 
 pub equal_to_itself : (d : Dir) → equal_test d d ≡ true

@@ -1,5 +1,6 @@
 -- Whole numbers that bound coordinates.
 use Rattle.nef_index.proofs.Prelude.{◌≡◌, ℕ, zero, suc, ◌⊎◌, inl, inr, ◌+◌, ◌*◌, ◌/◌, ◌<◌, ◌≤◌, ℤ, pos, negsuc, neg_ℤ, ◌+ℤ◌, ◌*ℤ◌, ◌-ℤ◌, ◌<ℤ◌, ◌≤ℤ◌, nat_abs, List, [], ◌∷◌, length, arith, sym, ◌∙◌, subst, ⊎_elim, div-le_self, div-mul-le_self, lt-div-mul-add, ints, int_div_euclid, mul_nonneg, cancel_le, ring, at, num, neg, ◌⊕◌, ◌⊖◌, ◌⊗◌, IsAt, SpacePoint, point_of, Plane, Coordinate, coordinate_of, coordinate_x, coordinate_y, coordinate_z, IsWithin, less-or-last, is-at_one, is-at_some, is-at_within, Point, Bounds, Span, AreNumbersOf, AreCarrierPoints, AreCarrierSpans, ArePointSpans, AreNarrowerListed, IsInSpan, AreInSpan, AreNarrower, IsNarrower}
+use Rattle.law_near.proofs.PointOrder.{weight}
 
 -- ---- quotients
 -- z/w rounded down, times w, is at most z
@@ -94,9 +95,6 @@ euclid-next z w p off = by (int_div_euclid z w) (euclid-small z w p) (euclid-bel
         omega (arith, ints)
 
 -- ---- wider bounds
-pub weight : (p : SpacePoint) → pos 0 <ℤ pos p.w
-weight p = let m = p.proper in omega (arith, ints)
-
 within-wider : (c : Coordinate) (a b : Bounds) (p : SpacePoint) → AreNarrower a b → IsWithin c a.low a.high p → IsWithin c b.low b.high p
 within-wider c a b p n w =
     let l = times-below b.low a.low (pos p.w) (weight p) n.0 in

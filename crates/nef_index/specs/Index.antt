@@ -10,7 +10,7 @@ use Rattle.nef_index.specs.declared.groups.Cluster.{Cluster}
 use Rattle.nef_index.specs.declared.groups.Group.{Group}
 use Rattle.nef_index.specs.declared.index.Index.TheInside.{Inside}
 use Rattle.nef_index.specs.Numbers.{AreNumbersWith}
-use Rattle.nef_index.specs.Skeleton.{Skeleton, IsPointOn, IsEdgeIn, HaveEnds}
+use Rattle.nef_index.specs.Skeleton.{IndexedLists, IsPointOn, IsEdgeIn, HaveEnds}
 use Rattle.nef_index.specs.Carriers.{AreHolders}
 use Rattle.nef_index.specs.Spans.{IsInSpan}
 use Rattle.nef_index.specs.Groups.{StandsIn, IsInGroup, IsInCluster}
@@ -71,7 +71,7 @@ pub record AreClusters (hs : List Plane) (ps : List Point) (clusters : List Clus
 
 -- of what an index of the skeleton is made: how many carriers and which edges it has, the carriers that hold each point,
 -- and a span of each point
-pub record AreGiven (s : Skeleton) (n : ℕ) (es : List Edge) (at_point : List (List ℕ)) (points : List Span) : Type 0 where
+pub record AreGiven (s : IndexedLists) (n : ℕ) (es : List Edge) (at_point : List (List ℕ)) (points : List Span) : Type 0 where
   pub count : length s.carriers ≡ n
   pub edges : s.edges ≡ es
   pub ends : HaveEnds s.points s.edges

@@ -6,7 +6,7 @@ pub use Rattle.nef_index.specs.Groups.{AreKeyed, IsInCluster, IsInGroup, IsWide,
 pub use Rattle.nef_index.specs.Index.{AreCarrierPoints, AreCarrierSpans, AreClusters, ArePointSpans}
 pub use Rattle.nef_index.specs.Numbers.{AreNumbersOf, AreNumbersWith, AreRowsOfOnce, DoRise, HasNumber}
 pub use Rattle.nef_index.specs.Peaks.{ArePeaks, EndBelow, HavePeaks, block_start}
-pub use Rattle.nef_index.specs.Skeleton.{Skeleton}
+pub use Rattle.nef_index.specs.Skeleton.{IndexedLists}
 pub use Rattle.nef_index.specs.Spans.{AreNarrower, AreNarrowerListed, AreSmallBounds, DoOverlap, HaveCommon, IsInSpan, IsNarrower}
 pub use Rattle.nef_index.specs.Tables.{AreRowEnds}
 pub use Rattle.nef_index.specs.declared.groups.Cluster.{Cluster}

@@ -7,7 +7,7 @@ use Rattle.nef_geo.specs.declared.point.Point.{Point}
 use Rattle.nef_index.specs.declared.skeleton.Edge.{Edge}
 
 -- carriers, the points of vertices, and the edges between these vertices
-pub record Skeleton : Type 0 where
+pub record IndexedLists : Type 0 where
   pub carriers : List Plane
   pub points : List Point
   pub edges : List Edge

@@ -6,7 +6,7 @@ ghost use Rattle.nef_geo.specs.declared.plane.Plane.{Plane};
 ghost use Rattle.nef_geo.specs.declared.point.Point.{Point};
 ghost use Rattle.nef_index.specs.declared.skeleton.Edge.{Edge as EdgeValue};
 ghost use Rattle.nef_index.specs.Numbers.{AreNumbersWith};
-ghost use Rattle.nef_index.specs.Skeleton.{Skeleton, IsPointOn, IsEdgeIn};
+ghost use Rattle.nef_index.specs.Skeleton.{IndexedLists, IsPointOn, IsEdgeIn};
 ghost use Rattle.nef_index.specs.Carriers.{AreHolders};
 ghost use Rattle.nef_index.specs.Peaks.{ArePeaks};
 ghost use Rattle.nef_index.specs.Index.{AreGiven, AreEndHolders, ArePointSpans, AreCarrierSpans, AreClusters};
@@ -39,9 +39,9 @@ pub struct Index {
 }
 
 impl Model for Index {
-    ghost use Rattle.nef_index.specs.Skeleton.{Skeleton};
+    ghost use Rattle.nef_index.specs.Skeleton.{IndexedLists};
 
-    ghost Value = { Skeleton };
+    ghost Value = { IndexedLists };
 
     ghost use Rattle.nef_index.specs.Index.{IsIndex};
 
@@ -60,7 +60,7 @@ impl Index {
         at_point: Table,
         points: List<Span>,
     ) -> Result<Index, OutOfMemory>
-        ghost of: { Skeleton }
+        ghost of: { IndexedLists }
         requires given { AreGiven of count edges.now at_point points }
         ensures index { IfOk result (λ x. x ≡ of) }
     {

@@ -1,7 +1,7 @@
 //! The steps by which an index is made.
 
 ghost use Rattle.std.specs.Prelude.{◌≡◌};
-ghost use Rattle.nef_index.specs.Prelude.{List as Sequence, length, IfOk, ℕ, OnOk, IsAt, AreNumbersWith, AreRowsOfOnce, HasNumber, HavePeaks, DoRise, DoAllRise, HaveRows, HasAdded, AreCommon, AreCommonRows, Skeleton, AreCarrierPoints, ArePointSpans, AreCarrierSpans, AreClusters};
+ghost use Rattle.nef_index.specs.Prelude.{List as Sequence, length, IfOk, ℕ, OnOk, IsAt, AreNumbersWith, AreRowsOfOnce, HasNumber, HavePeaks, DoRise, DoAllRise, HaveRows, HasAdded, AreCommon, AreCommonRows, IndexedLists, AreCarrierPoints, ArePointSpans, AreCarrierSpans, AreClusters};
 
 use crate::OutOfMemory;
 use crate::groups::{Cluster, clusters_of};
@@ -92,7 +92,7 @@ pub(crate) fn carriers_spanned(
     points: &[Span],
     on_carrier: &Table,
 ) -> Result<(List<Span>, List<Cluster>), OutOfMemory>
-    ghost of: { Skeleton }
+    ghost of: { IndexedLists }
     requires on { AreCarrierPoints of.carriers of.points on_carrier.now }
     requires points { ArePointSpans of.points points.now }
     ensures spans { IfOk result (λ t. AreCarrierSpans of.carriers of.points t.0) }

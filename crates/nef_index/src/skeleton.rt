@@ -2,7 +2,7 @@
 
 ghost use Rattle.std.specs.Prelude.{◌≡◌};
 ghost use Rattle.std.specs.Borrow.{ftrue};
-ghost use Rattle.nef_index.specs.Skeleton.{Skeleton};
+ghost use Rattle.nef_index.specs.Skeleton.{IndexedLists};
 
 use nef_geo::Label;
 use std::marker::Model;
@@ -21,7 +21,7 @@ pub struct Edge {
 /// The skeleton that an index tells of, for clauses alone: no memory is taken.
 #[derive(Drop)]
 pub(crate) struct Told {
-    ghost skeleton: { Skeleton },
+    ghost skeleton: { IndexedLists },
 }
 
 impl Model for Told {
@@ -38,7 +38,7 @@ unsafe impl Sync for Told {}
 impl Told {
     /// Tells of the skeleton. What is made beside it may be anything.
     pub(crate) fn new<T>(_beside: &T) -> Told
-        ghost skeleton: { Skeleton }
+        ghost skeleton: { IndexedLists }
         ensures { result.skeleton ≡ skeleton }
     {
         Told {}

@@ -1,5 +1,5 @@
 -- Skeleton points lie on carriers, which no upright direction lies in; points of the closed frame where all directions are flat lie in the frame.
-use Rattle.nef_locate.proofs.Prelude.{◌≡◌, ℕ, ◌+◌, ◌*◌, ◌<◌, ◌≤◌, ℤ, pos, neg_ℤ, ◌+ℤ◌, ◌*ℤ◌, ◌-ℤ◌, ◌<ℤ◌, nat_abs, arith, sym, inl, inr, ⊎_elim, [], ◌∷◌, subst, ints, nought, Lies, nought-is, mul_pos, mul_nonneg, ring, at, num, neg, ◌⊕◌, ◌⊖◌, ◌⊗◌, half_side, FlatDim, Out, SpacePoint, Form, form_at, InFrame, InClosedFrame, step, IsAhead, Set, Vector, vector, IsVertical, IsCrossing, form_of, Plane, carriers, sign_at, flat-germ, InFrame-decided, span-3, facet-support, IsAt, at-map, SamePlane, IsSkeletonIn, at_vertex, on_edge, in_facet, IsSkeletonPoint, meets_vertex, meets_edge, plane-turned, plane-point, plane-slope, dim-same, between-ends, Complex, complex_of, ShowsSet, held-between, edge-carried, facet-at}
+use Rattle.nef_locate.proofs.Prelude.{◌≡◌, ℕ, ◌+◌, ◌*◌, ◌<◌, ◌≤◌, ℤ, pos, neg_ℤ, ◌+ℤ◌, ◌*ℤ◌, ◌-ℤ◌, ◌<ℤ◌, nat_abs, arith, sym, inl, inr, ⊎_elim, [], ◌∷◌, subst, ints, nought, Lies, nought-is, mul_pos, mul_nonneg, ring, at, num, neg, ◌⊕◌, ◌⊖◌, ◌⊗◌, half_side, FlatDim, Out, SpacePoint, Form, form_at, InFrame, InClosedFrame, step, IsAhead, Set, Vector, vector, IsVertical, IsCrossing, form_of, Plane, carriers, sign_at, flat-germ, InFrame-decided, span-3, facet-support, IsAt, is-at_map, SamePlane, IsSkeletonIn, at_vertex, on_edge, in_facet, IsSkeletonPoint, meets_vertex, meets_edge, plane-turned, plane-point, plane-slope, dim-same, between-ends, Complex, complex_of, ShowsSet, held-between, edge-carried, facet-at}
 use Rattle.law_near.proofs.Meets.{vertex-meets}
 use Rattle.nef_locate.proofs.Upward.{plane-upright}
 
@@ -51,7 +51,7 @@ module _ (s : Set) (c : Complex) (S : ShowsSet s c) where
   carrier-at : (f : Form) (y : SpacePoint) → Lies (carriers s) f → sign_at f y ≡ nought → CarrierAt f y
   carrier-at f y l o =
       let r = S.shows.carriers.all f l in
-      let g = at-map form_of c.carriers r.0 r.1 r.2 in
+      let g = is-at_map form_of c.carriers r.0 r.1 r.2 in
       let same : SamePlane (form_of g.0) f = subst (λ (k : Form). SamePlane k f) (sym g.2) r.3 in
       record { number = r.0; plane = g.0; listed = g.1; same = same; on = plane-point f (form_of g.0) y (plane-turned (form_of g.0) f same) (nought-is (form_at f y) o) }
 

@@ -1,14 +1,15 @@
 -- What is found at the points of an edge.
-use Rattle.nef_locate.proofs.Prelude.{◌≡◌, ℕ, zero, suc, ◌<◌, ◌*◌, List, map, length, arith, sym, ap, subst, ◌∙◌, slice_get, Some, None, ints, IsPermutation, svertex_limit, normal_limit, HasLabel, SpacePoint, toward, IsAhead, IsBetween, Set, Vector, IsNormal, IsAtMost, opposite, flat-germ, IsAt, MapVertex as PlainSvertex, Map, MapLabel, Item, items, item_normal, arc_item, sloop_item, Valid, Cone, Least, Ordered, InOrder, at-arc, sloop-at, at-one, arc-at, SVertex, SArc, SphereMap, svertex_of, arc_of, map_of, IsSmall, IsLeastMap, Vertex as PlainVertex, IsEdge, Shows, IsEdgePoint, label-germ, germ-label, IsAlongSvertex, along-svertex, near_point, near-between, ahead-normal, Edge, Complex, vertex_of, edge_of, complex_of, ShowsSet, IsArcBelow, two_ends, AreHalves, dir-self, direction-left, is-at_none, is-at_first}
+use Rattle.nef_locate.proofs.Prelude.{◌≡◌, ℕ, zero, suc, ◌<◌, ◌*◌, List, map, length, arith, sym, ap, subst, ◌∙◌, slice_get, Some, None, ints, IsPermutation, svertex_limit, normal_limit, HasLabel, SpacePoint, toward, IsAhead, IsBetween, Set, Vector, IsNormal, IsAtMost, opposite, flat-germ, IsAt, MapVertex as PlainSvertex, Map, MapLabel, Item, items, item_normal, arc_item, sloop_item, Valid, Cone, Least, Ordered, InOrder, at-arc, sloop-at, is-at_one, arc-at, SVertex, SArc, SphereMap, svertex_of, arc_of, map_of, IsSmall, IsLeastMap, Vertex as PlainVertex, IsEdge, Shows, IsEdgePoint, label-germ, germ-label, IsAlongSvertex, along-svertex, near_point, near-between, ahead-normal, Edge, Complex, vertex_of, edge_of, complex_of, ShowsSet, IsArcBelow, two_ends, AreHalves, dir-self, direction-left, is-at_none, is-at_first}
 use Rattle.law_sphere.proofs.cones.Cones.{point-map}
 use Rattle.law_sphere.proofs.Dimensions.{map-flat}
 use Rattle.law_complex.specs.Complexes.{Edge as PlainEdge, Complex as PlainComplex}
 use Rattle.nef_complex.specs.declared.complex.Vertex.{Vertex}
-use Rattle.nef_locate.proofs.Marks.{image-read, image-within}
+use Rattle.nef_locate.proofs.Marks.{image-read}
 use Rattle.nef_locate.proofs.FlatLabels.{label-is}
 use Rattle.nef_locate.proofs.EdgeLabels.{HasLabelsAlong, L}
 use Rattle.nef_locate.proofs.EdgeMaps.{AreHalfArcs, edge-built, edge-ordered}
 use Rattle.nef_locate.proofs.EdgeHalves.{half-arcs}
+use Rattle.nef_smap.proofs.Lists.{map-within}
 
 -- ---- the lower end of an edge
 pub record Ends (C : PlainComplex) (e : PlainEdge) (v w : PlainVertex) : Type 0 where
@@ -23,7 +24,7 @@ pub record Ends (C : PlainComplex) (e : PlainEdge) (v w : PlainVertex) : Type 0 
 
 ends-of : (s : Set) (C : PlainComplex) → Shows s C → (e : PlainEdge) → (E : IsEdge C.vertices e) → (v : PlainVertex) → IsAt C.vertices e.low v → Ends C e v E.high_vertex
 ends-of s C S e E v a =
-    subst (λ (x : PlainVertex). Ends C e x E.high_vertex) (at-one C.vertices e.low E.low_vertex v E.is_low a) (record {
+    subst (λ (x : PlainVertex). Ends C e x E.high_vertex) (is-at_one C.vertices e.low E.low_vertex v E.is_low a) (record {
       low_end = E.low_end;
       is_low = E.is_low;
       is_high = E.is_high;
@@ -85,7 +86,7 @@ module _ (s : Set) (c : Complex) (S : ShowsSet s c) (number : ℕ) (e : Edge) (r
   edge = S.shows.edges.edges number (edge_of e) (image-read edge_of c.edges number e read)
 
   pub low-within : e.low < length c.vertices
-  low-within = let E = edge in image-within vertex_of c.vertices e.low E.low_vertex E.is_low
+  low-within = let E = edge in map-within vertex_of c.vertices e.low E.low_vertex E.is_low
 
   module _ (v : Vertex) (low : slice_get c.vertices e.low ≡ Some v) where
     pub low-map : IsLeastMap v.map
@@ -94,8 +95,8 @@ module _ (s : Set) (c : Complex) (S : ShowsSet s c) (number : ℕ) (e : Edge) (r
     pub low-svertex : e.low_svertex < length v.map.svertices
     low-svertex =
         let E = edge in
-        let f = at-one (complex_of c).vertices e.low E.low_vertex (vertex_of v) E.is_low (image-read vertex_of c.vertices e.low v low) in
-        image-within svertex_of v.map.svertices e.low_svertex E.low_end (subst (λ (x : PlainVertex). IsAt x.map.svertices e.low_svertex E.low_end) f E.leaves)
+        let f = is-at_one (complex_of c).vertices e.low E.low_vertex (vertex_of v) E.is_low (image-read vertex_of c.vertices e.low v low) in
+        map-within svertex_of v.map.svertices e.low_svertex E.low_end (subst (λ (x : PlainVertex). IsAt x.map.svertices e.low_svertex E.low_end) f E.leaves)
 
     module _ (x : SVertex) (found : slice_get v.map.svertices e.low_svertex ≡ Some x) (vs : List SVertex) (both : map svertex_of vs ≡ two_ends (svertex_of x)) (n : ℕ) (hs ys : List SArc)
         (H : AreHalves v.map.arcs e.low_svertex n hs) (all : n ≡ 2 * length v.map.arcs) (moved : IsPermutation hs ys) (ordered : InOrder IsArcBelow ys) where
@@ -119,7 +120,7 @@ module _ (s : Set) (c : Complex) (S : ShowsSet s c) (number : ℕ) (e : Edge) (r
       D = ends-of s (complex_of c) S.shows (edge_of e) edge (vertex_of v) (image-read vertex_of c.vertices e.low v low)
 
       end-is : (let d = D in d.low_end) ≡ svertex_of x
-      end-is = let d = D in at-one V.svertices k d.low_end (svertex_of x) d.leaves here
+      end-is = let d = D in is-at_one V.svertices k d.low_end (svertex_of x) d.leaves here
 
       halves : AreHalfArcs V k (map arc_of ys)
       halves = let l = low-map in half-arcs v.map l.sphere_map.valid k (svertex_of x) here n hs ys H all moved ordered
@@ -195,7 +196,7 @@ module _ (s : Set) (c : Complex) (S : ShowsSet s c) (number : ℕ) (e : Edge) (r
           let C = complex_of c in
           let d = D in
           let h = high in
-          let g = at-one C.edges number f (edge_of e) a (image-read edge_of c.edges number e read) in
-          let i = at-one C.vertices e.low z (vertex_of v) (subst (λ (r : PlainEdge). IsAt C.vertices r.low z) g J.low) d.is_low in
-          let j = at-one C.vertices e.high t h (subst (λ (r : PlainEdge). IsAt C.vertices r.high t) g J.high) d.is_high in
+          let g = is-at_one C.edges number f (edge_of e) a (image-read edge_of c.edges number e read) in
+          let i = is-at_one C.vertices e.low z (vertex_of v) (subst (λ (r : PlainEdge). IsAt C.vertices r.low z) g J.low) d.is_low in
+          let j = is-at_one C.vertices e.high t h (subst (λ (r : PlainEdge). IsAt C.vertices r.high t) g J.high) d.is_high in
           cone-there y (subst (λ (r : PlainVertex). IsBetween r.point y h.point) i (subst (λ (r : PlainVertex). IsBetween z.point y r.point) j b))

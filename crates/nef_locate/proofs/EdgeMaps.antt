@@ -1,10 +1,11 @@
 -- The map of the half great circles at the lower end of an edge is the least map with the labels along the edge.
 use Rattle.nef_locate.proofs.Prelude.{◌≡◌, ℕ, zero, suc, ◌<◌, ℤ, pos, negsuc, neg_ℤ, ◌*ℤ◌, ◌+ℤ◌, ◌-ℤ◌, arith, refl, ap, sym, ◌∙◌, ◌⊎◌, inl, inr, ⊎_elim, List, [], ◌∷◌, Some, None, subst, ints, ring, at, num, neg, ◌⊕◌, ◌⊖◌, ◌⊗◌, follows, given, none, by_order, mul_pos, Vector, IsDirection, IsZero, IsNormal, IsOpposite, SameDirection, cross, dot, opposite, blend, Label, IsStrictlyOn, forms, comb, IsPrimitive, VectorBelow, IsAt, MapVertex, Arc, Item, arc_item, sloop_item, Map, items, item_normal, dir_of, OnItem, ArcBetween, HasArc, MapLabel, at_svertex, NearLabel, Valid, by_side, InOrder, ArcBelow, Least, Ordered, Near, StraightAt, IsSmooth, plain, straight, IsBuilt, NoneSmooth, Proper, StraightAfter, ArcRay, ray_left, end_left, at-arc, sloop-at, normals-not_opposite, cross-between, lowest-same, near-lone, arc-at, normal-direction, direction-by, dot-comb, below-itself, cross-direction_right, Of, labels-build, to_opposite, from_opposite, normal-kept, two_ends, zero-decided, self-pos, vector-same, cross-turned, opposite-same, direction-opposite, level-of_opposite, opposite-twice, cross-opposite, nought-if, opposites, SameDirection-turned, SameDirection-trans, dir-self, direction-right, is-at_none, is-at_first}
 use Rattle.nef_space.proofs.Order.{sign}
-use Rattle.nef_space.proofs.Vectors.{dot-opposite, opposite-itself}
+use Rattle.nef_space.proofs.Vectors.{dot-opposite, opposite-itself, neg-zero}
 use Rattle.law_sphere.proofs.building.BuiltAxes.{number-order}
 use Rattle.nef_locate.proofs.FlatLabels.{are-labelling, is-label, off-smooth, off-plane, off-axis, flat-opposite, label-moved, straight-moved}
 use Rattle.nef_locate.proofs.EdgeLabels.{HasLabelsAlong, axis, L, to-near, from-near, way-direction, arc-level, ray-straight, arc-there}
+use Rattle.law_sphere.proofs.building.RayClose.{cross-last}
 
 -- the opposite of a normal is the lesser one
 opposite-below : (d e : Vector) → IsNormal d → IsOpposite d e → VectorBelow e d
@@ -135,12 +136,6 @@ turned-way n w = vector-same (cross (opposite n) w) (cross n (opposite w)) (one 
     one : (a b c d : ℤ) → neg_ℤ a *ℤ b -ℤ neg_ℤ c *ℤ d ≡ a *ℤ neg_ℤ b -ℤ c *ℤ neg_ℤ d
     one a b c d = ring (a ∷ b ∷ c ∷ d ∷ []) (neg (at 0) ⊗ at 1 ⊖ neg (at 2) ⊗ at 3) (at 0 ⊗ neg (at 1) ⊖ at 2 ⊗ neg (at 3)) tt
 
-way-level : (n w : Vector) → dot (cross n w) w ≡ pos 0
-way-level n w = ring (n.x ∷ n.y ∷ n.z ∷ w.x ∷ w.y ∷ w.z ∷ []) ((at 1 ⊗ at 5 ⊖ at 2 ⊗ at 4) ⊗ at 3 ⊕ (at 2 ⊗ at 3 ⊖ at 0 ⊗ at 5) ⊗ at 4 ⊕ (at 0 ⊗ at 4 ⊖ at 1 ⊗ at 3) ⊗ at 5) (num (pos 0)) tt
-
-neg-level : (x : ℤ) → neg_ℤ x ≡ pos 0 → x ≡ pos 0
-neg-level x e = omega (arith, ints)
-
 none-some : {A B : Type 0} (x : A) → None ≡ Some x → B
 none-some x e = cc
 
@@ -245,7 +240,7 @@ module _ (V : Map) (k : ℕ) (u : MapVertex) (N : Map) (A : HasLabelsAlong V k u
       to : (i : ℕ) → StraightAt F arc.normal a m b (blend i w 1 (cross arc.normal w))
       to i =
           let f = cross arc.normal w in
-          subst (StraightAt F arc.normal a m b) (onward f w i) (straight-moved N A.along_valid w A.flat arc.normal f a m b (pos i) z hf (along-off f w (pos i) hf (way-level arc.normal w)) st)
+          subst (StraightAt F arc.normal a m b) (onward f w i) (straight-moved N A.along_valid w A.flat arc.normal f a m b (pos i) z hf (along-off f w (pos i) hf (cross-last arc.normal w)) st)
   after-by arc a m b h B C (inr e) (s, t) z hf st = subst (λ j. StraightAfter F arc.normal a m b (dir_of (two_ends u) j)) (sym s) (0, λ i _. to i)
     where
       to : (i : ℕ) → StraightAt F arc.normal a m b (blend i (opposite w) 1 (cross arc.normal (opposite w)))
@@ -254,7 +249,7 @@ module _ (V : Map) (k : ℕ) (u : MapVertex) (N : Map) (A : HasLabelsAlong V k u
           let way = turned-way arc.normal w in
           let hg = subst IsDirection way hf in
           subst (StraightAt F arc.normal a m b) (backward f w i) (straight-moved N A.along_valid w A.flat arc.normal f a m b (neg_ℤ (pos i)) z hg
-          (along-off f w (neg_ℤ (pos i)) hg (subst (λ (d : Vector). dot d w ≡ pos 0) way (way-level (opposite arc.normal) w))) (subst (StraightAt F arc.normal a m b) way st))
+          (along-off f w (neg_ℤ (pos i)) hg (subst (λ (d : Vector). dot d w ≡ pos 0) way (cross-last (opposite arc.normal) w))) (subst (StraightAt F arc.normal a m b) way st))
 
   half-after : (q : ArcRay V k) (h : Arc) → IsHalfOf q h → StraightAfter F h.normal h.pos h.mark h.neg (dir_of (two_ends u) h.source)
   half-after q h I = rw (I.normal, I.pos, I.mark, I.neg)
@@ -301,7 +296,7 @@ module _ (V : Map) (k : ℕ) (u : MapVertex) (N : Map) (A : HasLabelsAlong V k u
         let hf = cross-some w hw level in
         let e = off-onward f w i in
         let st = subst (StraightAt F n a m b) e (straight-moved N A.along_valid w A.flat n (blend i w 1 f) a m b (neg_ℤ (pos i)) level
-        (subst IsDirection (onward f w i) (along-off f w (pos i) hf (way-level n w))) (subst IsDirection (sym e) hf) (after i (omega arith))) in
+        (subst IsDirection (onward f w i) (along-off f w (pos i) hf (cross-last n w))) (subst IsDirection (sym e) hf) (after i (omega arith))) in
         let t = turned-twice w n hw hn level in
         let r = arc-there V k u N A n f a m b hn level (direction-right n (cross w f) (SameDirection-turned (cross w f) n t)) proper st in
         found-high r.0 r.0.end (SameDirection-trans (ray_left r.0) (cross w f) n r.1 t) (λ h I. I.ends)
@@ -312,7 +307,7 @@ module _ (V : Map) (k : ℕ) (u : MapVertex) (N : Map) (A : HasLabelsAlong V k u
         let lb = level-of_opposite n w level in
         let hf = cross-some (opposite w) back lb in
         let e = off-backward f w i in
-        let lf = subst (λ (d : Vector). dot d w ≡ pos 0) (turned-way n w) (way-level (opposite n) w) in
+        let lf = subst (λ (d : Vector). dot d w ≡ pos 0) (turned-way n w) (cross-last (opposite n) w) in
         let st = subst (StraightAt F n a m b) e (straight-moved N A.along_valid w A.flat n (blend i (opposite w) 1 f) a m b (pos i) level
         (subst IsDirection (backward f w i) (along-off f w (neg_ℤ (pos i)) hf lf)) (subst IsDirection (sym e) hf) (after i (omega arith))) in
         -- w x f is the opposite of n
@@ -326,7 +321,7 @@ module _ (V : Map) (k : ℕ) (u : MapVertex) (N : Map) (A : HasLabelsAlong V k u
       let r = arc-high n a m b normal (subst (λ (d : Vector). dot n d ≡ pos 0) e.1 z) proper (subst (StraightAfter F n a m b) e.1 after) in
       (r.0, r.1, r.2, r.3 ∙ sym e.0, r.4)
   arcs-all j v n a m b (inr e) normal z proper after =
-      let y = neg-level (dot n w) (sym (dot-opposite n w) ∙ subst (λ (d : Vector). dot n d ≡ pos 0) e.1 z) in
+      let y = neg-zero (dot n w) (sym (dot-opposite n w) ∙ subst (λ (d : Vector). dot n d ≡ pos 0) e.1 z) in
       let r = arc-low n a m b normal y proper (subst (StraightAfter F n a m b) e.1 after) in
       (r.0, r.1, r.2, r.3 ∙ sym e.0, r.4)
 
@@ -387,7 +382,7 @@ module _ (V : Map) (k : ℕ) (u : MapVertex) (N : Map) (A : HasLabelsAlong V k u
 
   end-level : (n : Vector) (v : MapVertex) (i : ℕ) → IsHighEnd u i v ⊎ IsLowEnd u i v → dot n v.dir ≡ pos 0 → dot n w ≡ pos 0
   end-level n v i (inl x) z = subst (λ (d : Vector). dot n d ≡ pos 0) x.1 z
-  end-level n v i (inr x) z = neg-level (dot n w) (sym (dot-opposite n w) ∙ subst (λ (d : Vector). dot n d ≡ pos 0) x.1 z)
+  end-level n v i (inr x) z = neg-zero (dot n w) (sym (dot-opposite n w) ∙ subst (λ (d : Vector). dot n d ≡ pos 0) x.1 z)
 
   own-there : (m : Label) → m ≡ u.mark → MapLabel V w m
   own-there m e = at_svertex k u A.listed (dir-self w hw) (sym e)

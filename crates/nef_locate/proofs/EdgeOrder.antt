@@ -1,21 +1,9 @@
 -- A point of an edge comes between the edge's ends in the order of vertices, and what comes between on its line lies on it.
-use Rattle.nef_locate.proofs.Prelude.{◌≡◌, ℕ, ◌+◌, ◌<◌, ◌≤◌, sym, pos, Bool, IsTrue, ◌↔◌, List, arith, inl, inr, ⊎_elim, subst, eq-or-lt_of_le, cases_lt, ints, by_order, IsAt, SpacePoint, Form, form_at, toward, SamePoint, IsBetween, IsPointBelow, Set, IsNormal, IsZero, cross, form_of, point_of, Point, point_below-same, same-point_below, point_below-trans, point_below-apart, same-point_sym, map-at, at-map, get-from_at, at-from_get, is-at_one, Shows, IsVertexPoint, IsEdgePoint, aligned, cross-back, plane-way, between-way, same-itself, Edge, Complex, edge_of, vertex_of, complex_of, AreBelow, AreAbove, EdgeLiesIn, AreNumbersWith, EndBelow, apart, edge-inside, ends, listed_edge, vertex-same, held-between, toward-normal, normal-kept, AllThrough, edge-along, lies, lying-ends, level-same, Span, AreAlone, IsInSpan, IsNarrower, span-between, PartsOn, AreThroughEnds, cross-turned, SameDirection-turned}
+use Rattle.nef_locate.proofs.Prelude.{◌≡◌, ℕ, ◌+◌, ◌<◌, ◌≤◌, sym, pos, Bool, IsTrue, ◌↔◌, List, arith, inl, inr, ⊎_elim, subst, eq-or-lt_of_le, cases_lt, ints, by_order, IsAt, SpacePoint, Form, form_at, toward, SamePoint, IsBetween, IsPointBelow, Set, IsNormal, IsZero, cross, form_of, point_of, Point, point_below-same, same-point_below, point_below-trans, point_below-apart, same-point_sym, map-is_at, is-at_map, is-at_one, Shows, IsVertexPoint, IsEdgePoint, aligned, cross-back, plane-way, between-way, same-itself, Edge, Complex, edge_of, vertex_of, complex_of, AreBelow, AreAbove, EdgeLiesIn, AreNumbersWith, EndBelow, apart, edge-inside, ends, listed_edge, vertex-same, held-between, toward-normal, normal-kept, AllThrough, edge-along, lies, lying-ends, level-same, Span, AreAlone, IsInSpan, IsNarrower, span-between, PartsOn, AreThroughEnds, cross-turned, SameDirection-turned}
 use Rattle.law_sphere.proofs.Compare.{normals-same}
 use Rattle.nef_complex.specs.declared.complex.Vertex.{Vertex}
 use Rattle.nef_complex.proofs.Rising.{BeginFrom}
-
--- where q - p begins with a positive number, q is a later point
-normal-below : (p q : SpacePoint) → IsNormal (toward p q) → IsPointBelow p q
-normal-below p q n = by_order (toward p q).x (pos 0)
-    (λ l. let f = n.first in absurd (omega (arith, ints)))
-    (λ e. inr (
-      omega (arith, ints),
-      by_order (toward p q).y (pos 0)
-          (λ l. let f = n.second e in absurd (omega (arith, ints)))
-          (λ o. let f = n.third e o in inr (omega (arith, ints), inl (omega (arith, ints))))
-          (λ l. inl (omega (arith, ints))),
-    ))
-    (λ l. inl (omega (arith, ints)))
+use Rattle.nef_conn.proofs.Lexical.{normal-below}
 
 -- a point strictly between two others comes between them
 pub between-order : (p y q : SpacePoint) → IsPointBelow p q → IsBetween p y q → IsPointBelow p y × IsPointBelow y q
@@ -32,8 +20,8 @@ module _ (s : Set) (c : Complex) (S : Shows s (complex_of c)) (k : ℕ) (e : Edg
 
   ends-order : IsPointBelow low high
   ends-order =
-      let E = S.edges.edges k (edge_of e) (map-at edge_of c.edges k e l) in
-      S.ordered e.low e.high (vertex_of u) (vertex_of v) E.upward (map-at vertex_of c.vertices e.low u i) (map-at vertex_of c.vertices e.high v j)
+      let E = S.edges.edges k (edge_of e) (map-is_at edge_of c.edges k e l) in
+      S.ordered e.low e.high (vertex_of u) (vertex_of v) E.upward (map-is_at vertex_of c.vertices e.low u i) (map-is_at vertex_of c.vertices e.high v j)
 
   -- a point that lies on the edge comes between its ends
   pub edge-order : (p y : SpacePoint) → SamePoint y p → IsEdgePoint (complex_of c) k y → IsPointBelow low p × IsPointBelow p high
@@ -45,8 +33,8 @@ module _ (s : Set) (c : Complex) (S : Shows s (complex_of c)) (k : ℕ) (e : Edg
   pub edge-parted : (h : Form) (y : SpacePoint) (n : ℕ) → PartsOn c.vertices h y n → form_at h low ≡ pos 0 → form_at h high ≡ pos 0 → IsEdgePoint (complex_of c) k y → (e.low < n) × (n ≤ e.high)
   edge-parted h y n P f g x =
       let b = edge-order y y (same-itself y) x in (
-        ⊎_elim (λ m. m) (λ m. absurd (never low y b.0 (P.after e.low u m (get-from_at c.vertices e.low u i) f))) (cases_lt e.low n),
-        ⊎_elim (λ m. absurd (never y high b.1 (P.before e.high v m (get-from_at c.vertices e.high v j) g))) (λ m. m) (cases_lt e.high n),
+        ⊎_elim (λ m. m) (λ m. absurd (never low y b.0 (P.after e.low u m i f))) (cases_lt e.low n),
+        ⊎_elim (λ m. absurd (never y high b.1 (P.before e.high v m j g))) (λ m. m) (cases_lt e.high n),
       )
     where
       never : (a b : SpacePoint) → IsPointBelow a b → IsPointBelow b a → ⊥
@@ -71,16 +59,16 @@ module _ (s : Set) (c : Complex) (S : Shows s (complex_of c)) (k : ℕ) (e : Edg
 
   -- a span as wide as those of the ends holds it too
   pub edge-spanned : (ss : List Span) → AreAlone c.vertices ss → (a b t : Span) → IsAt ss e.low a → IsAt ss e.high b → IsNarrower a t → IsNarrower b t → (y : SpacePoint) → IsEdgePoint (complex_of c) k y → IsInSpan t y
-  edge-spanned ss A a b t o r m n y x = span-between a b t low y high (edge-inside s c S k e u v l i j y x) (A.each e.low u a (get-from_at c.vertices e.low u i) o) (A.each e.high v b (get-from_at c.vertices e.high v j) r) m n
+  edge-spanned ss A a b t o r m n y x = span-between a b t low y high (edge-inside s c S k e u v l i j y x) (A.each e.low u a i o) (A.each e.high v b j r) m n
 
   -- so it does where the numbers of the plane's vertices tell that it comes between
   pub parted-edge : (h : Form) (y : SpacePoint) (n : ℕ) → PartsOn c.vertices h y n → form_at h low ≡ pos 0 → form_at h high ≡ pos 0 → e.low < n → n ≤ e.high → AllThrough c.carriers low high y → IsEdgePoint (complex_of c) k y
-  parted-edge h y n P f g m r T = line-edge y (P.before e.low u m (get-from_at c.vertices e.low u i) f) (P.after e.high v r (get-from_at c.vertices e.high v j) g) T
+  parted-edge h y n P f g m r T = line-edge y (P.before e.low u m i f) (P.after e.high v r j g) T
 
 -- ---- an edge alone
 module _ (s : Set) (c : Complex) (S : Shows s (complex_of c)) (k : ℕ) (e : Edge) (a : IsAt c.edges k e) where
   l : IsAt c.edges k e
-  l = at-from_get c.edges k e a
+  l = a
 
   record HasBoth : Type 0 where
     pub low : Vertex
@@ -90,8 +78,8 @@ module _ (s : Set) (c : Complex) (S : Shows s (complex_of c)) (k : ℕ) (e : Edg
 
   both : HasBoth
   both =
-      let E = S.edges.edges k (edge_of e) (map-at edge_of c.edges k e l) in
-      let u = at-map vertex_of c.vertices e.low E.low_vertex E.is_low in let v = at-map vertex_of c.vertices e.high E.high_vertex E.is_high in
+      let E = S.edges.edges k (edge_of e) (map-is_at edge_of c.edges k e l) in
+      let u = is-at_map vertex_of c.vertices e.low E.low_vertex E.is_low in let v = is-at_map vertex_of c.vertices e.high E.high_vertex E.is_high in
       record { low = u.0; high = v.0; low_at = u.1; high_at = v.1 }
 
   -- a span as wide as those of its ends holds the points of the edge
@@ -103,13 +91,13 @@ module _ (s : Set) (c : Complex) (S : Shows s (complex_of c)) (k : ℕ) (e : Edg
       → ((e : Edge) (u v : Vertex) → IsAt c.edges k e → IsAt c.vertices e.low u → IsAt c.vertices e.high v → (IsTrue b ↔ AllThrough c.carriers (point_of u.point) (point_of v.point) y))
       → IsEdgePoint (complex_of c) k y → IsTrue b
   told-line b y line x =
-      (line e both.low both.high a (get-from_at c.vertices e.low both.low both.low_at) (get-from_at c.vertices e.high both.high both.high_at)).1 (edge-through s c S k e both.low both.high l both.low_at both.high_at y x)
+      (line e both.low both.high a both.low_at both.high_at).1 (edge-through s c S k e both.low both.high l both.low_at both.high_at y x)
 
 -- such a point is no vertex
 pub parts-off : (c : Complex) (h : Form) (y : SpacePoint) (n : ℕ) → form_at h y ≡ pos 0 → PartsOn c.vertices h y n → (k : ℕ) → IsVertexPoint (complex_of c) k y → ⊥
 parts-off c h y n on P k (x, a, e) =
     let l = lies c h k x a (level-same h y x.point (same-point_sym x.point y e) on) in
-    let o = vertex-same c k l.0 (at-from_get c.vertices k l.0 l.1) y (x, a, e) in
+    let o = vertex-same c k l.0 l.1 y (x, a, e) in
     ⊎_elim
     (λ m. point_below-apart (point_of l.0.point) y (P.before k l.0 m l.1 l.2) o)
     (λ m. point_below-apart y (point_of l.0.point) (P.after k l.0 m l.1 l.2) (same-point_sym (point_of l.0.point) y o))
@@ -127,17 +115,17 @@ module _ (s : Set) (c : Complex) (S : Shows s (complex_of c)) (h : Form) (y : Sp
   -- an edge in it with the point on it has its lower end among the first vertices, and not its upper one
   pub number-parted : (k : ℕ) (e : Edge) → IsAt c.edges k e → EdgeLiesIn c.vertices c.edges h k → IsEdgePoint (complex_of c) k y → (e.low < n) × (n ≤ e.high)
   number-parted k e a L x =
-      let l = at-from_get c.edges k e a in
+      let l = a in
       let E = lying-ends c.vertices c.edges h k e a L in
-      edge-parted s c S k e E.0.0 E.1.0 l (at-from_get c.vertices e.low E.0.0 E.0.1) (at-from_get c.vertices e.high E.1.0 E.1.1) h y n P E.0.2 E.1.2 x
+      edge-parted s c S k e E.0.0 E.1.0 l E.0.1 E.1.1 h y n P E.0.2 E.1.2 x
 
   -- where the ends' numbers tell that, the edge has the point on it if its line does
   pub number-edge : (k : ℕ) (e : Edge) → IsAt c.edges k e → EdgeLiesIn c.vertices c.edges h k → e.low < n → n ≤ e.high → AreThroughEnds c k y → IsEdgePoint (complex_of c) k y
   number-edge k e a L m r line =
-      let l = at-from_get c.edges k e a in
+      let l = a in
       let E = lying-ends c.vertices c.edges h k e a L in
       let u = E.0.0 in let v = E.1.0 in
-      parted-edge s c S k e u v l (at-from_get c.vertices e.low u E.0.1) (at-from_get c.vertices e.high v E.1.1) h y n P E.0.2 E.1.2 m r (line e u v a E.0.1 E.1.1)
+      parted-edge s c S k e u v l E.0.1 E.1.1 h y n P E.0.2 E.1.2 m r (line e u v a E.0.1 E.1.1)
 
   -- from a place of a row of them on the point lies on none
   abbrev pub NoneFrom : List ℕ → ℕ → Type 0

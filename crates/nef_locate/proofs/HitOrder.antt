@@ -1,5 +1,5 @@
 -- The vertices of a plane stand in the order of points, so a hit that is none of them parts their numbers.
-use Rattle.nef_locate.proofs.Prelude.{◌≡◌, ℕ, ◌+◌, ◌≤◌, ◌<◌, ℤ, pos, ◌*ℤ◌, ◌<ℤ◌, nat_abs, length, List, arith, sym, ◌∙◌, subst, ⊎_elim, w64, Ordering, inl, inr, Less, Equal, Greater, eq-or-lt_of_le, cases_lt, MatchOrdering, IsAt, SpacePoint, Form, SamePoint, IsPointBelow, Set, point_of, Hit, Point, point_below-trans, is-at_one, is-at_within, map-at, at-from_get, Shows, IsVertexPoint, Complex, vertex_of, complex_of, LiesOn, AreNumbersWith, PartsOn, pos-abs}
+use Rattle.nef_locate.proofs.Prelude.{◌≡◌, ℕ, ◌+◌, ◌≤◌, ◌<◌, ℤ, pos, ◌*ℤ◌, ◌<ℤ◌, nat_abs, length, List, arith, sym, ◌∙◌, subst, ⊎_elim, w64, Ordering, inl, inr, Less, Equal, Greater, eq-or-lt_of_le, cases_lt, MatchOrdering, IsAt, SpacePoint, Form, SamePoint, IsPointBelow, Set, point_of, Hit, Point, point_below-trans, is-at_one, is-at_within, map-is_at, Shows, IsVertexPoint, Complex, vertex_of, complex_of, LiesOn, AreNumbersWith, PartsOn, pos-abs}
 use mir.Syntax.{w128}
 use mir.Val.{to_z, of_z}
 use Rattle.nef_complex.specs.declared.complex.Vertex.{Vertex}
@@ -43,7 +43,7 @@ AreAfter vs ns y n = (i j : ℕ) (v : Vertex) → n ≤ i → IsAt ns i j → Is
 
 module _ (s : Set) (c : Complex) (S : Shows s (complex_of c)) (h : Form) (ns : List ℕ) (N : AreNumbersWith (LiesOn c.vertices h) ns) (y : SpacePoint) where
   rise : (i m n j : ℕ) (u v : Vertex) → i < m → IsAt ns i n → IsAt ns m j → IsAt c.vertices n u → IsAt c.vertices j v → IsPointBelow (point_of u.point) (point_of v.point)
-  rise i m n j u v l a b e f = S.ordered n j (vertex_of u) (vertex_of v) (N.ordered i m n j l a b) (map-at vertex_of c.vertices n u (at-from_get c.vertices n u e)) (map-at vertex_of c.vertices j v (at-from_get c.vertices j v f))
+  rise i m n j u v l a b e f = S.ordered n j (vertex_of u) (vertex_of v) (N.ordered i m n j l a b) (map-is_at vertex_of c.vertices n u e) (map-is_at vertex_of c.vertices j v f)
 
   same : (i m n j : ℕ) (u v : Vertex) → i ≡ m → IsAt ns i n → IsAt ns m j → IsAt c.vertices n u → IsAt c.vertices j v → v ≡ u
   same i m n j u v o a b e f =
@@ -65,7 +65,7 @@ module _ (s : Set) (c : Complex) (S : Shows s (complex_of c)) (h : Form) (ns : L
       (eq-or-lt_of_le {n = m} {m = i} l)
 
   pub is-vertex : (k : ℕ) (v : Vertex) → IsAt c.vertices k v → SamePoint (point_of v.point) y → IsVertexPoint (complex_of c) k y
-  is-vertex k v a o = (vertex_of v, map-at vertex_of c.vertices k v (at-from_get c.vertices k v a), o)
+  is-vertex k v a o = (vertex_of v, map-is_at vertex_of c.vertices k v a, o)
 
 -- so places among the numbers of the plane's vertices that part these make numbers that do
 module _ (c : Complex) (h : Form) (ns : List ℕ) (N : AreNumbersWith (LiesOn c.vertices h) ns) (y : SpacePoint) (m : ℕ) (B : AreBefore c.vertices ns y m) (A : AreAfter c.vertices ns y m) where

@@ -1,5 +1,5 @@
 -- Corners by the items and arcs that were found.
-use Rattle.nef_locate.proofs.Prelude.{◌≡◌, ℕ, Some, slice_get, refl, sym, ap, ◌∙◌, ◌⊎◌, inl, inr, ⊎_elim, subst, SpacePoint, Form, normal_of, Vector, IsDirection, SameDirection, triple, vector_of, sign_of, Sign, Minus, Plus, sign_of-positive, sign_of-negative, IsAt, item_normal, dir_of, at-one, SArc, SVertex, IsItemThrough, arc_of, map_of, map-from_get, Vertex as PlainVertex, Corner, PlaneMeet, meets_vertex, meets_edge, Meets, IsArcOnSide, IsCornerAt, Edge, Complex, vertex_of, edge_of, complex_of, IsArcBeside, HasMet, SameDirection-turned, SameDirection-trans, dir-self}
+use Rattle.nef_locate.proofs.Prelude.{◌≡◌, ℕ, Some, slice_get, refl, sym, ap, ◌∙◌, ◌⊎◌, inl, inr, ⊎_elim, subst, SpacePoint, Form, normal_of, Vector, IsDirection, SameDirection, triple, vector_of, sign_of, Sign, Minus, Plus, sign_of-positive, sign_of-negative, IsAt, item_normal, dir_of, is-at_one, SArc, SVertex, IsItemThrough, arc_of, map_of, map-is_at, Vertex as PlainVertex, Corner, PlaneMeet, meets_vertex, meets_edge, Meets, IsArcOnSide, IsCornerAt, Edge, Complex, vertex_of, edge_of, complex_of, IsArcBeside, HasMet, SameDirection-turned, SameDirection-trans, dir-self}
 use Rattle.nef_smap.proofs.Axes.{plus-of, minus-of}
 use Rattle.nef_smap.proofs.CloseSigns.{dir-from_get}
 use Rattle.law_complex.specs.Complexes.{Edge as PlainEdge, Complex as PlainComplex}
@@ -24,23 +24,23 @@ module _ (c : Complex) (h : Form) (n d : Vector) (w : SameDirection (normal_of h
   -- ---- at a vertex
   module _ (i : ℕ) (u : Vertex) (e : slice_get c.vertices i ≡ Some u) where
     listed : IsAt (complex_of c).vertices i (vertex_of u)
-    listed = map-from_get vertex_of c.vertices i u e
+    listed = map-is_at vertex_of c.vertices i u e
 
     pub vertex-some : (k : ℕ) → IsItemThrough (map_of u.map) n d k → IsCornerAt (complex_of c) h d (meets_vertex i) (record { vertex = i; item = k })
     vertex-some k (x, a, s, o) = (vertex_of u, x, refl, record { vertex = listed; item = a }, SameDirection-trans (item_normal x) n (normal_of h) s (SameDirection-turned (normal_of h) n w), o)
 
     pub vertex-none : ((k : ℕ) → IsItemThrough (map_of u.map) n d k → ⊥) → (k : Corner) → IsCornerAt (complex_of c) h d (meets_vertex i) k → ⊥
     vertex-none f k (v, x, r, a, s, o) =
-        let same = at-one (complex_of c).vertices i v (vertex_of u) (subst (λ (j : ℕ). IsAt (complex_of c).vertices j v) r a.vertex) listed in
+        let same = is-at_one (complex_of c).vertices i v (vertex_of u) (subst (λ (j : ℕ). IsAt (complex_of c).vertices j v) r a.vertex) listed in
         f k.item (subst (λ (y : PlainVertex). IsItemThrough y.map n d k.item) same (x, a.item, SameDirection-trans (item_normal x) (normal_of h) n s w, o))
 
   -- ---- beside an edge
   module _ (j : ℕ) (g : Edge) (b : slice_get c.edges j ≡ Some g) (u : Vertex) (e : slice_get c.vertices g.low ≡ Some u) (some : IsDirection d) where
     listed_edge : IsAt (complex_of c).edges j (edge_of g)
-    listed_edge = map-from_get edge_of c.edges j g b
+    listed_edge = map-is_at edge_of c.edges j g b
 
     listed_low : IsAt (complex_of c).vertices g.low (vertex_of u)
-    listed_low = map-from_get vertex_of c.vertices g.low u e
+    listed_low = map-is_at vertex_of c.vertices g.low u e
 
     pub edge-some : (k : ℕ) → IsArcBeside (vertex_of u) g.low_svertex n d k → IsCornerAt (complex_of c) h d (meets_edge j) (record { vertex = g.low; item = k })
     edge-some k (a, l, s, o) =
@@ -49,9 +49,9 @@ module _ (c : Complex) (h : Form) (n d : Vector) (w : SameDirection (normal_of h
 
     pub edge-none : ((k : ℕ) → IsArcBeside (vertex_of u) g.low_svertex n d k → ⊥) → (k : Corner) → IsCornerAt (complex_of c) h d (meets_edge j) k → ⊥
     edge-none f k (q, v, a, l, r, m, t, s, o) =
-        let same-edge = at-one (complex_of c).edges j q (edge_of g) l listed_edge in
+        let same-edge = is-at_one (complex_of c).edges j q (edge_of g) l listed_edge in
         let at-low = subst (λ (y : PlainEdge). IsAt (complex_of c).vertices y.low v) same-edge m in
-        let same = at-one (complex_of c).vertices g.low v (vertex_of u) at-low listed_low in
+        let same = is-at_one (complex_of c).vertices g.low v (vertex_of u) at-low listed_low in
         let side = subst (λ (y : PlainEdge). IsArcOnSide v y.low_svertex (normal_of h) d a) same-edge o in
         f k.item (subst (λ (y : PlainVertex). IsArcBeside y g.low_svertex n d k.item) same
         (a, t, SameDirection-trans a.normal (normal_of h) n s w, side-turned v g.low_svertex (normal_of h) n d d a w (dir-self d some) side))

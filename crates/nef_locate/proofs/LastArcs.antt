@@ -1,5 +1,6 @@
 -- Arcs at a svertex, all of which have a positive product with one vector: the last counterclockwise of them.
-use Rattle.nef_locate.proofs.Prelude.{◌≡◌, ℕ, ◌+◌, ◌<◌, pos, ◌+ℤ◌, ◌*ℤ◌, ◌<ℤ◌, arith, sym, ◌∙◌, ◌⊎◌, inl, inr, ⊎_elim, [], ◌∷◌, Bool, true, false, subst, Option, Some, None, ints, eq-or-lt_of_le, ring, at, num, ◌⊕◌, ◌⊖◌, ◌⊗◌, follows, given, none, mul_pos, sign-scaled, Vector, IsDirection, dot, triple, IsAt, MapVertex, Arc, Map, dir_of, Shaped, ends-of, at-one, dir-at, same-plus, end_of, IsLastArc, IsNoArc, IsLast, dot-comm, triple-in_plane}
+use Rattle.nef_locate.proofs.Prelude.{◌≡◌, ℕ, ◌+◌, ◌<◌, pos, ◌+ℤ◌, ◌*ℤ◌, ◌<ℤ◌, arith, sym, ◌∙◌, ◌⊎◌, inl, inr, ⊎_elim, [], ◌∷◌, Bool, true, false, subst, Option, Some, None, ints, eq-or-lt_of_le, ring, at, num, ◌⊕◌, ◌⊖◌, ◌⊗◌, follows, given, none, mul_pos, sign-scaled, Vector, IsDirection, dot, triple, IsAt, MapVertex, Arc, Map, dir_of, Shaped, ends-of, is-at_one, dir-at, same-plus, end_of, IsLastArc, IsNoArc, IsLast, dot-comm, triple-in_plane}
+use Rattle.law_near.proofs.Meets.{triple-same}
 
 -- of three vectors in the plane of w, by their products with a vector u
 turn-through : (w a b c u : Vector) → triple a b c ≡ pos 0 → dot u b *ℤ triple w a c ≡ dot u a *ℤ triple w b c +ℤ dot u c *ℤ triple w a b
@@ -14,10 +15,6 @@ turn-through w a b c u z =
     let ab = at 0 ⊗ (at 4 ⊗ at 8 ⊖ at 5 ⊗ at 7) ⊕ at 1 ⊗ (at 5 ⊗ at 6 ⊖ at 3 ⊗ at 8) ⊕ at 2 ⊗ (at 3 ⊗ at 7 ⊖ at 4 ⊗ at 6) in
     let abc = at 3 ⊗ (at 7 ⊗ at 11 ⊖ at 8 ⊗ at 10) ⊕ at 4 ⊗ (at 8 ⊗ at 9 ⊖ at 6 ⊗ at 11) ⊕ at 5 ⊗ (at 6 ⊗ at 10 ⊖ at 7 ⊗ at 9) in
     follows xs (ub ⊗ ac) (ua ⊗ bc ⊕ uc ⊗ ab) (given (num (pos 0) ⊖ uw) abc (num (pos 0)) z none) tt
-
-turn-self : (w n : Vector) → triple w n n ≡ pos 0
-turn-self w n = ring (w.x ∷ w.y ∷ w.z ∷ n.x ∷ n.y ∷ n.z ∷ [])
-    (at 0 ⊗ (at 4 ⊗ at 5 ⊖ at 5 ⊗ at 4) ⊕ at 1 ⊗ (at 5 ⊗ at 3 ⊖ at 3 ⊗ at 5) ⊕ at 2 ⊗ (at 3 ⊗ at 4 ⊖ at 4 ⊗ at 3)) (num (pos 0)) tt
 
 -- what lies counterclockwise of one that lies so of another, lies so of that
 pub later-later : (w a b c u : Vector) → IsDirection w → dot w a ≡ pos 0 → dot w b ≡ pos 0 → dot w c ≡ pos 0 → pos 0 <ℤ dot u a → pos 0 <ℤ dot u b → pos 0 <ℤ dot u c
@@ -40,7 +37,7 @@ module _ (M : Map) (V : Shaped M) (s : ℕ) (v : MapVertex) (h : IsAt M.svertice
   module _ (begins : Bool) (n : ℕ) (a : Arc) (l : IsAt M.arcs n a) where
     -- an arc before the next, or the next
     earlier : (j : ℕ) (b : Arc) → j < n + 1 → IsAt M.arcs j b → (b ≡ a) ⊎ (j < n)
-    earlier j b m i = ⊎_elim (λ e. inl (at-one M.arcs n b a (subst (λ (r : ℕ). IsAt M.arcs r b) e i) l)) (λ k. inr k) (eq-or-lt_of_le {n = j} {m = n} (omega (arith, m)))
+    earlier j b m i = ⊎_elim (λ e. inl (is-at_one M.arcs n b a (subst (λ (r : ℕ). IsAt M.arcs r b) e i) l)) (λ k. inr k) (eq-or-lt_of_le {n = j} {m = n} (omega (arith, m)))
 
     pub last-skip : (end_of a begins ≡ s → ⊥) → (o : Option ℕ) → IsLast M (dir_of M.svertices s) s begins n o → IsLast M (dir_of M.svertices s) s begins (n + 1) o
     last-skip off None L = λ j b m i e. ⊎_elim (λ q. off (subst (λ (r : Arc). end_of r begins ≡ s) q e)) (λ k. L j b k i e) (earlier j b m i)
@@ -55,7 +52,7 @@ module _ (M : Map) (V : Shaped M) (s : ℕ) (v : MapVertex) (h : IsAt M.svertice
       itself : (b : Arc) → b ≡ a → pos 0 <ℤ triple (dir_of M.svertices s) a.normal b.normal → ⊥
       itself b q t =
           let y = subst (λ (r : Arc). pos 0 <ℤ triple (dir_of M.svertices s) a.normal r.normal) q t in
-          let z = turn-self (dir_of M.svertices s) a.normal in
+          let z = triple-same (dir_of M.svertices s) a.normal in
           omega (arith, ints)
 
       pub last-first : IsNoArc M s begins n → IsLastArc M (dir_of M.svertices s) s begins (n + 1) n

@@ -1,5 +1,5 @@
 -- What a ray along an upright direction meets in one plane, and what it meets first.
-use Rattle.nef_locate.proofs.Prelude.{◌≡◌, ℕ, ◌<◌, length, neg_ℤ, arith, Option, Some, None, IfSome, List, [], ◌∷◌, ◌⊎◌, inl, inr, slice_get, refl, sym, subst, ints, ring, at, neg, ◌⊕◌, ◌⊗◌, IsAt, SpacePoint, InClosedFrame, SamePoint, toward, IsAhead, IsBetween, Set, Vector, dot, opposite, IsVertical, IsCrossing, form_of, hit_point, Hit, Plane, point-toward, between-inner, IsSkeletonPoint, ahead-back, one-crossing, Complex, Span, complex_of, ShowsSet, AreSpans, IsInSpan, skeleton-framed, spanned, is-at_one, at-within, get-from_at, IsSkeletonIn, MetPlace, IsFirstHit, IsMet, IsReachedMet, IsSooner, IsNotBefore, HasNoneOn, HasNoneOnCarrier, HasNotAt, HasNotAtCarrier, ahead-from, self-pos, SameDirection-turned, SameDirection-trans, direction-left, direction-right}
+use Rattle.nef_locate.proofs.Prelude.{◌≡◌, ℕ, ◌<◌, length, neg_ℤ, arith, Option, Some, None, IfSome, List, [], ◌∷◌, ◌⊎◌, inl, inr, slice_get, refl, sym, subst, ints, ring, at, neg, ◌⊕◌, ◌⊗◌, IsAt, SpacePoint, InClosedFrame, SamePoint, toward, IsAhead, IsBetween, Set, Vector, dot, opposite, IsVertical, IsCrossing, form_of, hit_point, Hit, Plane, point-toward, between-inner, IsSkeletonPoint, ahead-back, one-crossing, Complex, Span, complex_of, ShowsSet, AreSpans, IsInSpan, skeleton-framed, spanned, is-at_one, is-at_within, IsSkeletonIn, MetPlace, IsFirstHit, IsMet, IsReachedMet, IsSooner, IsNotBefore, HasNoneOn, HasNoneOnCarrier, HasNotAt, HasNotAtCarrier, ahead-from, self-pos, SameDirection-turned, SameDirection-trans, direction-left, direction-right}
 use Rattle.std.specs.Option.{option_or}
 use Rattle.law_complex.specs.Complexes.{Complex as PlainComplex}
 use Rattle.nef_plane.proofs.Found.{not-end}
@@ -83,7 +83,7 @@ module _ (s : Set) (c : Complex) (S : ShowsSet s c) (p : SpacePoint) (d : Vector
   AllMet best = (k : ℕ) → k < length c.carriers → HasNoneOnCarrier c p d best k
 
   not-before : (best : Option MetPlace) → AllMet best → (y : SpacePoint) → IsAhead p d y → IsSkeletonPoint (complex_of c) y → IsNotBefore p y best
-  not-before best A y w o = let k = skeleton-carrier s c S y o in A k.number (at-within c.carriers k.number k.plane k.listed) k.plane (get-from_at c.carriers k.number k.plane k.listed) s y S (crossed s c S p y d u w k) k.found
+  not-before best A y w o = let k = skeleton-carrier s c S y o in A k.number (is-at_within c.carriers k.number k.plane k.listed) k.plane k.listed s y S (crossed s c S p y d u w k) k.found
 
   pub first-none : AllMet None → (y : SpacePoint) → IsAhead p d y → IsSkeletonPoint (complex_of c) y → ⊥
   first-none A = not-before None A

@@ -1,5 +1,5 @@
 -- The numbers of the sides that see the upward direction, or bound the sector of a svertex in which it lies.
-use Rattle.nef_locate.proofs.Prelude.{◌≡◌, ℕ, zero, suc, ◌<◌, ℤ, pos, negsuc, ◌<ℤ◌, arith, refl, ap, sym, ◌∙◌, length, Bool, true, false, Some, slice_get, subst, ints, length-map, Vector, IsDirection, SameDirection, dot, cross, triple, up, vector_of, sign_of, Sign, Plus, Label, IsAt, MapVertex, Arc, Map, Item, arc_item, items, OnItem, IsFree, item_pos, item_neg, Side, around_svertex, pos_item, neg_item, HasSide, dir_of, BoundsSector, at-arc, on-level, at-one, dir-at, SArc, SVertex, SphereMap, map_of, svertex_of, arc_of, IsSphereMap, IsSide, side_number, arounds_before, at-within, at-some, side-number, IsLastArc, IsNoArc, dot-comm, cross-turned}
+use Rattle.nef_locate.proofs.Prelude.{◌≡◌, ℕ, zero, suc, ◌<◌, ℤ, pos, negsuc, ◌<ℤ◌, arith, refl, ap, sym, ◌∙◌, length, Bool, true, false, Some, slice_get, subst, ints, length-map, Vector, IsDirection, SameDirection, dot, cross, triple, up, vector_of, sign_of, Sign, Plus, Label, IsAt, MapVertex, Arc, Map, Item, arc_item, items, OnItem, IsFree, item_pos, item_neg, Side, around_svertex, pos_item, neg_item, HasSide, dir_of, BoundsSector, at-arc, on-level, is-at_one, dir-at, SArc, SVertex, SphereMap, map_of, svertex_of, arc_of, IsSphereMap, IsSide, side_number, arounds_before, is-at_within, is-at_some, side-number, IsLastArc, IsNoArc, dot-comm, cross-turned}
 use Rattle.nef_geo.proofs.InPlane.{up-direction}
 use Rattle.nef_smap.proofs.Upward.{map-ahead, map-across}
 use Rattle.nef_locate.proofs.Marks.{image-read}
@@ -18,7 +18,7 @@ module _ (m : SphereMap) (S : IsSphereMap m) where
 
 -- ---- close to a svertex
 pub some-svertex : (m : SphereMap) (k : ℕ) → k < length m.svertices → (v : MapVertex) × IsAt (map_of m).svertices k v
-some-svertex m k l = at-some (map_of m).svertices k (let e = length-map m.svertices svertex_of in omega (arith, e, l))
+some-svertex m k l = is-at_some (map_of m).svertices k (let e = length-map m.svertices svertex_of in omega (arith, e, l))
 
 module _ (m : SphereMap) (S : IsSphereMap m) (k : ℕ) (v : MapVertex) (a : IsAt (map_of m).svertices k v) where
   abbrev M : Map
@@ -34,7 +34,7 @@ module _ (m : SphereMap) (S : IsSphereMap m) (k : ℕ) (v : MapVertex) (a : IsAt
   ahead j b l = map-ahead m S j (arc_item b) (at-arc (map_of m).arcs (map_of m).sloop j b l)
 
   all : (j : ℕ) (b : Arc) → IsAt (map_of m).arcs j b → j < length m.arcs
-  all j b l = let e = length-map m.arcs arc_of in let h = at-within (map_of m).arcs j b l in omega (arith, e)
+  all j b l = let e = length-map m.arcs arc_of in let h = is-at_within (map_of m).arcs j b l in omega (arith, e)
 
   abbrev pub IsNearSide : ℕ → Type 0
   IsNearSide r = (o : Side) × (l : Label) × IsSide (map_of m) r o l × BoundsSector (map_of m) k up o
@@ -78,7 +78,7 @@ module _ (m : SphereMap) where
       → r ≡ sign_of (triple (vector_of u.dir) (vector_of b.normal) n) → r ≡ sign_of (triple (dir_of (map_of m).svertices s) x.normal n)
   turn-read s i u b x n r f g h e =
       let w = dir-at (map_of m).svertices s (svertex_of u) (image-read svertex_of m.svertices s u f) in
-      let y = at-one (map_of m).arcs i (arc_of b) x (image-read arc_of m.arcs i b g) h in
+      let y = is-at_one (map_of m).arcs i (arc_of b) x (image-read arc_of m.arcs i b g) h in
       e ∙ ap (λ (v : Vector). sign_of (triple v (vector_of b.normal) n)) (sym w) ∙ ap (λ (z : Arc). sign_of (triple (dir_of (map_of m).svertices s) z.normal n)) y
 
 pub plus-turn : (z : ℤ) → Plus ≡ sign_of z → pos 0 <ℤ z

@@ -1,5 +1,5 @@
 -- A point that has a side has the side's label.
-use Rattle.nef_locate.proofs.Prelude.{◌≡◌, ℕ, arith, ap, sym, ◌∙◌, subst, ints, sign-plus, HasLabel, Germ, FlatDim, SpacePoint, SamePoint, toward, Set, SameDirection, dot, opposite, up, Label, point-toward, label_of, Germ-unique, Germ-same, IsAt, item_normal, item_pos, item_mark, item_neg, seen, Side, HasSide, by_side, at-one, bounds-sees, at-map, get-from_at, IsSmall, Vertex as PlainVertex, Spot, at_vertex, on_edge, in_facet, IsSpot, IsSkeletonPoint, IsAbove, HasVolumeSide, same-itself, from_opposite, opposites-same, facet-at, facet-of, spot-toward, free-way, free-flat, Complex, vertex_of, complex_of, ShowsSet, vector-same, dir-self, direction-left}
+use Rattle.nef_locate.proofs.Prelude.{◌≡◌, ℕ, arith, ap, sym, ◌∙◌, subst, ints, sign-plus, HasLabel, Germ, FlatDim, SpacePoint, SamePoint, toward, Set, SameDirection, dot, opposite, up, Label, point-toward, label_of, Germ-unique, Germ-same, IsAt, item_normal, item_pos, item_mark, item_neg, seen, Side, HasSide, by_side, is-at_one, bounds-sees, is-at_map, IsSmall, Vertex as PlainVertex, Spot, at_vertex, on_edge, in_facet, IsSpot, IsSkeletonPoint, IsAbove, HasVolumeSide, same-itself, from_opposite, opposites-same, facet-at, facet-of, spot-toward, free-way, free-flat, Complex, vertex_of, complex_of, ShowsSet, vector-same, dir-self, direction-left}
 use Rattle.nef_smap.proofs.Upward.{normal-ahead}
 use Rattle.nef_locate.proofs.Cones.{corner-labels}
 
@@ -11,19 +11,19 @@ module _ (s : Set) (c : Complex) (S : ShowsSet s c) where
   -- the maps of the vertices are those of the program, whose numbers are small
   small : (i : ℕ) (v : PlainVertex) → IsAt (complex_of c).vertices i v → IsSmall v.map
   small i v a =
-      let u = at-map vertex_of c.vertices i v a in
-      subst (λ (w : PlainVertex). IsSmall w.map) u.2 (S.maps i u.0 (get-from_at c.vertices i u.0 u.1)).sphere_map.small
+      let u = is-at_map vertex_of c.vertices i v a in
+      subst (λ (w : PlainVertex). IsSmall w.map) u.2 (S.maps i u.0 u.1).sphere_map.small
 
   module _ (i : ℕ) (o : Side) (l : Label) (v : PlainVertex) (a : IsAt (complex_of c).vertices i v) (has : HasSide v.map o l) where
     -- the label above the point where the ray ends
     above : (z : SpacePoint) (t : Spot) → IsSpot (complex_of c) t z → IsAbove (complex_of c) z t (record { vertex = i; side = o }) → Germ s z up l
     above z (at_vertex k) on (u, b, e, sees) =
-        let f = at-one (complex_of c).vertices k v u (subst (λ (j : ℕ). IsAt (complex_of c).vertices j v) e a) b in
+        let f = is-at_one (complex_of c).vertices k v u (subst (λ (j : ℕ). IsAt (complex_of c).vertices j v) e a) b in
         let h = subst (λ (w : PlainVertex). HasSide w.map o l) f has in
         spot-toward s (complex_of c) S.shows (facet-at s (complex_of c) S.shows) (facet-of s (complex_of c) S.shows) (at_vertex k) z on up l
         (u, b, seen (record { side = o; has = h; sees = sees }))
     above z (on_edge k) on (g, u, d, b, e, bounds) =
-        let f = at-one (complex_of c).vertices g.low v u (subst (λ (j : ℕ). IsAt (complex_of c).vertices j v) e a) b in
+        let f = is-at_one (complex_of c).vertices g.low v u (subst (λ (j : ℕ). IsAt (complex_of c).vertices j v) e a) b in
         let h = subst (λ (w : PlainVertex). HasSide w.map o l) f has in
         let near = bounds-sees u.map (S.shows.cones g.low u b).valid.shaped g.low_svertex up o bounds in
         spot-toward s (complex_of c) S.shows (facet-at s (complex_of c) S.shows) (facet-of s (complex_of c) S.shows) (on_edge k) z on up l

@@ -3,9 +3,7 @@ use Rattle.nef_locate.proofs.Prelude.{◌≡◌, ℕ, ◌+◌, ◌*◌, ◌≤�
 use Rattle.law_complex.specs.Spans.{IsJustAbove, IsCloseAbove}
 use Rattle.law_complex.proofs.Spans.{stays-close}
 use Rattle.nef_index.specs.declared.spans.Bounds.{Bounds}
-
-weight : (p : SpacePoint) → pos 0 <ℤ pos p.w
-weight p = let m = p.proper in omega (arith, ints)
+use Rattle.law_near.proofs.PointOrder.{weight}
 
 -- ---- of one point above another
 exchange : (a v w : ℤ) → a *ℤ v *ℤ w ≡ a *ℤ w *ℤ v

@@ -1,32 +1,26 @@
 -- What an operation gathers: its candidates, the right map at each, and its carriers.
-use Rattle.nef_ops.proofs.Prelude.{◌≡◌, Bool, ℕ, zero, suc, ◌<◌, List, [], ◌∷◌, map, length, get_or, slice_get, Some, ap, sym, subst, ◌∙◌, inl, inr, Contains, length-map, IsVertex, SpacePoint, Form, SamePoint, IsPointBelow, InClosedFrame, Set, form_of, point_of, Plane, Point, InOrder, Cone, IsAt, at-one, Op, And, Or, Diff, Xor, op_set, SphereMap, map_of, map-at, at-map, at-within, at-get, get-at, Carriers, SamePlane, Vertex, Complex, vertex_of, ShowsSet, IsVertexOfBoth, Named, IsListed, AreFramed, named_point, IsNamed, AreNamed, ListsNear, moved_if, IsOutcomeAt, AreOutcomesOf, UnaryOp, unary_set, IsRight, IsWorkedBy}
+use Rattle.nef_ops.proofs.Prelude.{◌≡◌, Bool, ℕ, zero, suc, ◌<◌, List, [], ◌∷◌, map, length, get_or, slice_get, Some, ap, sym, subst, ◌∙◌, inl, inr, Contains, length-map, IsVertex, SpacePoint, Form, SamePoint, IsPointBelow, InClosedFrame, Set, form_of, point_of, Plane, Point, InOrder, Cone, IsAt, is-at_one, Op, And, Or, Diff, Xor, op_set, SphereMap, map_of, map-is_at, is-at_map, is-at_within, is-at_is, is-at_get, Carriers, SamePlane, Vertex, Complex, vertex_of, ShowsSet, IsVertexOfBoth, Named, IsListed, AreFramed, named_point, IsNamed, AreNamed, ListsNear, moved_if, IsOutcomeAt, AreOutcomesOf, UnaryOp, unary_set, IsRight, IsWorkedBy}
 use Rattle.law_complex.specs.Complexes.{Vertex as PlainVertex, Complex as PlainComplex}
 use Rattle.nef_cand.specs.Points.{points_of}
 use Rattle.nef_result.specs.declared.outcome.Outcome.{Outcome}
 use Rattle.nef_ops.proofs.OneSet.{unary-carriers, unary-vertex}
-
--- ---- elements by their places
-pub at-got : {X : Type 0} (xs : List X) (k : ℕ) (x : X) → IsAt xs k x → slice_get xs k ≡ Some x
-at-got xs k x h = h
-
-pub at-listed : {X : Type 0} (xs : List X) (k : ℕ) (x : X) → IsAt xs k x → Contains xs x
-at-listed xs k x h = (k, at-within xs k x h, at-get xs k x x h)
+use Rattle.nef_smap.proofs.Lists.{at-contains}
 
 -- ---- a right outcome
 pub right-at : (s : Set) (us vs : List Vertex) (ps : List Point) (i : ℕ) (q : Point) (o : Outcome) → i < length ps → IsOutcomeAt us vs s (point_of (get_or ps i q)) o → IsRight s us vs ps i o
-right-at s us vs ps i q o l r p a = subst (λ (k : Point). IsOutcomeAt us vs s (point_of k) o) (at-one ps i (get_or ps i q) p (get-at ps i q l) a) r
+right-at s us vs ps i q o l r p a = subst (λ (k : Point). IsOutcomeAt us vs s (point_of k) o) (is-at_one ps i (get_or ps i q) p (is-at_get ps i q l) a) r
 
 pub right-named : (s : Set) (us vs : List Vertex) (ns : List Named) (i : ℕ) (n : Named) (o : Outcome) → i < length ns → IsOutcomeAt us vs s (point_of (get_or ns i n).point) o → IsRight s us vs (map named_point ns) i o
 right-named s us vs ns i n o l r p a =
-    let u = at-map named_point ns i p a in
-    subst (λ (k : Point). IsOutcomeAt us vs s (point_of k) o) (ap named_point (at-one ns i (get_or ns i n) u.0 (get-at ns i n l) u.1) ∙ u.2) r
+    let u = is-at_map named_point ns i p a in
+    subst (λ (k : Point). IsOutcomeAt us vs s (point_of k) o) (ap named_point (is-at_one ns i (get_or ns i n) u.0 (is-at_get ns i n l) u.1) ∙ u.2) r
 
 -- ---- a listed candidate
 pub named-framed : (ns : List Named) (i : ℕ) (n : Named) → i < length ns → AreFramed (map named_point ns) → InClosedFrame (point_of (get_or ns i n).point)
-named-framed ns i n l F = F (get_or ns i n).point (at-listed (map named_point ns) i (get_or ns i n).point (map-at named_point ns i (get_or ns i n) (get-at ns i n l)))
+named-framed ns i n l F = F (get_or ns i n).point (at-contains (map named_point ns) i (get_or ns i n).point (map-is_at named_point ns i (get_or ns i n) (is-at_get ns i n l)))
 
 pub named-at : (C D : PlainComplex) (ns : List Named) (i : ℕ) (n : Named) → i < length ns → AreNamed C D ns → IsNamed C D (get_or ns i n)
-named-at C D ns i n l N = N (get_or ns i n) (at-listed ns i (get_or ns i n) (get-at ns i n l))
+named-at C D ns i n l N = N (get_or ns i n) (at-contains ns i (get_or ns i n) (is-at_get ns i n l))
 
 -- ---- the results of all jobs
 pub worked-outcomes : (Right : ℕ → Outcome → Type 0) (us vs : List Vertex) (s : Set) (hs : List Plane) (ps : List Point) (os : List Outcome) → IsWorkedBy Right us vs s hs ps → length os ≡ length ps
@@ -35,7 +29,7 @@ worked-outcomes Right us vs s hs ps os W alike each = record {
   carriers = W.carriers;
   alike = alike;
   ordered = W.ordered;
-  right = λ k p o a h. W.right k o (each k o (at-got os k o h)) p a;
+  right = λ k p o a h. W.right k o (each k o h) p a;
   complete = W.complete;
 }
 
@@ -59,7 +53,7 @@ both-outcomes op a b hs ns ks js qs us vs os asked worked made L carried alike e
   carriers = carried s t op S T;
   alike = alike ∙ sym (length-map js named_point) ∙ ap length of-jobs;
   ordered = subst PointsAreInOrder same L.ordered;
-  right = λ k p o a h. each k o (at-got os k o h) s t S T p (subst (λ (rs : List Point). IsAt rs k p) (sym of-jobs) a);
+  right = λ k p o a h. each k o h s t S T p (subst (λ (rs : List Point). IsAt rs k p) (sym of-jobs) a);
   complete = λ y v. subst (λ (rs : List Point). IsListed rs y) same (L.complete s t y S T (vertex-of_both op s t y v));
 }
   where
@@ -93,23 +87,23 @@ half-worked f closed h whole hs vs ps S P same order complete carried = record {
 module _ (s : Set) (c : Complex) (S : ShowsSet s c) where
   pub points-ordered : InOrder (λ (p q : Point). IsPointBelow (point_of p) (point_of q)) (points_of c)
   points-ordered i k p q l a b =
-      let u = at-map (λ (v : Vertex). v.point) c.vertices i p a in
-      let w = at-map (λ (v : Vertex). v.point) c.vertices k q b in
+      let u = is-at_map (λ (v : Vertex). v.point) c.vertices i p a in
+      let w = is-at_map (λ (v : Vertex). v.point) c.vertices k q b in
       subst (λ (r : Point). IsPointBelow (point_of r) (point_of q)) u.2 (subst (λ (r : Point). IsPointBelow (point_of u.0.point) (point_of r)) w.2
-      (S.shows.ordered i k (vertex_of u.0) (vertex_of w.0) l (map-at vertex_of c.vertices i u.0 u.1) (map-at vertex_of c.vertices k w.0 w.1)))
+      (S.shows.ordered i k (vertex_of u.0) (vertex_of w.0) l (map-is_at vertex_of c.vertices i u.0 u.1) (map-is_at vertex_of c.vertices k w.0 w.1)))
 
   pub vertices-listed : (y : SpacePoint) → IsVertex s y → IsListed (points_of c) y
   vertices-listed y v =
       let f = S.shows.complete y v in
-      let u = at-map vertex_of c.vertices f.0 f.1 f.2 in
-      (u.0.point, at-listed (points_of c) f.0 u.0.point (map-at (λ (w : Vertex). w.point) c.vertices f.0 u.0 u.1), subst (λ (w : PlainVertex). SamePoint w.point y) (sym u.2) f.3)
+      let u = is-at_map vertex_of c.vertices f.0 f.1 f.2 in
+      (u.0.point, at-contains (points_of c) f.0 u.0.point (map-is_at (λ (w : Vertex). w.point) c.vertices f.0 u.0 u.1), subst (λ (w : PlainVertex). SamePoint w.point y) (sym u.2) f.3)
 
   -- what the map that the operation makes of that of a vertex says is right at its point
   pub vertex-right : (op : UnaryOp) (k : ℕ) (v : Vertex) (m : SphereMap) (o : Outcome) → IsAt c.vertices k v → ((p : SpacePoint) → Cone (map_of m) (unary_set op s) p → IsOutcomeAt [] [] (unary_set op s) p o)
       → (Cone (map_of v.map) s (point_of v.point) → Cone (map_of m) (unary_set op s) (point_of v.point)) → IsRight (unary_set op s) [] [] (points_of c) k o
   vertex-right op k v m o h of f p a =
-      subst (λ (r : Point). IsOutcomeAt [] [] (unary_set op s) (point_of r) o) (at-one (points_of c) k v.point p (map-at (λ (w : Vertex). w.point) c.vertices k v h) a)
-      (of (point_of v.point) (f (S.shows.cones k (vertex_of v) (map-at vertex_of c.vertices k v h))))
+      subst (λ (r : Point). IsOutcomeAt [] [] (unary_set op s) (point_of r) o) (is-at_one (points_of c) k v.point p (map-is_at (λ (w : Vertex). w.point) c.vertices k v h) a)
+      (of (point_of v.point) (f (S.shows.cones k (vertex_of v) (map-is_at vertex_of c.vertices k v h))))
 
 -- of an operation on one set
 pub one-worked : (op : UnaryOp) (a : Complex) (hs : List Plane) (vs ps : List Point) → ps ≡ vs → vs ≡ points_of a → hs ≡ a.carriers → (s : Set) → ShowsSet s a

@@ -1,5 +1,5 @@
 -- The candidates of a combination within the open frame are points of the one skeleton, or lie in a span that holds the other.
-use Rattle.nef_ops.proofs.Prelude.{ℕ, List, map, subst, ◌⊎◌, inl, inr, ⊎_elim, SpacePoint, Set, point_of, Point, IsAt, IsSkeletonPoint, at_vertex, on_edge, at-map, at-contains, complex_of, ShowsSet, Complex, Span, Named, First, Second, named_point, IsNameAt, AreNamed, HoldsSkeleton, AreHeldBySpan}
+use Rattle.nef_ops.proofs.Prelude.{ℕ, List, map, subst, ◌⊎◌, inl, inr, ⊎_elim, SpacePoint, Set, point_of, Point, IsAt, IsSkeletonPoint, at_vertex, on_edge, is-at_map, at-contains, complex_of, ShowsSet, Complex, Span, Named, First, Second, named_point, IsNameAt, AreNamed, HoldsSkeleton, AreHeldBySpan}
 use Rattle.law_complex.specs.Complexes.{Complex as PlainComplex}
 use Rattle.nef_cand.specs.declared.named.CandidateName.{CandidateName}
 use Rattle.nef_cand.specs.declared.named.CandidateName.TheVariants as name
@@ -16,7 +16,7 @@ named-skeleton C D y (name.Cut Second k a) h = inr (on_edge k, h.0)
 module _ (a b : Complex) (ns : List Named) (named : AreNamed (complex_of a) (complex_of b) ns) where
   point-skeleton : (k : ℕ) (p : Point) → IsAt (map named_point ns) k p → IsSkeletonPoint (complex_of a) (point_of p) ⊎ IsSkeletonPoint (complex_of b) (point_of p)
   point-skeleton k p at =
-      let n = at-map named_point ns k p at in
+      let n = is-at_map named_point ns k p at in
       subst (λ (q : Point). IsSkeletonPoint (complex_of a) (point_of q) ⊎ IsSkeletonPoint (complex_of b) (point_of q)) n.2
       (named-skeleton (complex_of a) (complex_of b) (point_of (n.0).point) (n.0).name (named n.0 (at-contains ns k n.0 n.1)))
 

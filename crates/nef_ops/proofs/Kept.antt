@@ -1,12 +1,11 @@
 -- A vertex of an operand that is one of the result, with its map or with that of the complement.
-use Rattle.nef_ops.proofs.Prelude.{◌≡◌, refl, sym, subst, ap, List, ℕ, Bool, true, false, IsVertex, Germ, SpacePoint, SamePoint, Set, Vector, Label, Out, Not, In, point_of, FlatDim-by_germs, germ-not, germ_of, Germ-unique, IsAt, Cone, complement, exchanged_map, topology-cone, IsVertexPoint, map_of, IsLeastMap, at-map, map-at, Vertex, Complex, vertex_of, complex_of, ShowsSet, Operand, First, Second, operand_of, cone-same, moved_if, of_operand, StandsAt, IsOutcomeAt, Op, op_set, One, Input, Share, Part, AreTold, IsAsIn, IsInput, movable, kept_outcome, IsOutcomeOf, either_of, complement_if, HasShare, IsRightChoice}
+use Rattle.nef_ops.proofs.Prelude.{◌≡◌, refl, sym, subst, ap, List, ℕ, Bool, true, false, IsVertex, Germ, SpacePoint, SamePoint, Set, Vector, Label, Out, Not, In, point_of, FlatDim-by_germs, germ-not, germ_of, Germ-unique, IsAt, Cone, complement, exchanged_map, topology-cone, IsVertexPoint, map_of, IsLeastMap, is-at_map, map-is_at, Vertex, Complex, vertex_of, complex_of, ShowsSet, Operand, First, Second, operand_of, cone-same, moved_if, of_operand, StandsAt, IsOutcomeAt, Op, op_set, One, Input, Share, Part, AreTold, IsAsIn, IsInput, movable, kept_outcome, IsOutcomeOf, either_of, complement_if, HasShare, IsRightChoice}
 use Rattle.law_near.specs.Cones.{label_not}
 use Rattle.law_sphere.proofs.border.ExchangedLabels.{exchanged-laws}
 use Rattle.law_complex.specs.Complexes.{Vertex as PlainVertex}
 use Rattle.nef_result.proofs.Vertices.{vertex-flat, flat-vertex, vertex-same}
 use Rattle.nef_ops.specs.declared.operations.UnaryOp.TheVariants as unary
 use Rattle.nef_ops.proofs.ByShare.{share-part, shown-one}
-use Rattle.nef_ops.proofs.Gathered.{at-got}
 use Rattle.nef_ops.proofs.OneSet.{unary-vertex}
 
 -- ---- the complement
@@ -29,13 +28,13 @@ module _ (s : Set) (p : SpacePoint) where
 -- ---- a vertex of an operand
 module _ (c : Complex) (k : ℕ) (y : SpacePoint) (r s : Set) (S : ShowsSet s c) (a : IsVertexPoint (complex_of c) k y) where
   here : (v : Vertex) × StandsAt c.vertices k v y
-  here = let u = at-map vertex_of c.vertices k a.0 a.1 in (u.0, (u.1, subst (λ (w : PlainVertex). SamePoint w.point y) (sym u.2) a.2))
+  here = let u = is-at_map vertex_of c.vertices k a.0 a.1 in (u.0, (u.1, subst (λ (w : PlainVertex). SamePoint w.point y) (sym u.2) a.2))
 
   least : IsLeastMap here.0.map
-  least = S.maps k here.0 (at-got c.vertices k here.0 here.1.0)
+  least = S.maps k here.0 here.1.0
 
   plain : IsAt (complex_of c).vertices k (vertex_of here.0)
-  plain = map-at vertex_of c.vertices k here.0 here.1.0
+  plain = map-is_at vertex_of c.vertices k here.0 here.1.0
 
   cone : Cone (map_of here.0.map) s y
   cone = cone-same (map_of here.0.map) s (point_of here.0.point) y here.1.1 (S.shows.cones k (vertex_of here.0) plain)

@@ -1,5 +1,5 @@
 -- Labels that a map doesn't have, from what its svertices and its items don't have.
-use Rattle.nef_ops.proofs.Prelude.{◌≡◌, ℕ, ◌+◌, ◌<◌, List, get_or, ap, ◌∙◌, subst, Some, SpacePoint, Set, Vector, Label, Not, In, SVertex, SphereMap, svertex_of, map_of, at-map, at-get, IsAt, Map, MapVertex, Item, items, around_svertex, pos_item, neg_item, whole, HasSide, MapLabel, at_svertex, on_item, seen, Cone, label-one, germ-label, Share, Nothing, Everything, LacksLabel, SvertexLacks, ItemLacks, InShare, HasShare}
+use Rattle.nef_ops.proofs.Prelude.{◌≡◌, ℕ, ◌+◌, ◌<◌, List, get_or, ap, ◌∙◌, subst, Some, SpacePoint, Set, Vector, Label, Not, In, SVertex, SphereMap, svertex_of, map_of, is-at_map, is-at_is, IsAt, Map, MapVertex, Item, items, around_svertex, pos_item, neg_item, whole, HasSide, MapLabel, at_svertex, on_item, seen, Cone, label-one, germ-label, Share, Nothing, Everything, LacksLabel, SvertexLacks, ItemLacks, InShare, HasShare}
 use borrow.Author.Count.{below_more}
 use Rattle.law_sphere.specs.Maps.{Side}
 
@@ -7,7 +7,7 @@ use Rattle.law_sphere.specs.Maps.{Side}
 pub all-more : {A : Type 0} (P : A → Type 0) (xs : List A) (i : ℕ) (x : A) → x ≡ get_or xs i x → P x
     → ((k : ℕ) (y : A) → k < i → IsAt xs k y → P y) → (k : ℕ) (y : A) → k < i + 1 → IsAt xs k y → P y
 all-more {A} P xs i x is here before k y l h =
-    below_more (λ (n : ℕ). (z : A) → IsAt xs n z → P z) i (λ n m z. before n z m) (λ z a. subst P (is ∙ at-get xs i z x a) here) k l y h
+    below_more (λ (n : ℕ). (z : A) → IsAt xs n z → P z) i (λ n m z. before n z m) (λ z a. subst P (is ∙ is-at_is xs i z x a) here) k l y h
 
 -- ---- a map
 module _ (l : Label) (m : SphereMap)
@@ -15,7 +15,7 @@ module _ (l : Label) (m : SphereMap)
     (I : (k : ℕ) (x : Item) → IsAt (items (map_of m)) k x → ItemLacks l x) where
   svertex-lacks : (k : ℕ) (v : MapVertex) → IsAt (map_of m).svertices k v → (v.mark ≡ l → ⊥) × (v.around ≡ Some l → ⊥)
   svertex-lacks k v h =
-      let u = at-map svertex_of m.svertices k v h in
+      let u = is-at_map svertex_of m.svertices k v h in
       let L = V k u.0 u.1 in
       (λ e. L.mark (ap (λ (r : MapVertex). r.mark) u.2 ∙ e), λ e. L.around (ap (λ (r : MapVertex). r.around) u.2 ∙ e))
 

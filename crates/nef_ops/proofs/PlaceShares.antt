@@ -1,5 +1,5 @@
 -- What a set has of the frame close to a vertex, and to the points of an edge, of a facet and of a volume.
-use Rattle.nef_ops.proofs.Prelude.{◌≡◌, ℕ, Some, arith, refl, slice_get, subst, Sign, minus, nought, plus, sign, HasLabel, Germ, FlatDim, SpacePoint, IsBetween, Set, Vector, zero_vector, blend, dot, Label, Not, In, flat-germ, span-3, label-one, Germ-unique, Germ-zero, Cone, by_side, IsAt, Item, item_normal, item_pos, item_mark, item_neg, dir_of, label-direction, at-one, Edge, Corner, HasEnds, IsCorner, Shows, HasCorner, label-germ, edge-points, map_of, vertex_of, complex_of, ShowsSet, Complex as ShownComplex, Vertex as ShownVertex, IsPlaceAt, corner-labels, cone-same, image-read, Share, Nothing, Everything, InShare, HasShare, ItemLacks}
+use Rattle.nef_ops.proofs.Prelude.{◌≡◌, ℕ, Some, arith, refl, slice_get, subst, Sign, minus, nought, plus, sign, HasLabel, Germ, FlatDim, SpacePoint, IsBetween, Set, Vector, zero_vector, blend, dot, Label, Not, In, flat-germ, span-3, label-one, Germ-unique, Germ-zero, Cone, by_side, IsAt, Item, item_normal, item_pos, item_mark, item_neg, dir_of, label-direction, is-at_one, Edge, Corner, HasEnds, IsCorner, Shows, HasCorner, label-germ, edge-points, map_of, vertex_of, complex_of, ShowsSet, Complex as ShownComplex, Vertex as ShownVertex, IsPlaceAt, corner-labels, cone-same, image-read, Share, Nothing, Everything, InShare, HasShare, ItemLacks}
 use Rattle.law_complex.specs.Complexes.{Vertex, Complex}
 use Rattle.nef_locate.specs.declared.point.Place.TheVariants as place
 
@@ -7,7 +7,7 @@ use Rattle.nef_locate.specs.declared.point.Place.TheVariants as place
 pub vertex-share : (c : ShownComplex) (k : ℕ) (u : ShownVertex) (f : Share) → slice_get c.vertices k ≡ Some u → ((s : Set) (p : SpacePoint) → Cone (map_of u.map) s p → HasShare f s p)
     → (s : Set) (y : SpacePoint) → ShowsSet s c → IsPlaceAt (complex_of c) y (place.Vertex k) → HasShare f s y
 vertex-share c k u f here by s y S p =
-    let e = at-one (complex_of c).vertices k p.0 (vertex_of u) p.1 (image-read vertex_of c.vertices k u here) in
+    let e = is-at_one (complex_of c).vertices k p.0 (vertex_of u) p.1 (image-read vertex_of c.vertices k u here) in
     let K = subst (λ (v : Vertex). Cone v.map s p.0.point) e (S.shows.cones k p.0 p.1) in
     by s y (cone-same (map_of u.map) s p.0.point y p.2 K)
 

@@ -2,6 +2,7 @@
 use Rattle.nef_plan.proofs.Prelude.{◌≡◌, ◌∙◌, ◌⊎◌, ⊎_elim, ℕ, zero, suc, ◌<◌, ◌≤◌, refl, ap, sym, subst, arith, List, [], ◌∷◌, ◌++◌, length, Some, inl, inr, length-append, append-nil, append_assoc, Set, turned_set, Node, node_set, set_of, sets_after, NamesBelow, names-wider, slice_get-left, slice_get-seam, place-push, earlier-sets_stay, new-set, set_of-same, Command, SpeaksOfFirst, Draft, Make, Turn, Ask, Drafts, AreAlike, IsNodeReady, HasGrown, AreDrafts, HasMore, IsMade, IsMadeAs, IsRightDraft, MayFollow, Makes, asked}
 use Rattle.nef_script.specs.declared.script.Command.TheVariants as command
 use Rattle.nef_plan.proofs.Alike.{alike-refl}
+use Rattle.nef_script.proofs.Looking.{within-more}
 
 -- ---- nodes
 pub more-same : (old new : List Node) → new ≡ old → HasMore old new
@@ -20,16 +21,6 @@ set-more old new m h below = set_of-same (length old) (sets_after [] new) (sets_
 pub alike-along : (s s' t t' : Set) → s' ≡ s → t' ≡ t → AreAlike s t → AreAlike s' t'
 alike-along s s' t t' e f h = subst (λ (z : Set). AreAlike z t') (sym e) (subst (AreAlike s) (sym f) h)
 
-pub within-wider : (m n : ℕ) (c : Command) → m ≤ n → SpeaksOfFirst m c → SpeaksOfFirst n c
-within-wider m n (command.Bind line k) l h = omega (arith, l, h)
-within-wider m n (command.Turn line k j t) l h = (omega (arith, l, h.0), omega (arith, l, h.1), h.2)
-within-wider m n (command.Has line k p) l h = omega (arith, l, h)
-within-wider m n (command.Joined line k p q) l h = omega (arith, l, h)
-within-wider m n (command.Ray line k p d) l h = (omega (arith, l, h.0), h.1)
-within-wider m n (command.Same line i j) l h = (omega (arith, l, h.0), omega (arith, l, h.1))
-within-wider m n (command.Count line k) l h = omega (arith, l, h)
-within-wider m n (command.Print line k name) l h = omega (arith, l, h)
-
 pub right-more : (old new : List Node) (s : Draft) → HasMore old new → IsRightDraft old s → IsRightDraft new s
 right-more old new (Make n m) h r = record {
   within = omega (arith, r.within, h.as_many);
@@ -42,7 +33,7 @@ right-more old new (Turn n j t) h r = record {
   turn = r.turn;
   set = h.sets n r.within ∙ r.set ∙ ap (turned_set t) (sym (h.sets j r.operand));
 }
-right-more old new (Ask c) h r = (r.0, within-wider (length old) (length new) c.now h.as_many r.1)
+right-more old new (Ask c) h r = (r.0, within-more (length old) (length new) c.now h.as_many r.1)
 
 -- the node whose set a step makes is there, and the step asks nothing
 pub makes-within : (nodes : List Node) (s : Draft) (k : ℕ) → IsRightDraft nodes s → Makes s k → k < length nodes

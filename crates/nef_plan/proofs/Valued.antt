@@ -5,6 +5,7 @@ use Rattle.nef_expr.specs.declared.nodes.Node.TheVariants as node
 use Rattle.nef_script.specs.declared.script.Command.TheVariants as command
 use Rattle.nef_plan.specs.declared.planner.Draft.TheVariants as draft
 use Rattle.nef_plan.proofs.Alike.{alike-refl, both-alike, border-alike, closed-alike, either-alike, inside-alike, less-alike, one_of-alike, other-alike, regular-alike}
+use Rattle.nef_expr.proofs.Sets.{operand-append, operand-last}
 
 -- ---- values
 values-append : (ss : List Set) (front rest : List Step) → values_after ss (front ++ rest) ≡ values_after (values_after ss front) rest
@@ -15,16 +16,10 @@ values-length : (ss : List Set) (steps : List Step) → length (values_after ss 
 values-length ss [] = omega arith
 values-length ss (s ∷ steps) = let h = values-length (ss ++ task_set ss s.task ∷ []) steps in omega (arith, length-append {A = Set})
 
-operand-left : (ss ts : List Set) (k : ℕ) → k < length ss → operand (ss ++ ts) k ≡ operand ss k
-operand-left ss ts k below = get_or-append ss ts Set.empty k below
-
-operand-last : (ss : List Set) (s : Set) → operand (ss ++ s ∷ []) (length ss) ≡ s
-operand-last ss s = get_or-append_seam ss s [] Set.empty
-
 values-stay : (ss : List Set) (steps : List Step) (k : ℕ) → k < length ss → operand (values_after ss steps) k ≡ operand ss k
 values-stay ss [] k below = refl
 values-stay ss (s ∷ steps) k below =
-    values-stay (ss ++ task_set ss s.task ∷ []) steps k (omega (arith, below, length-append {A = Set})) ∙ operand-left ss (task_set ss s.task ∷ []) k below
+    values-stay (ss ++ task_set ss s.task ∷ []) steps k (omega (arith, below, length-append {A = Set})) ∙ operand-append ss (task_set ss s.task ∷ []) k below
 
 -- an earlier value is that of the steps before
 pub value-before : (front rest : List Step) (k : ℕ) → k < length front → value_set (front ++ rest) k ≡ operand (values_after [] front) k

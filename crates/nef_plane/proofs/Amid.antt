@@ -1,16 +1,17 @@
 -- A point is strictly between the ends of an edge, or is a vertex, exactly where all carriers see it so.
-use Rattle.nef_plane.proofs.Prelude.{◌≡◌, ℕ, ◌<◌, ℤ, pos, ◌+ℤ◌, ◌-ℤ◌, ◌*ℤ◌, ◌<ℤ◌, arith, ap, sym, ◌∙◌, ⊎_elim, subst, List, [], ◌∷◌, ints, ring, at, num, ◌⊕◌, ◌⊖◌, ◌⊗◌, mul_pos, mul_neg, by_order, nought-or, SpacePoint, Form, form_at, slope, normal_of, toward, SamePoint, IsBetween, Set, opposite, dot, cross, IsZero, IsDirection, SameDirection, form_of, point_of, sign_of, Plane, Minus, Zero, Plus, sign_of-positive, sign_of-negative, zero_sign, of_point, toward-point, slope-toward, form-sum, mixed-of, between-turned, IsAt, map-at, HasEnds, Shows, IsVertexPoint, IsEdgePoint, same-by, same-by-minus, cross-back, aligned, ahead-back, plane-way, Vertex, Edge, Complex, vertex_of, edge_of, complex_of, vertex-same, listed_edge, ends, apart, edge-inside, times-nought, times-pos, times-neg, SidesWith, IsAmid, AllSideWith, AreAmid, AllHold, zero-decided, vector-same, cross-turned, SameDirection-turned, SameDirection-trans}
+use Rattle.nef_plane.proofs.Prelude.{◌≡◌, ℕ, ◌<◌, ℤ, pos, ◌+ℤ◌, ◌-ℤ◌, ◌*ℤ◌, ◌<ℤ◌, arith, ap, sym, ◌∙◌, ⊎_elim, subst, List, [], ◌∷◌, ints, ring, at, num, ◌⊕◌, ◌⊖◌, ◌⊗◌, mul_pos, mul_neg, by_order, nought-or, SpacePoint, Form, form_at, slope, normal_of, toward, SamePoint, IsBetween, Set, opposite, dot, cross, IsZero, IsDirection, SameDirection, form_of, point_of, sign_of, Plane, Minus, Zero, Plus, sign_of-positive, sign_of-negative, zero_sign, of_point, toward-point, slope-toward, form-sum, mixed-of, between-turned, IsAt, map-is_at, HasEnds, Shows, IsVertexPoint, IsEdgePoint, same-by, same-by-minus, cross-back, aligned, ahead-back, plane-way, Vertex, Edge, Complex, vertex_of, edge_of, complex_of, vertex-same, listed_edge, ends, apart, edge-inside, times-nought, plus-of, minus-of, SidesWith, IsAmid, AllSideWith, AreAmid, AllHold, zero-decided, vector-same, cross-turned, SameDirection-turned, SameDirection-trans}
 use Rattle.law_complex.specs.Complexes.{Vertex as PlainVertex}
 use Rattle.nef_plane.proofs.Crossed.{vertex-crossed, edge-along}
 use Rattle.nef_plane.proofs.Meeting.{level-same}
+use Rattle.law_near.proofs.PointOrder.{weight}
 
 -- ---- signs
 -- a positive multiple has the sign
 multiple-sign : (k l y b : ℤ) → pos 0 <ℤ k → pos 0 <ℤ l → k *ℤ y ≡ l *ℤ b → sign_of y ≡ sign_of b
 multiple-sign k l y b i j e = by_order b (pos 0)
-    (λ m. let u = mul_neg l b j m in sign_of-negative y (times-neg k y i (omega (arith, ints))) ∙ sym (sign_of-negative b m))
+    (λ m. let u = mul_neg l b j m in sign_of-negative y (minus-of k y i (omega (arith, ints))) ∙ sym (sign_of-negative b m))
     (λ o. ap sign_of (times-nought k y i (e ∙ ap (λ r. l *ℤ r) o ∙ ring (l ∷ []) (at 0 ⊗ num (pos 0)) (num (pos 0)) tt) ∙ sym o))
-    (λ m. let u = mul_pos l b j m in sign_of-positive y (times-pos k y i (omega (arith, ints))) ∙ sym (sign_of-positive b m))
+    (λ m. let u = mul_pos l b j m in sign_of-positive y (plus-of k y i (omega (arith, ints))) ∙ sym (sign_of-positive b m))
 
 negative-if : (y b : ℤ) → sign_of y ≡ sign_of b → b <ℤ pos 0 → y <ℤ pos 0
 negative-if y b e m = by_order y (pos 0) (λ l. l)
@@ -39,9 +40,6 @@ below-not z m n = omega (arith, ints)
 
 nought-not : (z : ℤ) → z ≡ pos 0 → pos 0 <ℤ z → ⊥
 nought-not z m n = omega (arith, ints)
-
-weight : (r : SpacePoint) → pos 0 <ℤ pos r.w
-weight r = let m = r.proper in omega (arith, ints)
 
 -- ---- one plane
 -- what lies strictly between two points is on the side of the second, where the plane holds the first
@@ -104,7 +102,7 @@ module _ (s : Set) (c : Complex) (S : Shows s (complex_of c)) where
   )
     where
       listed : IsAt (complex_of c).vertices k (vertex_of v)
-      listed = map-at vertex_of c.vertices k v a
+      listed = map-is_at vertex_of c.vertices k v a
 
   pub amid-vertex : (k : ℕ) (v : Vertex) (y : SpacePoint) → IsAt c.vertices k v → IsVertexPoint (complex_of c) k y → AreAmid c.carriers (point_of v.point) (point_of v.point) y
   amid-vertex k v y a x i g m = same-amid (form_of g) (point_of v.point) y (vertex-same c k v a y x)

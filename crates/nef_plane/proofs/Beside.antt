@@ -1,5 +1,5 @@
 -- An edge along the ray has an end between the ray's start and each of its points ahead.
-use Rattle.nef_plane.proofs.Prelude.{◌≡◌, ℕ, ℤ, pos, neg_ℤ, ◌-ℤ◌, ◌*ℤ◌, ◌<ℤ◌, arith, sym, ap, ◌∙◌, ◌⊎◌, inl, inr, ⊎_elim, subst, refl, [], ◌∷◌, ints, ring, at, num, neg, ◌⊕◌, ◌⊖◌, ◌⊗◌, by_order, SpacePoint, Form, toward, SamePoint, IsAhead, IsBetween, Set, Vector, opposite, dot, cross, IsZero, IsDirection, SameDirection, IsOpposite, between-same, toward-point, between-inner, between-turned, same-point_sym, IsAt, at-one, HasEnds, IsEdge, Shows, meets_edge, IsVertexPoint, cross-back, ahead-back, between-way, between-ends, same-itself, HoldsBoth, on_line, HasNoSvertex, IsOffEdges, AtEdgeNumber, dot-comm, zero-decided, vector-same, cross-turned, nought-if, SameDirection-turned, SameDirection-trans}
+use Rattle.nef_plane.proofs.Prelude.{◌≡◌, ℕ, ℤ, pos, neg_ℤ, ◌-ℤ◌, ◌*ℤ◌, ◌<ℤ◌, arith, sym, ap, ◌∙◌, ◌⊎◌, inl, inr, ⊎_elim, subst, refl, [], ◌∷◌, ints, ring, at, num, neg, ◌⊕◌, ◌⊖◌, ◌⊗◌, by_order, SpacePoint, Form, toward, SamePoint, IsAhead, IsBetween, Set, Vector, opposite, dot, cross, IsZero, IsDirection, SameDirection, IsOpposite, between-same, toward-point, between-inner, between-turned, same-point_sym, IsAt, is-at_one, HasEnds, IsEdge, Shows, meets_edge, IsVertexPoint, cross-back, ahead-back, between-way, between-ends, same-itself, HoldsBoth, on_line, HasNoSvertex, IsOffEdges, AtEdgeNumber, dot-comm, zero-decided, vector-same, cross-turned, nought-if, SameDirection-turned, SameDirection-trans}
 use Rattle.law_complex.specs.Complexes.{Vertex, Edge, Complex}
 
 -- ---- turned ways
@@ -49,10 +49,10 @@ module _ (C : Complex) (h : Form) (p : SpacePoint) (d : Vector) (some : IsDirect
     E = S.edges.edges k e a
 
     low-is : E.low_vertex ≡ v
-    low-is = at-one C.vertices e.low E.low_vertex v E.is_low H.low
+    low-is = is-at_one C.vertices e.low E.low_vertex v E.is_low H.low
 
     high-is : E.high_vertex ≡ w
-    high-is = at-one C.vertices e.high E.high_vertex w E.is_high H.high
+    high-is = is-at_one C.vertices e.high E.high_vertex w E.is_high H.high
 
     never-inside : IsBetween v.point p w.point → ⊥
     never-inside m = ⊎_elim

@@ -1,5 +1,5 @@
 -- Not all carriers that hold a vertex are along one direction, and those that hold an edge only where the edge is; some carrier holds it.
-use Rattle.nef_plane.proofs.Prelude.{◌≡◌, ℕ, pos, sym, ◌∙◌, subst, Lies, nought-is, Flat, SpacePoint, Form, form_at, slope, normal_of, toward, IsBetween, Set, Vector, cross, IsZero, IsDirection, form_of, Plane, carriers, EdgeSupport, start, start-between, edge-support, IsAt, at-map, HasEnds, Shows, SamePlane, edge-points, plane-turned, plane-point, plane-slope, Complex, complex_of, HoldsBoth, through-both, along-cross, AllHold, dot-comm, cross-turned, parallel-both, triple-in_plane}
+use Rattle.nef_plane.proofs.Prelude.{◌≡◌, ℕ, pos, sym, ◌∙◌, subst, Lies, nought-is, Flat, SpacePoint, Form, form_at, slope, normal_of, toward, IsBetween, Set, Vector, cross, IsZero, IsDirection, form_of, Plane, carriers, EdgeSupport, start, start-between, edge-support, IsAt, is-at_map, HasEnds, Shows, SamePlane, edge-points, plane-turned, plane-point, plane-slope, Complex, complex_of, HoldsBoth, through-both, along-cross, AllHold, dot-comm, cross-turned, parallel-both, triple-in_plane}
 use Rattle.law_near.proofs.Meets.{vertex-meets}
 use Rattle.law_complex.specs.Complexes.{Vertex, Edge}
 use Rattle.law_complex.proofs.Edges.{edge-way}
@@ -8,7 +8,7 @@ use Rattle.law_complex.proofs.Edges.{edge-way}
 carrier-of : (s : Set) (c : Complex) → Shows s (complex_of c) → (f : Form) → Lies (carriers s) f → (i : ℕ) × (g : Plane) × IsAt c.carriers i g × SamePlane (form_of g) f
 carrier-of s c S f l =
     let r = S.carriers.all f l in
-    let g = at-map form_of c.carriers r.0 r.1 r.2 in
+    let g = is-at_map form_of c.carriers r.0 r.1 r.2 in
     (r.0, g.0, g.1, subst (λ (k : Form). SamePlane k f) (sym g.2) r.3)
 
 module _ (s : Set) (c : Complex) (S : Shows s (complex_of c)) (d : Vector) where

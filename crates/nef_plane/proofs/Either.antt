@@ -1,5 +1,5 @@
 -- What holds of vertices and of edges, said of either by its ends.
-use Rattle.nef_plane.proofs.Prelude.{◌≡◌, ℕ, List, sym, refl, subst, IsAt, Form, Set, point_of, Plane, Shows, is-at_one, is-at_some, Vertex, Edge, Complex, PlaneMeet, AtVertex, AtEdge, complex_of, AreHolders, HoldsBoth, low-within, high-within, got-at, HasMeet, MeetLiesIn, AreEnds, HasEndsAt}
+use Rattle.nef_plane.proofs.Prelude.{◌≡◌, ℕ, List, sym, refl, subst, IsAt, Form, Set, point_of, Plane, Shows, is-at_one, is-at_some, Vertex, Edge, Complex, PlaneMeet, AtVertex, AtEdge, complex_of, AreHolders, HoldsBoth, low-within, high-within, HasMeet, MeetLiesIn, AreEnds, HasEndsAt}
 use Rattle.nef_plane.proofs.Listed.{held-vertex, held-edge}
 
 module _ (c : Complex) where
@@ -29,7 +29,7 @@ module _ (c : Complex) where
     has-ends (AtVertex k) l = let v = is-at_some c.vertices k l in (v.0, v.0, (k, k, (refl, refl), v.1, v.1))
     has-ends (AtEdge k) l =
         let e = is-at_some c.edges k l in
-        let a = got-at c.edges k e.0 e.1 in
+        let a = e.1 in
         let u = is-at_some c.vertices e.0.low (low-within s c S k e.0 a) in
         let v = is-at_some c.vertices e.0.high (high-within s c S k e.0 a) in
         (u.0, v.0, (e.0.low, e.0.high, (e.0, e.1, refl, refl), u.1, v.1))

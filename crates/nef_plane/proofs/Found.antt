@@ -1,5 +1,5 @@
 -- What a ray meets at a vertex, inside an edge, and first of all.
-use Rattle.nef_plane.proofs.Prelude.{◌≡◌, ℕ, ◌<◌, length, refl, sym, ⊎_elim, ◌⊎◌, inl, inr, subst, pos, SpacePoint, Form, form_at, slope, normal_of, toward, SamePoint, IsAhead, IsBetween, Set, Vector, cross, IsZero, IsDirection, point_of, point-toward, between-inner, same-point_sym, IsAt, at-one, map-at, at-map, at-within, HasEnds, Shows, meets_vertex, meets_edge, Meets, IsFirstInPlane, plane-way, same-itself, same-point_trans, Vertex, Edge, Complex, vertex_of, edge_of, complex_of, HoldsBoth, vertex-same, listed_edge, ends, apart, of-ends, one-crossing, held-between, Encounter, FromVertex, HasNoSvertex, IsOffEdges, AllHold, AtVertexNumber, AtEdgeNumber, AtVertexOrEdge, IsReachedEncounter, IsNearestMet, in-span, direction-right}
+use Rattle.nef_plane.proofs.Prelude.{◌≡◌, ℕ, ◌<◌, length, refl, sym, ⊎_elim, ◌⊎◌, inl, inr, subst, pos, SpacePoint, Form, form_at, slope, normal_of, toward, SamePoint, IsAhead, IsBetween, Set, Vector, cross, IsZero, IsDirection, point_of, point-toward, between-inner, same-point_sym, IsAt, is-at_one, map-is_at, is-at_map, is-at_within, HasEnds, Shows, meets_vertex, meets_edge, Meets, IsFirstInPlane, plane-way, same-itself, same-point_trans, Vertex, Edge, Complex, vertex_of, edge_of, complex_of, HoldsBoth, vertex-same, listed_edge, ends, apart, of-ends, one-crossing, held-between, Encounter, FromVertex, HasNoSvertex, IsOffEdges, AllHold, AtVertexNumber, AtEdgeNumber, AtVertexOrEdge, IsReachedEncounter, IsNearestMet, in-span, direction-right}
 use Rattle.law_complex.specs.Complexes.{Vertex as PlainVertex, Edge as PlainEdge}
 use Rattle.law_complex.specs.Skeleton.{PlaneMeet as PlainMeet}
 use Rattle.nef_plane.proofs.Beside.{edge-or_end}
@@ -14,7 +14,7 @@ pub both-same : (a b q : SpacePoint) → SamePoint a q → SamePoint b q → Sam
 both-same a b q i j = same-point_trans a q b i (same-point_sym b q j)
 
 pub from-vertex : (c : Complex) (k : ℕ) (v : Vertex) → IsAt c.vertices k v → (P : SpacePoint → Type 0) → P (point_of v.point) → FromVertex (complex_of c) k P
-from-vertex c k v a P h x l = subst (λ (r : PlainVertex). P r.point) (at-one (complex_of c).vertices k (vertex_of v) x (map-at vertex_of c.vertices k v a) l) h
+from-vertex c k v a P h x l = subst (λ (r : PlainVertex). P r.point) (is-at_one (complex_of c).vertices k (vertex_of v) x (map-is_at vertex_of c.vertices k v a) l) h
 
 -- ---- a vertex
 module _ (s : Set) (c : Complex) (S : Shows s (complex_of c)) (p : SpacePoint) (d : Vector) (some : IsDirection d) (k : ℕ) (v : Vertex) (a : IsAt c.vertices k v) where
@@ -22,7 +22,7 @@ module _ (s : Set) (c : Complex) (S : Shows s (complex_of c)) (p : SpacePoint) (
   y = point_of v.point
 
   listed : IsAt (complex_of c).vertices k (vertex_of v)
-  listed = map-at vertex_of c.vertices k v a
+  listed = map-is_at vertex_of c.vertices k v a
 
   -- the ray doesn't meet it, where all planes that hold it would be along the ray
   pub vertex-none : ((q : SpacePoint) → IsAhead p d q → SamePoint y q → AllHold c.carriers d y y) → (m : PlainMeet) (q : SpacePoint) → IsAhead p d q → AtVertexNumber (complex_of c) k m q → ⊥
@@ -86,9 +86,9 @@ module _ (s : Set) (c : Complex) (S : Shows s (complex_of c)) (h : Form) (p : Sp
   met-as : (m : PlainMeet) (q : SpacePoint) → IsAhead p d q → Meets (complex_of c) h m q → MeetsAny c h d m q ⊎ Sooner q
   met-as (meets_vertex k) q w x = inl (inl (k, (refl, x)))
   met-as (meets_edge k) q w ((e, v, x, a, H, b), (f, t, z, l, K, i, j)) =
-      let eq = at-one (complex_of c).edges k f e l a in
-      let first = at-one (complex_of c).vertices e.low t v (subst (λ (r : PlainEdge). IsAt (complex_of c).vertices r.low t) eq K.low) H.low in
-      let second = at-one (complex_of c).vertices e.high z x (subst (λ (r : PlainEdge). IsAt (complex_of c).vertices r.high z) eq K.high) H.high in
+      let eq = is-at_one (complex_of c).edges k f e l a in
+      let first = is-at_one (complex_of c).vertices e.low t v (subst (λ (r : PlainEdge). IsAt (complex_of c).vertices r.low t) eq K.low) H.low in
+      let second = is-at_one (complex_of c).vertices e.high z x (subst (λ (r : PlainEdge). IsAt (complex_of c).vertices r.high z) eq K.high) H.high in
       let n : form_at h v.point ≡ pos 0 = subst (λ (r : PlainVertex). form_at h r.point ≡ pos 0) first i in
       let o : form_at h x.point ≡ pos 0 = subst (λ (r : PlainVertex). form_at h r.point ≡ pos 0) second j in
       ⊎_elim (λ r. inl (inr (k, r))) (λ r. inr r) (edge-or_end (complex_of c) h p d some no_svertex s S off k e v x q a H b (n, o) w)
@@ -112,4 +112,4 @@ module _ (s : Set) (c : Complex) (S : Shows s (complex_of c)) (h : Form) (p : Sp
 
 -- ---- numbers of what is met
 pub vertex-within : (c : Complex) (k : ℕ) (m : PlainMeet) (q : SpacePoint) → AtVertexNumber (complex_of c) k m q → k < length c.vertices
-vertex-within c k m q (e, (x, l, o)) = let v = at-map vertex_of c.vertices k x l in at-within c.vertices k v.0 v.1
+vertex-within c k m q (e, (x, l, o)) = let v = is-at_map vertex_of c.vertices k x l in is-at_within c.vertices k v.0 v.1

@@ -1,5 +1,5 @@
 -- The vertices of a plane beside a line along its axis, and what the line doesn't meet of the plane.
-use Rattle.nef_plane.proofs.Prelude.{◌≡◌, ℕ, zero, suc, ◌+◌, ◌<◌, ◌≤◌, length, ℤ, pos, negsuc, Bool, true, false, ◌↔◌, IsTrue, List, arith, inl, inr, ⊎_elim, refl, subst, eq-or-lt_of_le, cases_lt, ints, by_order, IsAt, SpacePoint, Form, form_at, IsAhead, IsBetween, Set, Vector, form_of, point_of, sign_of, Plane, Minus, Zero, Plus, between-turned, same-point_sym, at-one, Shows, between-level, between-level_minus, is-at_one, is-at_within, Vertex, Edge, Complex, PlaneMeet, edge_of, complex_of, LiesOn, EdgeLiesIn, AreNumbersWith, got-at, map-at, IsBeforePlane, AreShortBelow, AreFarFrom, IsExcluding, IsLevel, IsUnparted, IsSwept, MeetLiesIn, AreEnds, IsParallelToAxis, AtVertexNumber, AtEdgeNumber, AtMeet, sweep_form, IsMissed}
+use Rattle.nef_plane.proofs.Prelude.{◌≡◌, ℕ, zero, suc, ◌+◌, ◌<◌, ◌≤◌, length, ℤ, pos, negsuc, Bool, true, false, ◌↔◌, IsTrue, List, arith, inl, inr, ⊎_elim, refl, subst, eq-or-lt_of_le, cases_lt, ints, by_order, IsAt, SpacePoint, Form, form_at, IsAhead, IsBetween, Set, Vector, form_of, point_of, sign_of, Plane, Minus, Zero, Plus, between-turned, same-point_sym, Shows, between-level, between-level_minus, is-at_one, is-at_within, Vertex, Edge, Complex, PlaneMeet, edge_of, complex_of, LiesOn, EdgeLiesIn, AreNumbersWith, map-is_at, IsBeforePlane, AreShortBelow, AreFarFrom, IsExcluding, IsLevel, IsUnparted, IsSwept, MeetLiesIn, AreEnds, IsParallelToAxis, AtVertexNumber, AtEdgeNumber, AtMeet, sweep_form, IsMissed}
 use Rattle.nef_plane.specs.declared.course.Course.{Course}
 use Rattle.nef_plane.proofs.Axes.{axis-level, axis-some}
 use Rattle.nef_plane.proofs.Either.{by-numbers}
@@ -40,10 +40,10 @@ module _ (s : Set) (c : Complex) (S : Shows s (complex_of c)) (h : Plane) (k : F
   earlier-short : (t : Bool) (i j : ℕ) (u v : Vertex) → IsAt c.vertices i u → IsAt c.vertices j v → form_at (form_of h) (point_of u.point) ≡ pos 0 → form_at (form_of h) (point_of v.point) ≡ pos 0 → i ≤ j
       → IsBeforePlane t (form_at k (point_of v.point)) → IsBeforePlane t (form_at k (point_of u.point))
   earlier-short true i j u v a e o r l m = by_order (form_at k (point_of u.point)) (pos 0) (λ x. omega (arith, ints)) (λ x. omega (arith, ints))
-      (λ x. absurd (let y = later-past s c S h k K i j u v (got-at c.vertices i u a) (got-at c.vertices j v e) o r l x in omega (arith, ints)))
+      (λ x. absurd (let y = later-past s c S h k K i j u v a e o r l x in omega (arith, ints)))
   earlier-short false i j u v a e o r l m = by_order (form_at k (point_of u.point)) (pos 0) (λ x. x)
-      (λ x. absurd (let y = later-from s c S h k K i j u v (got-at c.vertices i u a) (got-at c.vertices j v e) o r l (omega (arith, ints)) in omega (arith, ints)))
-      (λ x. absurd (let y = later-from s c S h k K i j u v (got-at c.vertices i u a) (got-at c.vertices j v e) o r l (omega (arith, ints)) in omega (arith, ints)))
+      (λ x. absurd (let y = later-from s c S h k K i j u v a e o r l (omega (arith, ints)) in omega (arith, ints)))
+      (λ x. absurd (let y = later-from s c S h k K i j u v a e o r l (omega (arith, ints)) in omega (arith, ints)))
 
   in-order : (i m n j : ℕ) → i ≤ m → IsAt ns i n → IsAt ns m j → n ≤ j
   in-order i m n j l a e = ⊎_elim
@@ -83,7 +83,7 @@ module _ (s : Set) (c : Complex) (S : Shows s (complex_of c)) (h : Plane) (p : S
   line = sweep_form (form_of h) p
 
   unparted-vertex : (n : ℕ) → LiesOn c.vertices (form_of h) n → IsUnparted x n n → IsMissed p d (AtVertexNumber (complex_of c) n)
-  unparted-vertex n (v, l, o) f = vertex-none s c S p d (axis-some h d A) n v (got-at c.vertices n v l)
+  unparted-vertex n (v, l, o) f = vertex-none s c S p d (axis-some h d A) n v l
       (λ q w e. absurd (let z = level-same line q (point_of v.point) (same-point_sym (point_of v.point) q e) (ahead-kept h p d A on q w) in
       ⊎_elim (λ (m, t). let y = L.before n v m l o in omega (arith, ints)) (λ (t, m). L.past n v m l o (omega (arith, ints))) f))
 
@@ -97,11 +97,11 @@ module _ (s : Set) (c : Complex) (S : Shows s (complex_of c)) (h : Plane) (p : S
         (λ y. L.not_before e.low u f i on_u (between-level_minus line (point_of v.point) q (point_of u.point) (between-turned (point_of u.point) (point_of v.point) q m) (ahead-kept h p d A on q w) y))
 
     none-met : IsUnparted x e.low e.high → IsMissed p d (AtEdgeNumber (complex_of c) (form_of h) d n)
-    none-met f = edge-none s c S (form_of h) p d (axis-some h d A) n e u v l (got-at c.vertices e.low u i) (got-at c.vertices e.high v j) (λ q w m o. absurd (never q w m f))
+    none-met f = edge-none s c S (form_of h) p d (axis-some h d A) n e u v l i j (λ q w m o. absurd (never q w m f))
 
   unparted-edge : (n : ℕ) (e : Edge) → IsAt c.edges n e → EdgeLiesIn c.vertices c.edges (form_of h) n → IsUnparted x e.low e.high → IsMissed p d (AtEdgeNumber (complex_of c) (form_of h) d n)
   unparted-edge n e l (f, a, (u, i, o), (v, j, r)) =
-      let g = at-one c.edges n f e (got-at c.edges n f a) l in
+      let g = is-at_one c.edges n f e a l in
       none-met n e l u v (subst (λ (r : Edge). IsAt c.vertices r.low u) g i) (subst (λ (r : Edge). IsAt c.vertices r.high v) g j) o r
 
   -- so it meets neither a vertex nor an edge that the level tells off
@@ -109,7 +109,7 @@ module _ (s : Set) (c : Complex) (S : Shows s (complex_of c)) (h : Plane) (p : S
   IsOff m i j = MeetLiesIn c (form_of h) m → IsUnparted x i j → IsMissed p d (AtMeet (complex_of c) (form_of h) d m)
 
   pub unparted : (m : PlaneMeet) (i j : ℕ) → AreEnds c m i j → IsOff m i j
-  unparted = by-numbers c IsOff unparted-vertex (λ k e l. unparted-edge k e (got-at c.edges k e l))
+  unparted = by-numbers c IsOff unparted-vertex (λ k e l. unparted-edge k e l)
 
   -- nor one whose first end has the level's second number, or a greater one
   from-first : (n : ℕ) (v : Vertex) → IsAt c.vertices n v → form_at (form_of h) (point_of v.point) ≡ pos 0 → x.past ≤ n → x.first ≤ n
@@ -120,9 +120,9 @@ module _ (s : Set) (c : Complex) (S : Shows s (complex_of c)) (h : Plane) (p : S
 
   past-edge : (n : ℕ) (e : Edge) → IsAt c.edges n e → EdgeLiesIn c.vertices c.edges (form_of h) n → x.past ≤ e.low → IsMissed p d (AtEdgeNumber (complex_of c) (form_of h) d n)
   past-edge n e l M g =
-      let a = got-at c.edges n e l in
+      let a = l in
       let (u, i, o) = (lying-ends c.vertices c.edges (form_of h) n e l M).0 in
-      let E = S.edges.edges n (edge_of e) (map-at edge_of c.edges n e a) in let m = E.upward in
+      let E = S.edges.edges n (edge_of e) (map-is_at edge_of c.edges n e a) in let m = E.upward in
       unparted-edge n e a M (inr (from-first e.low u i o g, omega (arith, g, m)))
 
   past-missed : (m : PlaneMeet) (i j : ℕ) → AreEnds c m i j → IsMissedPast m i j
@@ -138,7 +138,7 @@ module _ (s : Set) (c : Complex) (S : Shows s (complex_of c)) (h : Plane) (p : S
   short-edge : (n : ℕ) (e : Edge) → IsAt c.edges n e → EdgeLiesIn c.vertices c.edges (form_of h) n → e.low < x.first → e.high < x.first → IsMissed p d (AtEdgeNumber (complex_of c) (form_of h) d n)
   short-edge n e l M f g =
       let (v, j, r) = (lying-ends c.vertices c.edges (form_of h) n e l M).1 in
-      unparted-edge n e (got-at c.edges n e l) M (inl (f, to-past e.high v j r g))
+      unparted-edge n e l M (inl (f, to-past e.high v j r g))
 
   first-missed : (m : PlaneMeet) (i j : ℕ) → AreEnds c m i j → IsShortOf m i j
   first-missed = by-numbers c IsShortOf (λ n (v, l, o) f g. unparted-vertex n (v, l, o) (inl (f, to-past n v l o f))) short-edge

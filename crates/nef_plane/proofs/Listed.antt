@@ -1,5 +1,5 @@
 -- What a ray meets in a plane that holds it lies there.
-use Rattle.nef_plane.proofs.Prelude.{◌≡◌, ℕ, ◌<◌, Option, Some, None, List, pos, sym, subst, IfSome, IsAt, SpacePoint, Form, form_at, IsAhead, Vector, IsDirection, point_of, same-point_sym, is-at_one, is-at_within, at-map, at-within, get-from_at, LiesIn, Vertex, Edge, Complex, PlaneMeet as ProgramMeet, AtVertex, AtEdge, vertex_of, edge_of, complex_of, LiesOn, EdgeLiesIn, AreNumbersWith, ArePeaks, HoldsBoth, vertex-same, meet_at, count_in, AreItems, HasMeet, MeetLiesIn, IsVertexOrLies, HoldsRay, AtMeet}
+use Rattle.nef_plane.proofs.Prelude.{◌≡◌, ℕ, ◌<◌, Option, Some, None, List, pos, sym, subst, IfSome, IsAt, SpacePoint, Form, form_at, IsAhead, Vector, IsDirection, point_of, same-point_sym, is-at_one, is-at_within, is-at_map, LiesIn, Vertex, Edge, Complex, PlaneMeet as ProgramMeet, AtVertex, AtEdge, vertex_of, edge_of, complex_of, LiesOn, EdgeLiesIn, AreNumbersWith, ArePeaks, HoldsBoth, vertex-same, meet_at, count_in, AreItems, HasMeet, MeetLiesIn, IsVertexOrLies, HoldsRay, AtMeet}
 use Rattle.law_complex.specs.Complexes.{Vertex as PlainVertex, Edge as PlainEdge}
 use Rattle.law_complex.specs.Skeleton.{PlaneMeet}
 use Rattle.nef_complex.specs.declared.complex.PlaneItems.{PlaneItems}
@@ -25,13 +25,13 @@ held-edge vs es h k e u v a i j l =
 -- a vertex on the plane is on it as one of the program's, and an edge in it lies there as one
 module _ (c : Complex) (h : Form) where
   pub lies : (k : ℕ) (x : PlainVertex) → IsAt (complex_of c).vertices k x → form_at h x.point ≡ pos 0 → LiesOn c.vertices h k
-  lies k x a i = let v = at-map vertex_of c.vertices k x a in (v.0, get-from_at c.vertices k v.0 v.1, subst (λ (r : PlainVertex). form_at h r.point ≡ pos 0) (sym v.2) i)
+  lies k x a i = let v = is-at_map vertex_of c.vertices k x a in (v.0, v.1, subst (λ (r : PlainVertex). form_at h r.point ≡ pos 0) (sym v.2) i)
 
   pub edge-lies : (k : ℕ) → LiesIn (complex_of c) h k → EdgeLiesIn c.vertices c.edges h k
   edge-lies k (e, v, w, a, H, i, j) =
-      let f = at-map edge_of c.edges k e a in (
+      let f = is-at_map edge_of c.edges k e a in (
         f.0,
-        get-from_at c.edges k f.0 f.1,
+        f.1,
         lies f.0.low v (subst (λ (r : PlainEdge). IsAt (complex_of c).vertices r.low v) (sym f.2) H.low) i,
         lies f.0.high w (subst (λ (r : PlainEdge). IsAt (complex_of c).vertices r.high w) (sym f.2) H.high) j,
       )
@@ -58,14 +58,14 @@ module _ (c : Complex) (h : Form) where
   -- what a ray meets in a plane that holds it lies there
   module _ (d : Vector) (n : PlaneMeet) (q : SpacePoint) where
     pub met-serves : (m : ProgramMeet) → AtMeet (complex_of c) h d m n q → IsVertexOrLies c h m
-    met-serves (AtVertex k) (e, (x, l, o)) = let v = at-map vertex_of c.vertices k x l in at-within c.vertices k v.0 v.1
+    met-serves (AtVertex k) (e, (x, l, o)) = let v = is-at_map vertex_of c.vertices k x l in is-at_within c.vertices k v.0 v.1
     met-serves (AtEdge k) (o, e, v, x, a, H, b, (i, j), n) = edge-lies c h k (e, v, x, a, H, i, j)
 
     pub met-lies : (p : SpacePoint) → IsDirection d → HoldsRay h p d → IsAhead p d q → (m : ProgramMeet) → AtMeet (complex_of c) h d m n q → MeetLiesIn c h m
     met-lies p some (on, z) w (AtVertex k) (e, (x, l, o)) =
-        let v = at-map vertex_of c.vertices k x l in
+        let v = is-at_map vertex_of c.vertices k x l in
         let s = same-point_sym (point_of v.0.point) q (vertex-same c k v.0 v.1 q (x, l, o)) in
-        (v.0, get-from_at c.vertices k v.0 v.1, level-same h q (point_of v.0.point) s (ahead-level h p d q w some on z))
+        (v.0, v.1, level-same h q (point_of v.0.point) s (ahead-level h p d q w some on z))
     met-lies p some H w (AtEdge k) x = met-serves (AtEdge k) x
 
 -- the complex has as many of a kind as there are numbers of such

@@ -1,6 +1,7 @@
 -- Where a ray along the axis of a plane meets a segment of the plane, or a point of it.
 use Rattle.nef_plane.proofs.Prelude.{◌≡◌, zero, suc, ℤ, pos, negsuc, neg_ℤ, ◌*ℤ◌, ◌<ℤ◌, List, ap, sym, ◌∙◌, arith, ◌⊎◌, inl, inr, ⊎_elim, refl, [], ◌∷◌, ints, sign, ring, at, num, ◌⊖◌, ◌⊗◌, given, none, follows_times, nought-is, nought-or, SpacePoint, Form, form_at, slope, normal_of, toward, SamePoint, IsAhead, IsBetween, Vector, dot, cross, IsZero, IsDirection, IsCrossing, form_of, sign_of, HasOppositeSigns, Plane, sign_of-positive, sign_of-negative, between-same, toward-point, point-toward, slope-toward, sign-same, same-point_sym, through-at, through-slope, plane-way, same-itself, HoldsBoth, IsParallelToAxis, sweep_axis, sweep_form, AreOpposite, NoneCrosses, IsMetBetween, AllHold, times-nought, parted-cut, held-between, crossed-parted, zero-decided, dot-zero, cross-turned, in-span}
 use Rattle.nef_plane.proofs.Axes.{axis-some, axis-level, axis-keeps, axis-parallel}
+use Rattle.law_near.proofs.PointOrder.{weight}
 
 -- ---- signs
 opposite-cases : (x y : ℤ) → sign_of x ≡ sign_of (neg_ℤ y) → HasOppositeSigns x y ⊎ ((x ≡ pos 0) × (y ≡ pos 0))
@@ -26,9 +27,6 @@ pub level-opposite : (k : Form) (a : SpacePoint) → form_at k a ≡ pos 0 → A
 level-opposite k a e = opposite-noughts (form_at k a) (form_at k a) e e
 
 -- ---- planes through points
-weight : (r : SpacePoint) → pos 0 <ℤ pos r.w
-weight r = let m = r.proper in omega (arith, ints)
-
 -- equal points lie on the same planes
 pub level-same : (f : Form) (a b : SpacePoint) → SamePoint a b → form_at f a ≡ pos 0 → form_at f b ≡ pos 0
 level-same f a b s e = nought-is (form_at f b) (sym (sign-same f a b s) ∙ ap sign e)

@@ -1,8 +1,6 @@
 -- The vertices of a plane stand in order of the coordinate that the plane's axis keeps, and a ray from one of them meets what lies on one side of it.
-use Rattle.nef_plane.proofs.Prelude.{◌≡◌, ℕ, ◌≤◌, pos, ◌-ℤ◌, ◌*ℤ◌, ◌<ℤ◌, ◌≤ℤ◌, arith, Bool, true, false, ◌&&◌, inl, inr, ⊎_elim, refl, sym, ap, ◌∙◌, subst, cond, [], ◌∷◌, eq-or-lt_of_le, int_eq, Decides-int_eq, ints, sign, by_order, mul_pos, mul_neg, mul_nonneg, sign-plus, sign-minus, plus-is, minus-is, ring, at, num, ◌⊖◌, ◌⊗◌, SpacePoint, Form, form_at, slope, toward, SamePoint, IsAhead, IsBetween, IsPointBelow, Set, Vector, vector, dot, form_of, point_of, Plane, slope-toward, point-toward, slope-same, IsAt, at-one, map-at, Shows, through-at, through-slope, plane-way, same-itself, Vertex, Complex, vertex_of, complex_of, times-pos, times-nought, IsSwept, sweep_axis, sweep_form, dot-zero}
-
-weight : (r : SpacePoint) → pos 0 <ℤ pos r.w
-weight r = let m = r.proper in omega (arith, ints)
+use Rattle.nef_plane.proofs.Prelude.{◌≡◌, ℕ, ◌≤◌, pos, ◌-ℤ◌, ◌*ℤ◌, ◌<ℤ◌, ◌≤ℤ◌, arith, Bool, true, false, ◌&&◌, inl, inr, ⊎_elim, refl, sym, ap, ◌∙◌, subst, cond, [], ◌∷◌, eq-or-lt_of_le, int_eq, Decides-int_eq, ints, sign, by_order, mul_pos, mul_neg, mul_nonneg, sign-plus, sign-minus, plus-is, minus-is, ring, at, num, ◌⊖◌, ◌⊗◌, SpacePoint, Form, form_at, slope, toward, SamePoint, IsAhead, IsBetween, IsPointBelow, Set, Vector, vector, dot, form_of, point_of, Plane, slope-toward, point-toward, slope-same, IsAt, is-at_one, map-is_at, Shows, through-at, through-slope, plane-way, same-itself, Vertex, Complex, vertex_of, complex_of, plus-of, times-nought, IsSwept, sweep_axis, sweep_form, dot-zero}
+use Rattle.law_near.proofs.PointOrder.{weight}
 
 -- ---- points strictly between two others
 module _ (k : Form) (a q b : SpacePoint) (w : IsBetween a q b) where
@@ -58,7 +56,7 @@ module _ (h : Plane) (p : SpacePoint) where
         let r = slope-toward k p q in
         let n = ap (λ z. pos q.w *ℤ z) start-level in
         let o = ring (pos q.w ∷ []) (at 0 ⊗ num (pos 0)) (num (pos 0)) tt in
-        times-pos (pos p.w) (form_at k q) (weight p) (omega (arith, ints))
+        plus-of (pos p.w) (form_at k q) (weight p) (omega (arith, ints))
 
     -- and before it, where the ray goes back
     pub ahead-before : dot e d <ℤ pos 0 → form_at k q <ℤ pos 0
@@ -117,8 +115,8 @@ module _ (s : Set) (c : Complex) (S : Shows s (complex_of c)) (h : Plane) (k : F
 
   pub sweep-order : pos 0 ≤ℤ dot (sweep_axis (form_of h)) t
   sweep-order = ⊎_elim
-      (λ o. same-zero (at-one c.vertices j u v (subst (λ n. IsAt c.vertices n u) o a) b))
-      (λ o. in-order (S.ordered i j (vertex_of u) (vertex_of v) o (map-at vertex_of c.vertices i u a) (map-at vertex_of c.vertices j v b)) (int_eq h.c (pos 0)) (int_eq h.b (pos 0)) refl refl)
+      (λ o. same-zero (is-at_one c.vertices j u v (subst (λ n. IsAt c.vertices n u) o a) b))
+      (λ o. in-order (S.ordered i j (vertex_of u) (vertex_of v) o (map-is_at vertex_of c.vertices i u a) (map-is_at vertex_of c.vertices j v b)) (int_eq h.c (pos 0)) (int_eq h.b (pos 0)) refl refl)
       (eq-or-lt_of_le {n = i} {m = j} l)
 
   step : (pos V.w *ℤ form_at k U) ≤ℤ (pos U.w *ℤ form_at k V)
@@ -130,7 +128,7 @@ module _ (s : Set) (c : Complex) (S : Shows s (complex_of c)) (h : Plane) (k : F
 
   -- what comes after a vertex past the line is past it too
   pub later-past : pos 0 <ℤ form_at k U → pos 0 <ℤ form_at k V
-  later-past m = let x = mul_pos (pos V.w) (form_at k U) (weight V) m in let y = step in times-pos (pos U.w) (form_at k V) (weight U) (omega (arith, ints))
+  later-past m = let x = mul_pos (pos V.w) (form_at k U) (weight V) m in let y = step in plus-of (pos U.w) (form_at k V) (weight U) (omega (arith, ints))
 
   pub later-from : pos 0 ≤ℤ form_at k U → pos 0 ≤ℤ form_at k V
   later-from m = by_order (form_at k V) (pos 0)

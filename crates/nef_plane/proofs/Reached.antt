@@ -1,5 +1,5 @@
 -- What a ray crosses of the planes that hold a vertex or an edge.
-use Rattle.nef_plane.proofs.Prelude.{◌≡◌, ℕ, pos, ⊎_elim, inl, inr, Option, Some, None, refl, ◌↔◌, IsNone, IfSome, SpacePoint, SamePoint, IsAhead, IsBetween, form_at, slope, Set, Vector, IsDirection, IsCrossing, IsReached, form_of, point_of, hit_point, Hit, Plane, IsAt, between-same, same-point_sym, map-at, Shows, IsVertexPoint, IsEdgePoint, same-itself, Vertex, Edge, Complex, PlaneMeet, AtVertex, AtEdge, vertex_of, edge_of, complex_of, HoldsBoth, vertex-same, listed_edge, ends, edge-inside, one-crossing, held-between, got-at, IsVertexOrLies, HasEndsAt, Reach, reach_of, near_met_of, IsHitThrough, AllHold, IsBetweenOrAt, AtVertexNumber, AtEdgeNumber, AtMeet, IsMeetPoint, IsNearestMet, IsMissed}
+use Rattle.nef_plane.proofs.Prelude.{◌≡◌, ℕ, pos, ⊎_elim, inl, inr, Option, Some, None, refl, ◌↔◌, IsNone, IfSome, SpacePoint, SamePoint, IsAhead, IsBetween, form_at, slope, Set, Vector, IsDirection, IsCrossing, IsReached, form_of, point_of, hit_point, Hit, Plane, IsAt, between-same, same-point_sym, map-is_at, Shows, IsVertexPoint, IsEdgePoint, same-itself, Vertex, Edge, Complex, PlaneMeet, AtVertex, AtEdge, vertex_of, edge_of, complex_of, HoldsBoth, vertex-same, listed_edge, ends, edge-inside, one-crossing, held-between, IsVertexOrLies, HasEndsAt, Reach, reach_of, near_met_of, IsHitThrough, AllHold, IsBetweenOrAt, AtVertexNumber, AtEdgeNumber, AtMeet, IsMeetPoint, IsNearestMet, IsMissed}
 use Rattle.law_complex.specs.Skeleton.{PlaneMeet as PlainMeet}
 use Rattle.nef_plane.proofs.Either.{by-ends}
 use Rattle.nef_plane.proofs.Found.{both-same, vertex-some, vertex-none, edge-some, edge-none}
@@ -41,7 +41,7 @@ module _ (s : Set) (c : Complex) (S : Shows s (complex_of c)) (p : SpacePoint) (
       -- nor where one is crossed elsewhere
       missed-vertex : (IsVertexPoint (complex_of c) k (hit_point at) → ⊥) → IsMissed p d (AtVertexNumber (complex_of c) k)
       missed-vertex n = vertex-none s c S p d some k v a
-          (λ q w o. absurd (n (vertex_of v, map-at vertex_of c.vertices k v a, both-same y (hit_point at) q o (same-point_sym q (hit_point at) (through-one p d y y (reach_of at) T q w (inr (o, o)))))))
+          (λ q w o. absurd (n (vertex_of v, map-is_at vertex_of c.vertices k v a, both-same y (hit_point at) q o (same-point_sym q (hit_point at) (through-one p d y y (reach_of at) T q w (inr (o, o)))))))
 
       reached-vertex : IsVertexPoint (complex_of c) k (hit_point at) → IsNearestMet p d (AtVertexNumber (complex_of c) k) (near_met_of (record { meet = AtVertex k; at = at }))
       reached-vertex x = vertex-some s c S p d some k v a (near_met_of (record { meet = AtVertex k; at = at })) refl (vertex-same c k v a (hit_point at) x) T.crosses.ahead T.reached
@@ -84,18 +84,18 @@ module _ (s : Set) (c : Complex) (S : Shows s (complex_of c)) (p : SpacePoint) (
     Uncrossed m u v = ((q : SpacePoint) → IsAhead p d q → IsBetweenOrAt (point_of u.point) (point_of v.point) q → AllHold c.carriers d (point_of u.point) (point_of v.point)) → IsMissed p d (AtIt m)
 
     pub uncrossed : (m : PlaneMeet) (u v : Vertex) → HasEndsAt c m u v → Uncrossed m u v
-    uncrossed = by-ends c Uncrossed (λ k v l. uncrossed-vertex k v (got-at c.vertices k v l)) (λ k e u v l i j. uncrossed-edge h k e u v (got-at c.edges k e l) (got-at c.vertices e.low u i) (got-at c.vertices e.high v j))
+    uncrossed = by-ends c Uncrossed (λ k v l. uncrossed-vertex k v l) (λ k e u v l i j. uncrossed-edge h k e u v l i j)
 
     module _ (at : Hit) where
       abbrev pub Missed : PlaneMeet → Vertex → Vertex → Type 0
       Missed m u v = IsHitThrough p d (point_of u.point) (point_of v.point) (reach_of at) → (IsMeetPoint (complex_of c) m (hit_point at) → ⊥) → IsMissed p d (AtIt m)
 
       pub missed : (m : PlaneMeet) (u v : Vertex) → HasEndsAt c m u v → Missed m u v
-      missed = by-ends c Missed (λ k v l. missed-vertex k v (got-at c.vertices k v l) at) (λ k e u v l i j. missed-edge h k e u v (got-at c.edges k e l) (got-at c.vertices e.low u i) (got-at c.vertices e.high v j) at)
+      missed = by-ends c Missed (λ k v l. missed-vertex k v l at) (λ k e u v l i j. missed-edge h k e u v l i j at)
 
       abbrev pub Reached : PlaneMeet → Vertex → Vertex → Type 0
       Reached m u v = IsHitThrough p d (point_of u.point) (point_of v.point) (reach_of at) → IsVertexOrLies c (form_of h) m → IsMeetPoint (complex_of c) m (hit_point at) → IsNearestMet p d (AtIt m) (near_met_of (record { meet = m; at = at }))
 
       pub reached : (m : PlaneMeet) (u v : Vertex) → HasEndsAt c m u v → Reached m u v
-      reached = by-ends c Reached (λ k v l T y. reached-vertex k v (got-at c.vertices k v l) at T)
-          (λ k e u v l i j T y. reached-edge h k e u v (got-at c.edges k e l) (got-at c.vertices e.low u i) (got-at c.vertices e.high v j) at T (held-edge c.vertices c.edges (form_of h) k e u v l i j y))
+      reached = by-ends c Reached (λ k v l T y. reached-vertex k v l at T)
+          (λ k e u v l i j T y. reached-edge h k e u v l i j at T (held-edge c.vertices c.edges (form_of h) k e u v l i j y))

@@ -1,5 +1,5 @@
 -- What a ray along the axis of a plane meets at a vertex and inside an edge.
-use Rattle.nef_plane.proofs.Prelude.{◌≡◌, ℕ, pos, inl, inr, ⊎_elim, refl, SpacePoint, form_at, SamePoint, IsBetween, Set, Vector, form_of, point_of, far_point, FarHit, Plane, point-toward, same-point_sym, IsAt, Shows, between-ends, same-itself, Vertex, Edge, Complex, PlaneMeet, AtVertex, AtEdge, complex_of, apart, got-at, HasEndsAt, IsParallelToAxis, IsHitThrough, IsMetBetween, AllHold, AtVertexNumber, AtEdgeNumber, AtMeet, IsNearestMet, far_met_of, far_reach_of, IsMissed}
+use Rattle.nef_plane.proofs.Prelude.{◌≡◌, ℕ, pos, inl, inr, ⊎_elim, refl, SpacePoint, form_at, SamePoint, IsBetween, Set, Vector, form_of, point_of, far_point, FarHit, Plane, point-toward, same-point_sym, IsAt, Shows, between-ends, same-itself, Vertex, Edge, Complex, PlaneMeet, AtVertex, AtEdge, complex_of, apart, HasEndsAt, IsParallelToAxis, IsHitThrough, IsMetBetween, AllHold, AtVertexNumber, AtEdgeNumber, AtMeet, IsNearestMet, far_met_of, far_reach_of, IsMissed}
 use Rattle.law_complex.specs.Skeleton.{PlaneMeet as PlainMeet}
 use Rattle.nef_plane.proofs.Axes.{axis-some}
 use Rattle.nef_plane.proofs.Either.{by-ends}
@@ -48,11 +48,11 @@ module _ (s : Set) (c : Complex) (S : Shows s (complex_of c)) (h : Plane) (p : S
   NoneSwept m u v = ((q : SpacePoint) → IsMetBetween (form_of h) p d (point_of u.point) (point_of v.point) q → AllHold c.carriers d (point_of u.point) (point_of v.point)) → IsMissed p d (AtIt m)
 
   pub none-swept : (m : PlaneMeet) (u v : Vertex) → HasEndsAt c m u v → NoneSwept m u v
-  none-swept = by-ends c NoneSwept (λ k v l. swept-no_vertex k v (got-at c.vertices k v l)) (λ k e u v l i j. swept-no_edge k e u v (got-at c.edges k e l) (got-at c.vertices e.low u i) (got-at c.vertices e.high v j))
+  none-swept = by-ends c NoneSwept (λ k v l. swept-no_vertex k v l) (λ k e u v l i j. swept-no_edge k e u v l i j)
 
   module _ (at : FarHit) where
     abbrev pub Swept : PlaneMeet → Vertex → Vertex → Type 0
     Swept m u v = IsMetBetween (form_of h) p d (point_of u.point) (point_of v.point) (far_point at) → IsHitThrough p d (point_of u.point) (point_of v.point) (far_reach_of at) → IsNearestMet p d (AtIt m) (far_met_of (record { meet = m; at = at }))
 
     pub swept : (m : PlaneMeet) (u v : Vertex) → HasEndsAt c m u v → Swept m u v
-    swept = by-ends c Swept (λ k v l. swept-vertex k v (got-at c.vertices k v l) at) (λ k e u v l i j. swept-edge k e u v (got-at c.edges k e l) (got-at c.vertices e.low u i) (got-at c.vertices e.high v j) at)
+    swept = by-ends c Swept (λ k v l. swept-vertex k v l at) (λ k e u v l i j. swept-edge k e u v l i j at)

@@ -1,5 +1,5 @@
 -- What lies outside a window isn't met sooner than what the window leads to.
-use Rattle.nef_plane.proofs.Prelude.{◌≡◌, ℕ, ◌<◌, length, List, Option, Some, None, sym, subst, ⊎_elim, inl, inr, IfSome, IsAt, SpacePoint, Form, Set, Vector, point_of, Shows, at-map, at-within, is-at_some, Vertex, Complex, PlaneMeet as ProgramMeet, AtVertex, AtEdge, Span, edge_of, complex_of, meet_of, AreAlone, IsInSpan, IsNarrower, vertex-same, edge-inside, got-at, span-same, span-between, span-wider, HasMeet, AreEnds, HasEndsAt, Reach, met_of, AtMeet, AtEdgeNumber, IsMeetPoint, IsBetweenOrAt, IsNearest, IsOutside, HoldsBefore, IsWindowTo}
+use Rattle.nef_plane.proofs.Prelude.{◌≡◌, ℕ, ◌<◌, length, List, Option, Some, None, sym, subst, ⊎_elim, inl, inr, IfSome, IsAt, SpacePoint, Form, Set, Vector, point_of, Shows, is-at_map, is-at_within, is-at_some, Vertex, Complex, PlaneMeet as ProgramMeet, AtVertex, AtEdge, Span, edge_of, complex_of, meet_of, AreAlone, IsInSpan, IsNarrower, vertex-same, edge-inside, span-same, span-between, span-wider, HasMeet, AreEnds, HasEndsAt, Reach, met_of, AtMeet, AtEdgeNumber, IsMeetPoint, IsBetweenOrAt, IsNearest, IsOutside, HoldsBefore, IsWindowTo}
 use Rattle.law_complex.specs.Complexes.{Complex as PlainComplex}
 use Rattle.law_complex.specs.Skeleton.{PlaneMeet}
 use Rattle.nef_plane.specs.declared.first.Met.{Met}
@@ -15,8 +15,8 @@ module _ (s : Set) (c : Complex) (S : Shows s (complex_of c)) where
   -- a point of a vertex or an edge is within the ends of that
   point-within : (m : ProgramMeet) (u v : Vertex) → HasEndsAt c m u v → (y : SpacePoint) → IsMeetPoint (complex_of c) m y → IsBetweenOrAt (point_of u.point) (point_of v.point) y
   point-within = by-ends c (λ m u v. (y : SpacePoint) → IsMeetPoint (complex_of c) m y → IsBetweenOrAt (point_of u.point) (point_of v.point) y)
-      (λ k v l y x. let e = vertex-same c k v (got-at c.vertices k v l) y x in inr (e, e))
-      (λ k e u v l i j y x. inl (edge-inside s c S k e u v (got-at c.edges k e l) (got-at c.vertices e.low u i) (got-at c.vertices e.high v j) y x))
+      (λ k v l y x. let e = vertex-same c k v l y x in inr (e, e))
+      (λ k e u v l i j y x. inl (edge-inside s c S k e u v l i j y x))
 
   -- what is as wide as the spans of both ends holds it
   pub ends-spanned : (ss : List Span) → AreAlone c.vertices ss → (m : ProgramMeet) (i j : ℕ) → AreEnds c m i j → i < length c.vertices → j < length c.vertices → (a b r : Span) → IsAt ss i a → IsAt ss j b → IsNarrower a r → IsNarrower b r
@@ -38,8 +38,8 @@ module _ (c : Complex) (h : Form) (d : Vector) where
   edge-met (AtVertex j) k q (o, e, v, w, a, H, b, i, r) = cc
   edge-met (AtEdge j) k q (o, e, v, w, a, H, b, i, r) =
       let same : j ≡ k = cc in
-      let f = at-map edge_of c.edges k e a in
-      subst (λ (i : ℕ). HasMeet c (AtEdge i) × IsMeetPoint (complex_of c) (AtEdge i) q) (sym same) (at-within c.edges k f.0 f.1, (e, v, w, a, H, b))
+      let f = is-at_map edge_of c.edges k e a in
+      subst (λ (i : ℕ). HasMeet c (AtEdge i) × IsMeetPoint (complex_of c) (AtEdge i) q) (sym same) (is-at_within c.edges k f.0 f.1, (e, v, w, a, H, b))
 
   module _ {H : Type 0} (reach : H → Reach) (p : SpacePoint) (ns : List ℕ) (n : ℕ) where
     abbrev Listed : PlaneMeet → SpacePoint → Type 0

@@ -1,6 +1,7 @@
 -- Along a ray the label stays up to the first crossing of a carrier at which it changes; and it changes somewhere, since the ray leaves the frame.
 use Rattle.nef_ray.proofs.Prelude.{◌≡◌, ℕ, ◌*◌, ◌<◌, ◌≤◌, ℤ, pos, ◌+ℤ◌, ◌*ℤ◌, neg_ℤ, nat_abs, arith, refl, ap, sym, ◌∙◌, ◌⊎◌, inl, inr, ⊎_elim, [], ◌∷◌, subst, ints, Sign, minus, nought, plus, sign, Lies, ring, at, num, neg, ◌⊕◌, ◌⊗◌, nought-is, plus-is, minus-is, sign-plus, sign-minus, mul_nonneg, nought-or, half_side, HasLabel, Germ, SpacePoint, Form, form_at, slope, Within, SamePoint, InFrame, InClosedFrame, toward, IsAhead, IsBetween, Set, Vector, blend, opposite, zero_vector, IsDirection, SameDirection, Label, Out, factor-same, reach_all, sign_at, carriers, FirstChange, germs-by_cell, flat-germ, between-turned, every, Decided, decided-to, decided-lt, germ-decided, start, start-close, start-between, start-toward, beyond, halfway, halfway-between, halfway-outside, way_factor, way_factor-some, leads, leads-somewhere, germ-nearby, first-change, sign-toward, Germ-by_signs, flat-outside, no-germ_out, near-same, label-one, Germ-unique, within-self, Germ-zero, slope-zero, slope-same, IsCrossing, ahead-back, between-ahead, ahead-from, IsUnchanged, SameDirection-turned, SameDirection-trans, direction-left}
 use Rattle.law_near.proofs.Cells.{is_nought}
+use Rattle.law_complex.proofs.Spans.{opposite-level}
 
 -- ---- the closed frame
 -- a point lies in it, or doesn't
@@ -27,10 +28,6 @@ pub germ-outside : (s : Set) (p : SpacePoint) (d : Vector) (l : Label) → (InCl
 germ-outside s p d l out g = Germ-unique s p d l Out g (flat-germ s p d Out (flat-outside s p d out) (λ i. out (frame-closed p i)))
 
 -- ---- signs along a direction
--- the opposite direction has the opposite slope
-slope-back : (h : Form) (d : Vector) → slope h d ≡ pos 0 → slope h (opposite d) ≡ pos 0
-slope-back h d e = ring (h.a ∷ h.b ∷ h.c ∷ d.x ∷ d.y ∷ d.z ∷ []) (at 0 ⊗ neg (at 3) ⊕ at 1 ⊗ neg (at 4) ⊕ at 2 ⊗ neg (at 5)) (neg (at 0 ⊗ at 3 ⊕ at 1 ⊗ at 4 ⊕ at 2 ⊗ at 5)) tt ∙ ap neg_ℤ e
-
 -- k times a number and one more of the same sign
 sum-sign : (k : ℕ) (a b : ℤ) → sign a ≡ sign b → sign b ≡ sign (pos k *ℤ a +ℤ pos 1 *ℤ b)
 sum-sign k a b e = by (sign b) refl
@@ -82,7 +79,7 @@ module _ (s : Set) (d : Vector) (m : Label) where
   level-kept x y c w level g = (germs-by_cell s y x (near-same (carriers s) x y x c (within-self (reach_all (carriers s) x) x)
       (λ h l o.
       let back = ahead-back y x d w in
-      sign-toward h x y o ∙ slope-same h (toward x y) (opposite d) back ∙ ap sign (slope-back h d (level h l o)) ∙ sym o)) d m).0 g
+      sign-toward h x y o ∙ slope-same h (toward x y) (opposite d) back ∙ ap sign (opposite-level h d (level h l o)) ∙ sym o)) d m).0 g
 
   -- what comes after a point comes after points close ahead
   onward-kept : (x y : SpacePoint) → Within (reach_all (carriers s) x) x y → SameDirection (toward x y) d → Germ s x d m → Germ s y d m

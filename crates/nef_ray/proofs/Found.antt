@@ -1,5 +1,5 @@
 -- The first change at a crossing of a carrier is the end of the ray, and there is one.
-use Rattle.nef_ray.proofs.Prelude.{◌≡◌, ℕ, ◌<◌, ◌≤◌, List, All, IsSortedBy, false, ◌⊎◌, ⊎_elim, inl, inr, get_or, sym, subst, Contains, cases_lt, All-contains, sorted_far, Lies, Germ, SpacePoint, Form, SamePoint, InFrame, InClosedFrame, IsBetween, Set, Vector, between-same, IsCrossing, form_of, vector_of, point_of, hit_point, Plane, carriers, same-point_sym, IsAt, at-contains, at-get, at-map, at-within, ahead-same, plane-turned, plane-point, plane-slope, same-itself, Complex, ShowsSet, Crossed, RayEnd, RayStart, IsHitOf, IsUnchanged, IsUnchangedOn, IsChangeOf, IsCrossedPlane, AreAllCrossed, crossed_lt, IsRayEnd}
+use Rattle.nef_ray.proofs.Prelude.{◌≡◌, ℕ, ◌<◌, ◌≤◌, List, All, IsSortedBy, false, ◌⊎◌, ⊎_elim, inl, inr, get_or, sym, subst, Contains, cases_lt, All-contains, sorted_far, Lies, Germ, SpacePoint, Form, SamePoint, InFrame, InClosedFrame, IsBetween, Set, Vector, between-same, IsCrossing, form_of, vector_of, point_of, hit_point, Plane, carriers, same-point_sym, IsAt, at-contains, is-at_is, is-at_map, is-at_within, ahead-same, plane-turned, plane-point, plane-slope, same-itself, Complex, ShowsSet, Crossed, RayEnd, RayStart, IsHitOf, IsUnchanged, IsUnchangedOn, IsChangeOf, IsCrossedPlane, AreAllCrossed, crossed_lt, IsRayEnd}
 use Rattle.nef_ray.proofs.Along.{label-stays, changes-somewhere}
 use Rattle.nef_ray.proofs.Listed.{each-listed}
 use Rattle.nef_ray.proofs.Nearest.{stays}
@@ -28,7 +28,7 @@ module _ (s : Set) (c : Complex) (S : ShowsSet s c) (ray : RayStart) (inside : I
   seen : (N : SpacePoint → Type 0) → AllSeen s c ray N → (f : Form) → Lies (carriers s) f → (y : SpacePoint) → IsCrossing p d f y → InClosedFrame y → IsUnchanged s d ray.before y ⊎ N y
   seen N A f l y X i =
       let M = S.shows.carriers.all f l in
-      let g = at-map form_of c.carriers M.0 M.1 M.2 in
+      let g = is-at_map form_of c.carriers M.0 M.1 M.2 in
       let crossing : IsCrossing p d M.1 y = record { on = plane-point f M.1 y (plane-turned M.1 f M.3) X.on; ahead = X.ahead; passes = λ z. X.passes (plane-slope M.1 f d M.3 z) } in
       A M.0 g.0 g.1 y (subst (λ (h : Form). IsCrossing p d h y) (sym g.2) crossing) i
 
@@ -63,6 +63,6 @@ ordered-seen s c ray xs zs e A H up n x a f =
 
     later : (k : ℕ) (z : Crossed) → IsAt zs k z → n ≤ k → crossed_lt z x ≡ false
     later k z b l =
-        subst (λ (w : Crossed). crossed_lt z w ≡ false) (at-get zs n x z a)
-        (subst (λ (w : Crossed). crossed_lt w (get_or zs n z) ≡ false) (at-get zs k z z b)
-        (sorted_far crossed_lt steps_weak zs (subst (IsSortedBy crossed_lt) (sym e) up) n k z l (at-within zs k z b)))
+        subst (λ (w : Crossed). crossed_lt z w ≡ false) (is-at_is zs n x z a)
+        (subst (λ (w : Crossed). crossed_lt w (get_or zs n z) ≡ false) (is-at_is zs k z z b)
+        (sorted_far crossed_lt steps_weak zs (subst (IsSortedBy crossed_lt) (sym e) up) n k z l (is-at_within zs k z b)))

@@ -1,6 +1,6 @@
 -- The planes that a ray crosses, listed one after another, sorted, and gone through.
-use Rattle.nef_ray.proofs.Prelude.{◌≡◌, ℕ, ◌+◌, ◌<◌, List, [], ◌∷◌, ◌++◌, length, get_or, subst, refl, All, IsPermutation, All-contains, Contains-append_left, Contains-push, Contains, Contains-permutation, SpacePoint, IsCrossing, form_of, vector_of, point_of, Plane, IsAt, contains-at, at-contains, read-at, next-all, Crossed, RayStart, IsCrossedPlane, AreAllCrossed}
-use Rattle.nef_edges.proofs.Places.{at-some}
+use Rattle.nef_ray.proofs.Prelude.{◌≡◌, ℕ, ◌+◌, ◌<◌, List, [], ◌∷◌, ◌++◌, length, get_or, subst, refl, All, IsPermutation, All-contains, Contains-append_left, Contains-push, Contains, Contains-permutation, SpacePoint, IsCrossing, form_of, vector_of, point_of, Plane, IsAt, contains-at, at-contains, is-at_read, next-all, Crossed, RayStart, IsCrossedPlane, AreAllCrossed}
+use Rattle.nef_complex.proofs.Reading.{all-more}
 
 -- a plane that the ray crosses is among those crossed
 abbrev pub CrossedListed : RayStart → List Crossed → Plane → Type 0
@@ -25,11 +25,6 @@ sorted-kept hs ray xs zs moved A k h a y X = let l = A k h a y X in (l.0, Contai
 pub each-listed : (P : Plane → Type 0) (xs : List Crossed) → ((k : ℕ) (x : Crossed) → IsAt xs k x → P x.plane) → (h : Plane) → IsCrossedPlane xs h → P h
 each-listed P xs f h (x, i, e) = let a = contains-at xs x i in subst P e (f a.0 x a.1)
 
--- what holds of the first elements read and of the next holds of all these
-pub next-read : {X : Type 0} (P : X → Type 0) (xs : List X) (n : ℕ) (x : X) → n < length xs → x ≡ get_or xs n x
-    → ((k : ℕ) (y : X) → k < n → IsAt xs k y → P y) → P x → (k : ℕ) (y : X) → k < n + 1 → IsAt xs k y → P y
-next-read P xs n x l e = next-all P xs n x (at-some xs n x (read-at xs n x l e))
-
 -- what holds of all elements holds of the one read
 pub one-listed : {X : Type 0} (P : X → Type 0) (xs zs : List X) (n : ℕ) (x : X) → zs ≡ xs → n < length zs → x ≡ get_or zs n x → All P xs → P x
-one-listed {X} P xs zs n x e l r A = All-contains P xs x A (subst (λ (vs : List X). Contains vs x) e (at-contains zs n x (read-at zs n x l r)))
+one-listed {X} P xs zs n x e l r A = All-contains P xs x A (subst (λ (vs : List X). Contains vs x) e (at-contains zs n x (is-at_read zs n x l r)))

@@ -1,5 +1,5 @@
 -- A complex that shows a set has a vertex at each corner of the frame.
-use Rattle.nef_result.proofs.Prelude.{sym, subst, SamePoint, point_of, at-some, map-at, vertex_of}
+use Rattle.nef_result.proofs.Prelude.{sym, subst, SamePoint, point_of, is-at_map, vertex_of}
 use Rattle.law_complex.specs.Complexes.{Vertex as PlainVertex}
 use Rattle.nef_result.specs.Laws.{CornersAreVertices, CornersAreShown}
 use Rattle.nef_result.proofs.CornerVertices.{corner-vertex}
@@ -12,5 +12,5 @@ pub corners-shown : CornersAreShown
 corners-shown s c k S =
     let p = point_of (corner_point k) in
     let v = S.shows.complete p (corner-vertex s k p (corner-is k)) in
-    let u = map-at vertex_of c.vertices v.0 v.1 v.2 in
-    (v.0, u.0, at-some c.vertices v.0 u.0 u.1, corner-same k (point_of u.0.point) (subst (λ (w : PlainVertex). SamePoint w.point p) (sym u.2) v.3))
+    let u = is-at_map vertex_of c.vertices v.0 v.1 v.2 in
+    (v.0, u.0, u.1, corner-same k (point_of u.0.point) (subst (λ (w : PlainVertex). SamePoint w.point p) (sym u.2) v.3))

@@ -1,6 +1,6 @@
 -- Maps that are moved out of operands, one after another. Each vertex of an operand stands at one place alone, so its map is
 -- there until the vertex of the result at that place takes it.
-use Rattle.nef_result.proofs.Prelude.{◌≡◌, ℕ, zero, suc, ◌+◌, ◌<◌, List, [], ◌∷◌, length, arith, refl, ap, sym, subst, ◌∙◌, ◌⊎◌, inl, inr, ⊎_elim, set, cases_order, SpacePoint, point_of, point_below-apart, same-point_sym, same-point_trans, IsAt, at-one, First, Second, SphereMap, Vertex, MapSource, of_operand, StandsAt, IsOtherOf, vertex_at, HasSourceAt, AreThere, IsFilled, NamesVertex, HasNamed, IsFilledAt, AreFilledTo, AreLeft, is-at_none}
+use Rattle.nef_result.proofs.Prelude.{◌≡◌, ℕ, zero, suc, ◌+◌, ◌<◌, List, [], ◌∷◌, length, arith, refl, ap, sym, subst, ◌∙◌, ◌⊎◌, inl, inr, ⊎_elim, set, cases_order, SpacePoint, point_of, point_below-apart, same-point_sym, same-point_trans, IsAt, is-at_one, First, Second, SphereMap, Vertex, MapSource, of_operand, StandsAt, IsOtherOf, vertex_at, HasSourceAt, AreThere, IsFilled, NamesVertex, HasNamed, IsFilledAt, AreFilledTo, AreLeft, is-at_none}
 use Rattle.nef_cand.specs.declared.named.Operand.{Operand}
 use Rattle.nef_result.specs.declared.parting.MapSource.TheVariants.{Here, Kept, Turned}
 
@@ -62,10 +62,10 @@ module _ (us vs ys : List Vertex) (fs : List MapSource) (T : AreThere us vs ys f
     filled-by : (g : MapSource) (m l : SphereMap) → HasSourceAt us vs (point_of y.point) g → IsFilled ws zs g m l → IsFilled us vs g m l
     filled-by Here m l t h = h
     filled-by (Kept o k) m l t h =
-        let e : h.0 ≡ t.0 = at-one (of_operand o ws zs) k h.0 t.0 h.1 (left-in o k t.0 t.1) in
+        let e : h.0 ≡ t.0 = is-at_one (of_operand o ws zs) k h.0 t.0 h.1 (left-in o k t.0 t.1) in
         (t.0, t.1.0, subst (λ (v : Vertex). l ≡ v.map) e h.2)
     filled-by (Turned o k) m l t h =
-        let e : h.0 ≡ t.0 = at-one (of_operand o ws zs) k h.0 t.0 h.1 (left-in o k t.0 t.1) in
+        let e : h.0 ≡ t.0 = is-at_one (of_operand o ws zs) k h.0 t.0 h.1 (left-in o k t.0 t.1) in
         (t.0, t.1.0, subst (λ (v : Vertex). IsOtherOf v.map l) e h.2)
 
     pub filled-more : (xs new : List Vertex) → AreFilledTo us vs ys fs n xs → length new ≡ length xs → ((v : Vertex) → IsAt xs n v → IsFilledAt ws zs f n v new)
@@ -84,8 +84,8 @@ module _ (us vs ys : List Vertex) (fs : List MapSource) (T : AreThere us vs ys f
 
         at-this : (i : ℕ) (z : Vertex) (g : MapSource) → i ≡ n → IsAt ys i z → IsAt fs i g → IsFilledAt us vs g i z new
         at-this i z g e a b =
-            let same-vertex : y ≡ z = at-one ys n y z here (subst (λ (j : ℕ). IsAt ys j z) e a) in
-            let same-source : f ≡ g = at-one fs n f g source (subst (λ (j : ℕ). IsAt fs j g) e b) in
+            let same-vertex : y ≡ z = is-at_one ys n y z here (subst (λ (j : ℕ). IsAt ys j z) e a) in
+            let same-source : f ≡ g = is-at_one fs n f g source (subst (λ (j : ℕ). IsAt fs j g) e b) in
             let d = filled y (F.rest n y (λ h. absurd (omega (arith, h))) here) in
             subst (λ (j : ℕ). IsFilledAt us vs g j z new) (sym e)
             (subst (λ (w : Vertex). IsFilledAt us vs g n w new) same-vertex
@@ -96,7 +96,7 @@ module _ (us vs ys : List Vertex) (fs : List MapSource) (T : AreThere us vs ys f
   left-more o ws new L others k u a none = others k u
       (λ m.
       let s = names-stands us vs o k (point_of y.point) f (T.each n y f here source) m in
-      let e : s.0 ≡ u = at-one (of_operand o us vs) k s.0 u s.1.0 a in
+      let e : s.0 ≡ u = is-at_one (of_operand o us vs) k s.0 u s.1.0 a in
       none n y (omega arith) here (subst (λ (w : Vertex). StandsAt (of_operand o us vs) k w (point_of y.point)) e s.1))
       (L k u a (λ i w l b t. none i w (omega (arith, l)) b t))
 

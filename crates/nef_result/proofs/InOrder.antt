@@ -1,6 +1,6 @@
 -- The corners in order, and the planes of the frame in order.
 use Rattle.nef_result.proofs.Prelude.{◌≡◌, ℕ, zero, suc, ℤ, pos, ◌*ℤ◌, ◌<ℤ◌, arith, refl, ◌⊎◌, inl, inr, Bool, true, false, subst, List, [], ◌∷◌, ◌++◌, Some, None, ints, ring, at, num, ◌⊖◌, ◌⊗◌, lt_by, mul_pos, IsAt, half_side, IsBelow, SpacePoint, form_numbers, IsPointBelow, SamePoint, Label, point_of, InOrder, AreSorted, Vertex, sorted_sides, frame_end, FrameCorner, ends, all_ends, IsFrameCornerAt, IsFrameCornerOf, AreFrameCorners, is-at_none, is-at_first}
-use Rattle.law_complex.proofs.FacetNames.{weight as positive}
+use Rattle.law_near.proofs.PointOrder.{weight as positive}
 
 -- ---- the order of two corners
 abbrev pub IsLow : Bool → Bool → Type 0

@@ -6,11 +6,11 @@ pub use Rattle.nef_smap.proofs.Prelude.{Bor, Equal, Greater, IsSphereMap, Least,
 pub use Rattle.nef_stopo.proofs.Prelude.{ByOp, IsLeastMap, Op, SphereMap, map-append, op_label}
 pub use Rattle.nef_complex.proofs.Prelude.{AreSorted, AreVertexHolders, append-nil, keeps-all, lt_by, plane-ordered, set, step-within, w64}
 pub use Rattle.nef_edges.proofs.Prelude.{AreVerticesOf, Edges}
-pub use Rattle.nef_cand.proofs.Prelude.{AreHolders, AreInOrder, Bool, Contains, Contains-append_left, Contains-push, Contains-push_cases, Flat, FlatDim, Form, HasLabel, IfOk-weaker, In, InFrame, InHalf, InOrder, IsAt, IsBelow, IsDirection, IsPointBelow, IsVertex, Label, Lies, List, None, Not, Out, Plane, Point, Ratio, SamePlane, SamePoint, Set, Shows, ShowsSet, Some, SpacePoint, Vector, Vertex, [], ap, append_assoc, arith, at, at-contains, at-one, at-right, at-within, by_order, carriers, contains-at, drop, false, form_at, form_numbers, form_of, get_or, half_side, inl, inr, ints, length, length-drop, map, minus-is, nat_abs, neg, neg_ℤ, normal_of, nought-is, num, plus-is, point_below-apart, point_limit, point_of, pos, read-at, refl, ring, same-point_sym, same-point_trans, sign, sign-minus, sign_at, slope, step, subst, suc, sym, take, take-append-drop, take_all, true, vertex_of, zero, ℕ, ℤ, ⊎_elim, ◌*ℤ◌, ◌++◌, ◌+ℤ◌, ◌+◌, ◌-◌, ◌<ℤ◌, ◌<◌, ◌↔◌, ◌∙◌, ◌∷◌, ◌≡◌, ◌≤◌, ◌⊎◌, ◌⊕◌, ◌⊖◌, ◌⊗◌}
+pub use Rattle.nef_cand.proofs.Prelude.{AreHolders, AreInOrder, Bool, Contains, Contains-append_left, Contains-push, Contains-push_cases, Flat, FlatDim, Form, HasLabel, IfOk-weaker, In, InFrame, InHalf, InOrder, IsAt, IsBelow, IsDirection, IsPointBelow, IsVertex, Label, Lies, List, None, Not, Out, Plane, Point, Ratio, SamePlane, SamePoint, Set, Shows, ShowsSet, Some, SpacePoint, Vector, Vertex, [], ap, append_assoc, arith, at, at-contains, is-at_one, at-right, is-at_within, by_order, carriers, contains-at, drop, false, form_at, form_numbers, form_of, get_or, half_side, inl, inr, ints, length, length-drop, map, minus-is, nat_abs, neg, neg_ℤ, normal_of, nought-is, num, plus-is, point_below-apart, point_limit, point_of, pos, is-at_read, refl, ring, same-point_sym, same-point_trans, sign, sign-minus, sign_at, slope, step, subst, suc, sym, take, take-append-drop, take_all, true, vertex_of, zero, ℕ, ℤ, ⊎_elim, ◌*ℤ◌, ◌++◌, ◌+ℤ◌, ◌+◌, ◌-◌, ◌<ℤ◌, ◌<◌, ◌↔◌, ◌∙◌, ◌∷◌, ◌≡◌, ◌≤◌, ◌⊎◌, ◌⊕◌, ◌⊖◌, ◌⊗◌}
 pub use Rattle.std.proofs.Common.{vec_capacity, vec_len}
 pub use Rattle.std.proofs.lemmas.List.{length-append}
 pub use Rattle.std.specs.List.{zip}
-pub use Rattle.nef_space.proofs.Lists.{lies-append}
+pub use Rattle.nef_space.proofs.Lists.{lies-append, is-at_last, is-at_left, is-at_map, is-at_more, map-is_at}
 pub use Rattle.law_near.proofs.Cells.{coordinate-in, is_nought}
 pub use Rattle.law_near.proofs.Frames.{frame-minus}
 pub use Rattle.law_near.proofs.Germs.{Germ-from_sample, sample, sample-short, sign-along}
@@ -18,7 +18,7 @@ pub use Rattle.law_near.proofs.Near.{ray-keeps, ray-level}
 pub use Rattle.nef_geo.proofs.Orders.{below-trans}
 pub use Rattle.law_complex.specs.Shows.{Carriers}
 pub use Rattle.nef_star.specs.declared.star.Op.TheVariants.{And, Diff, Or, Xor}
-pub use Rattle.nef_edges.proofs.Places.{at-before, at-last, at-map, at-more, at-read, at-some, map-at, some-at}
+pub use Rattle.nef_edges.proofs.Places.{at-read}
 pub use Rattle.nef_cand.specs.declared.named.Operand.TheVariants.{First, Second}
 pub use Rattle.nef_result.specs.Begun.{AreBegun, AreFilledTo, AreLeft, AreThere, Begins, HasNamed, HasSourceAt, IsAdded, IsFilled, IsFilledAt, NamesVertex, vertex_at}
 pub use Rattle.law_sphere.specs.Forms.{axes}

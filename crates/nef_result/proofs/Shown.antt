@@ -1,5 +1,5 @@
 -- The corners are the vertices of a set that holds all of the frame or nothing of it.
-use Rattle.nef_result.proofs.Prelude.{◌≡◌, ℕ, zero, suc, pos, neg_ℤ, arith, refl, Bool, true, false, subst, List, map, ints, Lies, lies-left, SpacePoint, Form, form, SamePoint, IsPointBelow, half_side, Set, halves, IsVertex, Label, Out, Not, In, point_of, form_of, Plane, frame, carriers, IsAt, Cone, Least, Ordered, InOrder, at-some, map-at, at-map, Edge as PlainEdge, Edges, SamePlane, Carriers, Shows, vertex_of, AreVerticesOf, Vertex, FrameCorner, ends, all_ends, IsFrameCornerOf, AreFrameCorners, sorted_sides, is-at_none, is-at_first}
+use Rattle.nef_result.proofs.Prelude.{◌≡◌, ℕ, zero, suc, pos, neg_ℤ, arith, refl, Bool, true, false, subst, List, map, ints, Lies, lies-left, SpacePoint, Form, form, SamePoint, IsPointBelow, half_side, Set, halves, IsVertex, Label, Out, Not, In, point_of, form_of, Plane, frame, carriers, IsAt, Cone, Least, Ordered, InOrder, is-at_map, map-is_at, Edge as PlainEdge, Edges, SamePlane, Carriers, Shows, vertex_of, AreVerticesOf, Vertex, FrameCorner, ends, all_ends, IsFrameCornerOf, AreFrameCorners, sorted_sides, is-at_none, is-at_first}
 use Rattle.law_complex.specs.Complexes.{Vertex as PlainVertex}
 use Rattle.nef_result.proofs.Walls.{Axis, on_x, on_y, on_z, wall, wall-listed, listed-wall, IsOneLabelSet, full-whole, empty-whole}
 use Rattle.nef_result.proofs.CornerVertices.{corner-vertex, vertex-corner}
@@ -55,8 +55,8 @@ module _ (s : Set) (l : Label) (W : IsOneLabelSet s l) (hs : List Plane) (vs : L
   -- what holds of each vertex of the program holds of each vertex
   each-vertex : (P : PlainVertex → Type 0) → ((k : FrameCorner) (v : Vertex) → IsFrameCornerOf l k v → P (vertex_of v)) → (n : ℕ) (v : PlainVertex) → IsAt (map vertex_of vs) n v → P v
   each-vertex P f n v a =
-      let u = map-at vertex_of vs n v a in
-      let k = vertex-at l all_ends vs V n u.0 (at-some vs n u.0 u.1) in
+      let u = is-at_map vertex_of vs n v a in
+      let k = vertex-at l all_ends vs V n u.0 u.1 in
       subst P u.2 (f k.0 u.0 k.2)
 
   complete : (p : SpacePoint) → IsVertex s p → (n : ℕ) × (v : PlainVertex) × IsAt (map vertex_of vs) n v × SamePoint v.point p
@@ -64,13 +64,13 @@ module _ (s : Set) (l : Label) (W : IsOneLabelSet s l) (hs : List Plane) (vs : L
       let k = vertex-corner s l W p i in
       let n = listed k.0.x k.0.y k.0.z in
       let v = corner-at l all_ends vs V n.0 (ends k.0.x k.0.y k.0.z) n.1 in
-      (n.0, vertex_of v.0, at-map vertex_of vs n.0 v.0 v.1, same-corner k.0 (point_of v.0.point) p v.2.place k.1)
+      (n.0, vertex_of v.0, map-is_at vertex_of vs n.0 v.0 v.1, same-corner k.0 (point_of v.0.point) p v.2.place k.1)
 
   placed : InOrder (λ u v. IsPointBelow u.point v.point) (map vertex_of vs)
   placed i k x y h a b =
-      let u = map-at vertex_of vs i x a in let v = map-at vertex_of vs k y b in
+      let u = is-at_map vertex_of vs i x a in let v = is-at_map vertex_of vs k y b in
       subst (λ (w : PlainVertex). IsPointBelow x.point w.point) v.2 (subst (λ (w : PlainVertex). IsPointBelow w.point (point_of v.0.point)) u.2
-      (corners-sorted l vs V i k u.0 v.0 h (at-some vs i u.0 u.1) (at-some vs k v.0 v.1)))
+      (corners-sorted l vs V i k u.0 v.0 h u.1 v.1))
 
   shown : (es : List PlainEdge) → Edges (map vertex_of vs) es → Shows s (record { carriers = map form_of hs; vertices = map vertex_of vs; edges = es })
   shown es E = record {

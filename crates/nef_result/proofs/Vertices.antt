@@ -1,13 +1,13 @@
 -- The vertices of a set among its candidates, with their maps, are all its vertices.
-use Rattle.nef_result.proofs.Prelude.{◌≡◌, ℕ, ◌<◌, ◌+◌, List, [], ◌∷◌, ◌++◌, length, map, arith, refl, ap, sym, subst, ◌∙◌, ◌⊎◌, inl, inr, FlatDim, IsVertex, SpacePoint, IsPointBelow, SamePoint, Set, point_of, form_of, Plane, Point, carriers, FlatDim-one, FlatDim-by_germs, germs-by_cell, signs-same, same-point_sym, Map, IsAt, at-one, Cone, Least, Ordered, InOrder, Carriers, map_of, IsLeastMap, SphereMap, contains-at, some-at, at-some, map-at, at-map, at-before, at-last, at-more, vertex_of, AreVerticesOf, AreHolders, AreInOrder, AreVertexHolders, Vertex, Outcome, MapSource, ArePointsInOrder, IsOtherOf, IsOutcomeAt, AreOutcomesOf, Begins, vertex_at, IsAdded, AreBegun, HasSourceAt, AreThere, IsFilled, AreFilledTo, is-at_none}
+use Rattle.nef_result.proofs.Prelude.{◌≡◌, ℕ, ◌<◌, ◌+◌, List, [], ◌∷◌, ◌++◌, length, map, arith, refl, ap, sym, subst, ◌∙◌, ◌⊎◌, inl, inr, FlatDim, IsVertex, SpacePoint, IsPointBelow, SamePoint, Set, point_of, form_of, Plane, Point, carriers, FlatDim-one, FlatDim-by_germs, germs-by_cell, signs-same, same-point_sym, Map, IsAt, is-at_one, Cone, Least, Ordered, InOrder, Carriers, map_of, IsLeastMap, SphereMap, contains-at, is-at_map, map-is_at, is-at_left, is-at_last, is-at_more, vertex_of, AreVerticesOf, AreHolders, AreInOrder, AreVertexHolders, Vertex, Outcome, MapSource, ArePointsInOrder, IsOtherOf, IsOutcomeAt, AreOutcomesOf, Begins, vertex_at, IsAdded, AreBegun, HasSourceAt, AreThere, IsFilled, AreFilledTo, is-at_none}
 use Rattle.law_sphere.proofs.Dimensions.{volume-dimension, facet-dimension, edge-dimension}
 use Rattle.law_complex.specs.Complexes.{Vertex as PlainVertex}
-use Rattle.nef_smap.proofs.SideLists.{at-some as element-at}
+use Rattle.nef_smap.proofs.SideLists.{is-at_some as element-at}
 use Rattle.nef_spair.specs.Kinds.{IsVertexMap}
 use Rattle.nef_spair.specs.declared.answer.Kind.TheVariants.{Vertex as vertex_kind}
 use Rattle.nef_spair.proofs.OneKind.{fits}
-use Rattle.nef_edges.proofs.Places.{at-within}
 use Rattle.nef_result.specs.declared.outcome.Outcome.TheVariants as outcome
+use Rattle.nef_space.proofs.Lists.{is-at_within}
 
 -- ---- one point after another
 pub begun-none : (ps : List Point) → AreBegun ps [] [] []
@@ -17,8 +17,8 @@ module _ (ps : List Point) (os : List Outcome) (vs : List Vertex) (fs : List Map
   begun-left : o ≡ outcome.Gone → AreBegun ps (os ++ o ∷ []) vs fs
   begun-left n = record {
     alike = B.alike;
-    each = λ i v f a b. let e = B.each i v f a b in (e.0, e.1, e.2, at-before os (o ∷ []) e.0 e.1 e.3, e.4);
-    all = λ k p l a b h. all k p l a h (at-more os o k l b);
+    each = λ i v f a b. let e = B.each i v f a b in (e.0, e.1, e.2, is-at_left os (o ∷ []) e.0 e.1 e.3, e.4);
+    all = λ k p l a b h. all k p l a h (is-at_more os o k l b);
     ordered = B.ordered;
   }
     where
@@ -29,9 +29,9 @@ module _ (ps : List Point) (os : List Outcome) (vs : List Vertex) (fs : List Map
   begun-kept : ArePointsInOrder ps → (p : Point) → IsAt ps (length os) p → (m : SphereMap) (f : MapSource) → Begins o m f → AreBegun ps (os ++ o ∷ []) (vs ++ vertex_at p m ∷ []) (fs ++ f ∷ [])
   begun-kept r p here m f begins = record {
     alike = let n = length-more vs (vertex_at p m) in let k = length-more fs f in let e = B.alike in omega (arith, n, k, e);
-    each = λ k v g a b. each k v g (at-more vs (vertex_at p m) k v a) (at-more fs f k g b);
-    all = λ k q l a b h. all k q l a h (at-more os o k l b);
-    ordered = λ j k u v l a b. ordered j k u v l (at-more vs (vertex_at p m) j u a) (at-more vs (vertex_at p m) k v b);
+    each = λ k v g a b. each k v g (is-at_more vs (vertex_at p m) k v a) (is-at_more fs f k g b);
+    all = λ k q l a b h. all k q l a h (is-at_more os o k l b);
+    ordered = λ j k u v l a b. ordered j k u v l (is-at_more vs (vertex_at p m) j u a) (is-at_more vs (vertex_at p m) k v b);
   }
     where
       length-more : {A : Type 0} (xs : List A) (x : A) → length (xs ++ x ∷ []) ≡ length xs + 1
@@ -42,14 +42,14 @@ module _ (ps : List Point) (os : List Outcome) (vs : List Vertex) (fs : List Map
       Each v g = (k : ℕ) × (l : Outcome) × IsAt ps k v.point × IsAt (os ++ o ∷ []) k l × Begins l v.map g
 
       each : (k : ℕ) (v : Vertex) (g : MapSource) → IsAt vs k v ⊎ ((k ≡ length vs) × (vertex_at p m ≡ v)) → IsAt fs k g ⊎ ((k ≡ length fs) × (f ≡ g)) → Each v g
-      each k v g (inl a) (inl b) = let e = B.each k v g a b in (e.0, e.1, e.2, at-before os (o ∷ []) e.0 e.1 e.3, e.4)
-      each k v g (inl a) (inr e) = let l = at-within vs k v a in let d = e.0 in let n = B.alike in absurd (omega (arith, l, d, n))
-      each k v g (inr e) (inl b) = let l = at-within fs k g b in let d = e.0 in let n = B.alike in absurd (omega (arith, l, d, n))
-      each k v g (inr e) (inr d) = subst (λ (w : Vertex). Each w g) e.1 (subst (Each (vertex_at p m)) d.1 (length os, o, here, at-last os o, begins))
+      each k v g (inl a) (inl b) = let e = B.each k v g a b in (e.0, e.1, e.2, is-at_left os (o ∷ []) e.0 e.1 e.3, e.4)
+      each k v g (inl a) (inr e) = let l = is-at_within vs k v a in let d = e.0 in let n = B.alike in absurd (omega (arith, l, d, n))
+      each k v g (inr e) (inl b) = let l = is-at_within fs k g b in let d = e.0 in let n = B.alike in absurd (omega (arith, l, d, n))
+      each k v g (inr e) (inr d) = subst (λ (w : Vertex). Each w g) e.1 (subst (Each (vertex_at p m)) d.1 (length os, o, here, is-at_last os o, begins))
 
       all : (k : ℕ) (q : Point) (l : Outcome) → IsAt ps k q → (l ≡ outcome.Gone → ⊥) → IsAt os k l ⊎ ((k ≡ length os) × (o ≡ l)) → (j : ℕ) × (v : Vertex) × IsAt (vs ++ vertex_at p m ∷ []) j v × (v.point ≡ q)
-      all k q l a h (inl b) = let e = B.all k q l a b h in (e.0, e.1, at-before vs (vertex_at p m ∷ []) e.0 e.1 e.2, e.3)
-      all k q l a h (inr e) = (length vs, vertex_at p m, at-last vs (vertex_at p m), at-one ps (length os) p q here (subst (λ (n : ℕ). IsAt ps n q) e.0 a))
+      all k q l a h (inl b) = let e = B.all k q l a b h in (e.0, e.1, is-at_left vs (vertex_at p m ∷ []) e.0 e.1 e.2, e.3)
+      all k q l a h (inr e) = (length vs, vertex_at p m, is-at_last vs (vertex_at p m), is-at_one ps (length os) p q here (subst (λ (n : ℕ). IsAt ps n q) e.0 a))
 
       IsBefore : Vertex → Vertex → Type 0
       IsBefore u v = IsPointBelow (point_of u.point) (point_of v.point)
@@ -57,15 +57,15 @@ module _ (ps : List Point) (os : List Outcome) (vs : List Vertex) (fs : List Map
       -- what was added before is at an earlier point
       before : (j : ℕ) (u : Vertex) → IsAt vs j u → IsBefore u (vertex_at p m)
       before j u a =
-          let l = at-within vs j u a in let n = B.alike in
+          let l = is-at_within vs j u a in let n = B.alike in
           let g = element-at fs j (omega (arith, l, n)) in
           let e = B.each j u g.0 a g.1 in
-          r e.0 (length os) u.point p (at-within os e.0 e.1 e.3) e.2 here
+          r e.0 (length os) u.point p (is-at_within os e.0 e.1 e.3) e.2 here
 
       ordered : (j k : ℕ) (u v : Vertex) → j < k → IsAt vs j u ⊎ ((j ≡ length vs) × (vertex_at p m ≡ u)) → IsAt vs k v ⊎ ((k ≡ length vs) × (vertex_at p m ≡ v)) → IsBefore u v
       ordered j k u v l (inl a) (inl b) = B.ordered j k u v l a b
       ordered j k u v l (inl a) (inr e) = subst (IsBefore u) e.1 (before j u a)
-      ordered j k u v l (inr e) (inl b) = let h = at-within vs k v b in let d = e.0 in absurd (omega (arith, l, h, d))
+      ordered j k u v l (inr e) (inl b) = let h = is-at_within vs k v b in let d = e.0 in absurd (omega (arith, l, h, d))
       ordered j k u v l (inr e) (inr f) = let d = e.0 in let h = f.0 in absurd (omega (arith, l, d, h))
 
   pub begun-added : ArePointsInOrder ps → (p : Point) → IsAt ps (length os) p → (ws : List Vertex) (gs : List MapSource) → IsAdded p o vs fs ws gs → AreBegun ps (os ++ o ∷ []) ws gs
@@ -98,7 +98,7 @@ point-same y p q e = subst (λ (r : Point). SamePoint (point_of r) y) (sym e)
 
 -- ---- carriers
 pub carriers-in-order : (s : Set) (hs : List Plane) → Carriers s (map form_of hs) → AreInOrder hs
-carriers-in-order s hs C i j g h l a b = C.ordered i j (form_of g) (form_of h) l (at-map form_of hs i g (some-at hs i g a)) (at-map form_of hs j h (some-at hs j h b))
+carriers-in-order s hs C i j g h l a b = C.ordered i j (form_of g) (form_of h) l (map-is_at form_of hs i g a) (map-is_at form_of hs j h b)
 
 -- ---- what the outcome says of a vertex
 module _ (us vs : List Vertex) where
@@ -116,12 +116,12 @@ module _ (us vs : List Vertex) where
   good-by s p (outcome.Stays o k) m n f i b h =
       let g = subst (λ (r : MapSource). IsFilled us vs r m n) b h in
       let v = i.1 in
-      let e : v.0.map ≡ n = ap (λ (w : Vertex). w.map) (at-one _ k v.0 g.0 v.1.0 g.1) ∙ sym g.2 in
+      let e : v.0.map ≡ n = ap (λ (w : Vertex). w.map) (is-at_one _ k v.0 g.0 v.1.0 g.1) ∙ sym g.2 in
       (i.0, subst IsLeastMap e v.2, subst (λ (r : SphereMap). Cone (map_of r) s p) e v.3)
   good-by s p (outcome.Turned o k) m n f i b h =
       let g = subst (λ (r : MapSource). IsFilled us vs r m n) b h in
       let v = i.1 in
-      let e : g.0 ≡ v.0 = at-one _ k g.0 v.0 g.1 v.1.0 in
+      let e : g.0 ≡ v.0 = is-at_one _ k g.0 v.0 g.1 v.1.0 in
       let other = subst (λ (w : Vertex). IsOtherOf w.map n) e g.2 in
       (i.0, other.0, v.3 n other)
   good-by s p outcome.Gone m n f i b h = absurd b
@@ -139,11 +139,11 @@ module _ (s : Set) (hs : List Plane) (ps : List Point) (us vs : List Vertex) (os
     -- what became of a vertex
     became : (i : ℕ) (x : Vertex) → IsAt xs i x → (y : Vertex) × (f : MapSource) × IsAt ys i y × IsAt fs i f × (x.point ≡ y.point) × IsFilled us vs f y.map x.map
     became i x a =
-        let l = at-within xs i x a in let n = F.alike in let k = B.alike in
+        let l = is-at_within xs i x a in let n = F.alike in let k = B.alike in
         let y = element-at ys i (omega (arith, l, n)) in
         let f = element-at fs i (omega (arith, l, n, k)) in
-        let d = F.done i y.0 f.0 (at-within fs i f.0 f.1) y.1 f.1 in
-        let e = at-one xs i d.0 x d.1 a in
+        let d = F.done i y.0 f.0 (is-at_within fs i f.0 f.1) y.1 f.1 in
+        let e = is-at_one xs i d.0 x d.1 a in
         (y.0, f.0, y.1, f.1, subst (λ (w : Vertex). w.point ≡ y.0.point) e d.2, subst (λ (w : Vertex). IsFilled us vs f.0 y.0.map w.map) e d.3)
 
     good : (i : ℕ) (x : Vertex) → IsAt xs i x → IsVertex s (point_of x.point) × IsLeastMap x.map × Cone (map_of x.map) s (point_of x.point)
@@ -165,29 +165,29 @@ module _ (s : Set) (hs : List Plane) (ps : List Point) (us vs : List Vertex) (os
         let q = A.complete y v in
         let p = q.0 in
         let k = contains-at ps p q.1 in
-        let l = at-within ps k.0 p k.1 in let n = A.alike in
+        let l = is-at_within ps k.0 p k.1 in let n = A.alike in
         let o = element-at os k.0 (omega (arith, l, n)) in
         let there = vertex-same s y (point_of p) (same-point_sym (point_of p) y q.2) v in
         let r = A.right k.0 p o.0 k.1 o.1 in
         let e = B.all k.0 p o.0 k.1 o.1 (λ g. subst (IsOutcomeAt us vs s (point_of p)) g r there) in
-        let m = at-within ys e.0 e.1 e.2 in let j = B.alike in
+        let m = is-at_within ys e.0 e.1 e.2 in let j = B.alike in
         let f = element-at fs e.0 (omega (arith, m, j)) in
-        let d = F.done e.0 e.1 f.0 (at-within fs e.0 f.0 f.1) e.2 f.1 in
-        (e.0, vertex_of d.0, at-map vertex_of xs e.0 d.0 d.1, point-same y p d.0.point (d.2 ∙ e.3) q.2)
+        let d = F.done e.0 e.1 f.0 (is-at_within fs e.0 f.0 f.1) e.2 f.1 in
+        (e.0, vertex_of d.0, map-is_at vertex_of xs e.0 d.0 d.1, point-same y p d.0.point (d.2 ∙ e.3) q.2)
 
     -- what holds of each vertex of the program holds of each vertex
     each-vertex : (P : PlainVertex → Type 0) → ((i : ℕ) (v : Vertex) → IsAt xs i v → P (vertex_of v)) → (n : ℕ) (v : PlainVertex) → IsAt (map vertex_of xs) n v → P v
-    each-vertex P f n v a = let u = map-at vertex_of xs n v a in subst P u.2 (f n u.0 u.1)
+    each-vertex P f n v a = let u = is-at_map vertex_of xs n v a in subst P u.2 (f n u.0 u.1)
 
     placed-plain : InOrder (λ u v. IsPointBelow u.point v.point) (map vertex_of xs)
     placed-plain i k x y h a b =
-        let u = map-at vertex_of xs i x a in let v = map-at vertex_of xs k y b in
+        let u = is-at_map vertex_of xs i x a in let v = is-at_map vertex_of xs k y b in
         subst (λ (w : PlainVertex). IsPointBelow x.point w.point) v.2 (subst (λ (w : PlainVertex). IsPointBelow w.point (point_of v.0.point)) u.2 (placed i k u.0 v.0 h u.1 v.1))
 
     pub are-vertices : AreVerticesOf s hs xs
     are-vertices = record {
-      sorted = λ i k u v l a b. placed i k u v l (some-at xs i u a) (some-at xs k v b);
-      maps = λ k v a. (good k v (some-at xs k v a)).1;
+      sorted = λ i k u v l a b. placed i k u v l a b;
+      maps = λ k v a. (good k v a).1;
       shown = λ es E. record {
         vertices = each-vertex (λ v. IsVertex s v.point) (λ i v a. (good i v a).0);
         complete = complete;
@@ -205,8 +205,8 @@ module _ (s : Set) (hs : List Plane) (ps : List Point) (us vs : List Vertex) (os
     are-held gs rows H = record {
       as_many = H.as_many ∙ sym F.alike;
       each = λ k x ns a b.
-          let u = became k x (some-at xs k x a) in
-          subst (λ (q : Point). AreHolders gs (point_of q) (point_of q) ns) (sym u.4) (H.each k u.0 ns (at-some ys k u.0 u.2) b);
+          let u = became k x a in
+          subst (λ (q : Point). AreHolders gs (point_of q) (point_of q) ns) (sym u.4) (H.each k u.0 ns u.2 b);
     }
 
 -- ---- the same lists as they are handed on

@@ -1,7 +1,8 @@
 -- Lists of results that are there.
 use Rattle.nef_sched.proofs.Prelude.{◌≡◌, ℕ, zero, suc, ◌+◌, ◌<◌, List, [], ◌∷◌, ◌++◌, length, refl, ap, sym, ◌∙◌, arith, ◌⊎◌, inl, inr, Option, Some, None, slice_get, slice_set, slice_index_or, All, IfSome, IsSomeAnd, true, false, subst, option_map, is_some, is_err, OnOk, Result, Ok, Err, length-append, length-set, RoundPass, times, flat, kept, IsKept, IsReady, AreSound, AreReady, HasWorked, parts, total_parts, total_worked}
 use Rattle.std.specs.Prelude.{◌≤◌}
-use Rattle.nef_sched.proofs.Totals.{counts, counts_itself, same_or_not}
+use Rattle.nef_sched.proofs.Totals.{counts, counts_itself}
+use Rattle.nef_core.proofs.Places.{same_or_not}
 
 none_differs : {X : Type 0} (x : X) → None ≡ Some x → ⊥
 none_differs x e = cc

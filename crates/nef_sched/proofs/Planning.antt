@@ -1,8 +1,9 @@
 -- Rounds of numbers, and which results are there before each.
 use Rattle.nef_sched.proofs.Prelude.{◌≡◌, ◌≢◌, ℕ, zero, suc, ◌+◌, ◌<◌, ◌≤◌, ◌⊎◌, inl, inr, max, cond, Bool, List, [], ◌∷◌, ◌++◌, length, refl, ap, sym, ◌∙◌, arith, subst, Option, Some, None, slice_get, slice_set, slice_index_or, All, IfSome, ne_eqb, slice_index, length-append, get_or_append_left, get_or_at, get_or-set_same, slice_get_read, get_or_from_slice_get, one, times, NeedsOf, IsKept, HasNeeds, AreSound, round_after, AreRounds, IsRoundList}
 use Rattle.std.proofs.Math.Nat.{le-max_left, le-max_right, max-le}
-use Rattle.nef_sched.proofs.Totals.{weigh_append, counts_itself, same_or_not}
+use Rattle.nef_sched.proofs.Totals.{weigh_append, counts_itself}
 use Rattle.nef_sched.proofs.Outs.{all_in, all_next, ready_of, times_at}
+use Rattle.nef_core.proofs.Places.{same_or_not}
 
 none_or_some : (m : ℕ) → (m ≡ 0) ⊎ (0 < m)
 none_or_some zero = inl refl

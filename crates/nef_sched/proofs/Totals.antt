@@ -2,6 +2,7 @@
 use Rattle.nef_sched.proofs.Prelude.{◌≡◌, ◌≢◌, ℕ, zero, suc, ◌+◌, ◌≤◌, cond, List, [], ◌∷◌, ◌++◌, length, set, refl, ap, sym, arith, ◌⊎◌, inl, inr, Bool, eq-eqb, ne_eqb, View, weigh, one, total}
 use mathlib.Core.Option.{some, some-injective, some-ne-none}
 use lib.ListN.{get_elem?}
+use Rattle.nef_core.proofs.Places.{same_or_not}
 
 pub weigh_append : (h : ℕ → ℕ) (xs ys : List ℕ) → weigh h (xs ++ ys) ≡ weigh h xs + weigh h ys
 weigh_append h [] ys = omega arith
@@ -10,12 +11,6 @@ weigh_append h (x ∷ xs) ys = let e = weigh_append h xs ys in omega arith
 pub weigh_one : (xs : List ℕ) → weigh (λ y. 1) xs ≡ length xs
 weigh_one [] = refl
 weigh_one (x ∷ xs) = let e = weigh_one xs in omega arith
-
-pub same_or_not : (i j : ℕ) → (i ≡ j) ⊎ (i ≢ j)
-same_or_not zero zero = inl refl
-same_or_not zero (suc j) = inr (λ e. omega arith)
-same_or_not (suc i) zero = inr (λ e. omega arith)
-same_or_not (suc i) (suc j) = elim (same_or_not i j) [ inl e ↦ inl (ap suc e) | inr n ↦ inr (λ e. n (omega arith)) ]
 
 -- a number counts for itself, and for no other
 pub counts : (y x : ℕ) → ((y ≡ x) × (one x y ≡ 1)) ⊎ (one x y ≡ 0)

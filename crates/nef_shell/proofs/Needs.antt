@@ -5,17 +5,13 @@ use Rattle.std.specs.Prelude.{true, false}
 use Rattle.nef_shell.proofs.Kept.{new-held, put-only, there-shown}
 use Rattle.nef_shell.proofs.Sets.{value-at}
 use Rattle.nef_shell.proofs.Uses.{awaited-made}
+use Rattle.nef_expr.proofs.Places.{slice_get-left}
 
 -- what stands for a value behind a list of them
 abbrev pub no-early : Early
 no-early = record { value = 0; needs = record { first = None; second = None } }
 
 -- ---- lists with one more at their ends
-pub kept-left : {X : Type 0} (xs ys : List X) (k : ℕ) (x : X) → slice_get xs k ≡ Some x → slice_get (xs ++ ys) k ≡ Some x
-kept-left [] ys k x e = let f : None ≡ Some x = e in cc
-kept-left (y ∷ xs) ys zero x e = e
-kept-left (y ∷ xs) ys (suc k) x e = kept-left xs ys k x e
-
 pub at-last : {X : Type 0} (xs : List X) (x : X) → slice_get (xs ++ x ∷ []) (length xs) ≡ Some x
 at-last [] x = refl
 at-last (y ∷ xs) x = at-last xs x
@@ -29,7 +25,7 @@ old-or-last (z ∷ xs) y (suc k) x e = elim (old-or-last xs y k x e) [ inl o ↦
 
 -- ---- one more value that is worked ahead
 at-more : (old : List Early) (e : Early) (n k : ℕ) → IsEarlyAt old n k → IsEarlyAt (old ++ e ∷ []) n k
-at-more old e n k (d, at, is) = (d, kept-left old (e ∷ []) n d at, is)
+at-more old e n k (d, at, is) = (d, slice_get-left old (e ∷ []) n d at, is)
 
 module _ {X : Type 0} (steps : List Step) (values : List (Option X)) where
   needed-more : (old : List Early) (e : Early) (n : ℕ) (operand need : Option ℕ) → IsOperandKept values old n operand need → IsOperandKept values (old ++ e ∷ []) n operand need

@@ -4,8 +4,9 @@ use Rattle.nef_script.specs.declared.arguments.Verb.TheVariants as verb
 use Rattle.nef_script.specs.declared.script.Command.TheVariants.{Turn}
 use Rattle.nef_statement.proofs.Bound.{names_in, Agree, IsFound, named, bound-same}
 use Rattle.nef_statement.proofs.Counts.{count-same}
-use Rattle.nef_statement.proofs.Moved.{label-moved, joined-answer-moved, ray-answer-moved, same-answer, joined-answer, ray-answer}
+use Rattle.nef_statement.proofs.Moved.{joined-answer-moved, ray-answer-moved, same-answer, joined-answer, ray-answer}
 use Rattle.nef_statement.proofs.Walk.{no-words, Walked, begun, next, after-empty, none-left}
+use Rattle.nef_unique.proofs.Sets.{label-moved}
 
 -- ---- one line
 module _ (version : TextVersion) (ss : Sets) (ordered : IsOrdered ss.nodes) (sets : Bindings) (agree : Agree ss.nodes sets ss.bound) where

@@ -1,6 +1,6 @@
 -- The ends of the program's arcs.
 use Rattle.nef_smap.proofs.Prelude.{◌≡◌, ℕ, ◌<◌, pos, length, map, Some, arith, subst, slice_get, length-map, normal_limit, svertex_limit, Vector, IsDirection, IsAtMost, dot, IsOnCircle, vector_of, IsAt, arc_item, items, dir_of, normal-is, dir-at, Ends, ends-of, at-arc, SVertex, SArc, SphereMap, svertex_of, arc_of, map_of, IsSphereMap}
-use Rattle.nef_smap.proofs.Lists.{map-from_get, at-within}
+use Rattle.nef_space.proofs.Lists.{is-at_within, map-is_at}
 
 -- what holds of the svertex at an end of an arc
 pub record EndOf (m : SphereMap) (a : SArc) (k : ℕ) (v : SVertex) : Type 0 where
@@ -22,14 +22,14 @@ module _ (m : SphereMap) (S : IsSphereMap m) (i : ℕ) (a : SArc) (h : IsAt (map
   normal-small = S.small.normals i (arc_item (arc_of a)) listed
 
   pub source-within : a.source < length m.svertices
-  source-within = let b = ends in let q = at-within (map svertex_of m.svertices) a.source b.source b.has_source in let e = length-map m.svertices svertex_of in omega arith
+  source-within = let b = ends in let q = is-at_within (map svertex_of m.svertices) a.source b.source b.has_source in let e = length-map m.svertices svertex_of in omega arith
 
   pub target-within : a.target < length m.svertices
-  target-within = let b = ends in let q = at-within (map svertex_of m.svertices) a.target b.target b.has_target in let e = length-map m.svertices svertex_of in omega arith
+  target-within = let b = ends in let q = is-at_within (map svertex_of m.svertices) a.target b.target b.has_target in let e = length-map m.svertices svertex_of in omega arith
 
   end-of : (k : ℕ) (v : SVertex) → slice_get m.svertices k ≡ Some v → dot (vector_of a.normal) (dir_of (map_of m).svertices k) ≡ pos 0 → EndOf m a k v
   end-of k v e l =
-      let b = map-from_get svertex_of m.svertices k v e in
+      let b = map-is_at svertex_of m.svertices k v e in
       let w = dir-at (map svertex_of m.svertices) k (svertex_of v) b in
       record {
         dir = w;

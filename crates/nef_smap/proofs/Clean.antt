@@ -1,5 +1,5 @@
 -- Close to a direction that is free, on an item, or on a svertex without arcs: what lies over close directions lies over it, but for its item seen from below.
-use Rattle.nef_smap.proofs.Prelude.{◌≡◌, ℕ, pos, ◌+ℤ◌, ◌-ℤ◌, ◌*ℤ◌, ◌≤ℤ◌, ◌<ℤ◌, arith, ap, sym, ◌∙◌, inl, inr, ⊎_elim, [], ◌∷◌, subst, ints, ring, at, num, ◌⊕◌, ◌⊖◌, ◌⊗◌, sign, by_order, mul_pos, sign-scaled, Vector, IsDirection, cross, dot, SameDirection, IsAt, MapVertex, Map, Item, items, item_normal, OnItem, IsFree, HasArc, Shaped, Keeps, forms, at-one, kept-plus, item-forms, normal-form, on-direction, on-level, OnItem-stays, product-off, arc-at, rise, rise_form, over_forms, IsOver, IsFirstItem}
+use Rattle.nef_smap.proofs.Prelude.{◌≡◌, ℕ, pos, ◌+ℤ◌, ◌-ℤ◌, ◌*ℤ◌, ◌≤ℤ◌, ◌<ℤ◌, arith, ap, sym, ◌∙◌, inl, inr, ⊎_elim, [], ◌∷◌, subst, ints, ring, at, num, ◌⊕◌, ◌⊖◌, ◌⊗◌, sign, by_order, mul_pos, sign-scaled, Vector, IsDirection, cross, dot, SameDirection, IsAt, MapVertex, Map, Item, items, item_normal, OnItem, IsFree, HasArc, Shaped, Keeps, forms, is-at_one, kept-plus, item-forms, normal-form, on-direction, on-level, OnItem-stays, product-off, arc-at, rise, rise_form, over_forms, IsOver, IsFirstItem}
 use Rattle.nef_smap.proofs.Rise.{rise-is, rise-level, rise_form-value, rise-meridian, form-over, meridian-over}
 use Rattle.nef_smap.proofs.Over.{Touches, meets, ends, touches-back, touches-on}
 use Rattle.nef_smap.proofs.Close.{Clean}
@@ -35,7 +35,7 @@ module _ (M : Map) (V : Shaped M) (u : Vector) (ahead : (k : ℕ) (x : Item) →
     pub item-clean : (i : ℕ) (x : Item) → IsAt (items M) i x → OnItem M x d → pos 0 <ℤ dot (item_normal x) z → Clean M V u ahead d f z
     item-clean i x a p h k y b q o =
         let e = touches-on M V i k x y d a b p (over-at (on-direction M x d p) k y b q o) in
-        let w = at-one (items M) k x y (subst (λ (j : ℕ). IsAt (items M) j x) e a) b in
+        let w = is-at_one (items M) k x y (subst (λ (j : ℕ). IsAt (items M) j x) e a) b in
         let c = subst (λ (r : Item). pos 0 <ℤ dot (item_normal r) z) w h in
         let l = o.below in omega (arith, ints)
 
@@ -68,7 +68,7 @@ module _ (M : Map) (V : Shaped M) (u : Vector) (ahead : (k : ℕ) (x : Item) →
       at-x : (k : ℕ) (y : Item) → IsAt (items M) k y → Touches M y d → pos 0 ≤ℤ dot (item_normal x) (rise u (item_normal y) z)
       at-x k y b t =
           let e = touches-on M V i k x y d a b p t in
-          let w = at-one (items M) k x y (subst (λ (j : ℕ). IsAt (items M) j x) e a) b in
+          let w = is-at_one (items M) k x y (subst (λ (j : ℕ). IsAt (items M) j x) e a) b in
           let c = rise-level u (item_normal x) z in
           subst (λ (r : Item). pos 0 ≤ℤ dot (item_normal x) (rise u (item_normal r) z)) w (omega (arith, ints))
 

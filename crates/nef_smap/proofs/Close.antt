@@ -1,8 +1,9 @@
 -- What lies over directions close to d: what meets or ends over d.
-use Rattle.nef_smap.proofs.Prelude.{◌≡◌, ℕ, ℤ, pos, ◌+ℤ◌, ◌-ℤ◌, ◌*ℤ◌, ◌≤ℤ◌, ◌<ℤ◌, arith, ap, sym, ◌∙◌, [], ◌∷◌, subst, None, ints, ring, at, num, ◌⊕◌, ◌⊖◌, ◌⊗◌, follows, given, none, sign, by_order, mul_pos, Vector, IsDirection, cross, dot, SameDirection, same-nought, IsAt, MapVertex, Map, Item, items, item_normal, Shaped, Keeps, same-plus, same-minus, at-one, kept-plus, kept-minus, item-forms, normal-form, OnItem-stays, OnItem-by_signs, IsZero-times, cross-self, rise, over_forms, IsOver, IsFirst, IsFirstItem, self-pos, dir-signs}
+use Rattle.nef_smap.proofs.Prelude.{◌≡◌, ℕ, ℤ, pos, ◌+ℤ◌, ◌-ℤ◌, ◌*ℤ◌, ◌≤ℤ◌, ◌<ℤ◌, arith, ap, sym, ◌∙◌, [], ◌∷◌, subst, None, ints, ring, at, num, ◌⊕◌, ◌⊖◌, ◌⊗◌, follows, given, none, sign, by_order, mul_pos, Vector, IsDirection, cross, dot, SameDirection, same-nought, IsAt, MapVertex, Map, Item, items, item_normal, Shaped, Keeps, same-plus, same-minus, is-at_one, kept-plus, kept-minus, item-forms, normal-form, OnItem-stays, OnItem-by_signs, IsZero-times, cross-self, rise, over_forms, IsOver, IsFirst, IsFirstItem, self-pos, dir-signs}
 use Rattle.nef_smap.proofs.Rise.{rise-is, rise-level, rise_form-value, rise-keeps, form-over, meridian-over}
 use Rattle.nef_smap.proofs.Over.{Touches, meets, ends, touches-back, touches-on, rises-together}
 use Rattle.nef_smap.proofs.Lowest.{share_d, share_u, LiesOver}
+use Rattle.law_sphere.proofs.building.RayClose.{cross-last}
 
 -- ---- the meet is a direction, and so are its values
 pub rise-direction : (u n d : Vector) → pos 0 <ℤ dot n u → IsDirection (cross u d) → IsDirection (rise u n d)
@@ -44,9 +45,6 @@ turn-self u d =
       ring xs ((ly ⊗ uz ⊖ lz ⊗ uy) ⊗ dx ⊕ (lz ⊗ ux ⊖ lx ⊗ uz) ⊗ dy ⊕ (lx ⊗ uy ⊖ ly ⊗ ux) ⊗ dz) (lx ⊗ lx ⊕ ly ⊗ ly ⊕ lz ⊗ lz) tt,
       ring xs ((dy ⊗ lz ⊖ dz ⊗ ly) ⊗ ux ⊕ (dz ⊗ lx ⊖ dx ⊗ lz) ⊗ uy ⊕ (dx ⊗ ly ⊖ dy ⊗ lx) ⊗ uz) (lx ⊗ lx ⊕ ly ⊗ ly ⊕ lz ⊗ lz) tt,
     )
-
-pub cross-last : (a b : Vector) → dot (cross a b) b ≡ pos 0
-cross-last a b = ring (a.x ∷ a.y ∷ a.z ∷ b.x ∷ b.y ∷ b.z ∷ []) ((at 1 ⊗ at 5 ⊖ at 2 ⊗ at 4) ⊗ at 3 ⊕ (at 2 ⊗ at 3 ⊖ at 0 ⊗ at 5) ⊗ at 4 ⊕ (at 0 ⊗ at 4 ⊖ at 1 ⊗ at 3) ⊗ at 5) (num (pos 0)) tt
 
 -- a direction along the meet lies over d
 rise-over : (u n d v : Vector) → pos 0 <ℤ dot n u → dot n d <ℤ pos 0 → IsDirection (cross u d) → IsDirection v → SameDirection v (rise u n d) → LiesOver u d v
@@ -141,6 +139,6 @@ module _ (M : Map) (V : Shaped M) (u : Vector) (ahead : (k : ℕ) (x : Item) →
             level z =
                 let on : _ = OnItem-by_signs M F.item (rise u m d) r (λ g l. sym (rises-together u d m (item_normal y) g (ahead i F.item F.listed) (ahead k y a) z)) F.over.on in
                 let q = touches-on M V i k F.item y r F.listed a on t in
-                let w = at-one (items M) k F.item y (subst (λ (j : ℕ). IsAt (items M) j F.item) q F.listed) a in
+                let w = is-at_one (items M) k F.item y (subst (λ (j : ℕ). IsAt (items M) j F.item) q F.listed) a in
                 let c = rise-level u m e in
                 subst (λ (x : Item). pos 0 ≤ℤ dot m (rise u (item_normal x) e)) w (omega (arith, ints))

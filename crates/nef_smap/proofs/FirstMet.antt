@@ -1,6 +1,6 @@
 -- The way to the first item that is met is clear; and of three meets, the first is before the last.
 use Rattle.nef_smap.proofs.Prelude.{◌≡◌, ℕ, ◌<◌, ℤ, pos, ◌+ℤ◌, ◌*ℤ◌, ◌-ℤ◌, ◌<ℤ◌, arith, ap, sym, ◌∙◌, [], ◌∷◌, length, subst, ints, ring, at, num, ◌⊕◌, ◌⊖◌, ◌⊗◌, follows, given, none, sign, by_order, mul_pos, mul_nonneg, square_nonneg, sign-scaled, square_pos, Vector, IsDirection, cross, dot, blend, IsAt, MapVertex, Map, Item, items, item_normal, OnItem, IsFree, IsClear, Shaped, dot-comb, direction-by, same-plus, same-minus, on-level, on-direction, OnItem-by_signs, product-off, slid-level, slid-square, cross-self, miss-between, between-off_target, way_meet, IsMetBefore, IsFirstMet, apart}
-use Rattle.nef_smap.proofs.Lists.{at-within}
+use Rattle.nef_space.proofs.Lists.{is-at_within}
 
 -- ---- the order of meets
 pub meet-is : (n g a b : Vector) → dot g (way_meet n a b) ≡ dot n a *ℤ (dot n a *ℤ dot g b -ℤ dot n b *ℤ dot g a)
@@ -128,7 +128,7 @@ module _ (M : Map) (V : Shaped M) (a b : Vector) (F : IsFree M a)
         mul_minus x y h k = let p = mul_pos (pos 0 -ℤ x) (pos 0 -ℤ y) (omega (arith, ints)) (omega (arith, ints)) in let e = ring (x ∷ y ∷ []) ((num (pos 0) ⊖ at 0) ⊗ (num (pos 0) ⊖ at 1)) (at 0 ⊗ at 1) tt in omega (arith, ints)
 
     unmet : ⊥
-    unmet = f.none_before l y (at-within (items M) l y h) h (record { parted = parted; on = OnItem-by_signs M y w (way_meet m a b) (λ g x. signs g) o }) earlier
+    unmet = f.none_before l y (is-at_within (items M) l y h) h (record { parted = parted; on = OnItem-by_signs M y w (way_meet m a b) (λ g x. signs g) o }) earlier
 
   -- the way to where it is met is clear
   pub first-clear : IsClear M a (way_meet (item_normal first) a b)

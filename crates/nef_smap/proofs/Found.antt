@@ -1,20 +1,21 @@
 -- Searching the lists of the program's maps, and where a direction lies.
-use Rattle.nef_smap.proofs.Prelude.{◌≡◌, ℕ, zero, suc, ◌+◌, ◌<◌, ◌≤◌, arith, refl, ap, sym, ◌∙◌, ⊎_elim, List, [], ◌∷◌, length, map, Option, Some, None, subst, slice_get, get_or, ◌↔◌, slice_get_read, length-map, eq-or-lt_of_le, Vector, SameDirection, Label, vector_of, Dir, same_directions_equal, IsAt, MapVertex, Arc, MapSloop, Map, Item, arc_item, sloop_item, items_then, items, item_mark, OnItem, MapLabel, at_svertex, on_item, seen, Side, whole, Sees, at-one, sloop-at, at-arc, arc-at, LabelledSide, sides_of, IsSide, SideSees, IsPlaceOf, svertex_of, arc_of, map_of, SVertex, SphereMap, is-at_within, dir-self}
+use Rattle.nef_smap.proofs.Prelude.{◌≡◌, ℕ, zero, suc, ◌+◌, ◌<◌, ◌≤◌, arith, refl, ap, sym, ◌∙◌, ⊎_elim, List, [], ◌∷◌, length, map, Option, Some, None, subst, slice_get, get_or, ◌↔◌, slice_get_read, length-map, eq-or-lt_of_le, Vector, SameDirection, Label, vector_of, Dir, same_directions_equal, IsAt, MapVertex, Arc, MapSloop, Map, Item, arc_item, sloop_item, items_then, items, item_mark, OnItem, MapLabel, at_svertex, on_item, seen, Side, whole, Sees, is-at_one, sloop-at, at-arc, arc-at, LabelledSide, sides_of, IsSide, SideSees, IsPlaceOf, svertex_of, arc_of, map_of, SVertex, SphereMap, is-at_within, dir-self}
 use Rattle.nef_smap.specs.declared.map.SPlace.TheVariants as place
-use Rattle.nef_smap.proofs.Lists.{map-within, map-from_get, at-within}
+use Rattle.nef_smap.proofs.Lists.{map-within}
 use Rattle.nef_smap.proofs.MapLists.{sloop-listed}
 use Rattle.nef_smap.proofs.SideLists.{side-has}
+use Rattle.nef_space.proofs.Lists.{map-is_at}
 
 -- ---- searching
 module _ {X Y : Type 0} (f : X → Y) (xs : List X) (P : Y → Type 0) where
   pub next-none : (n : ℕ) (x : X) → slice_get xs n ≡ Some x → ((k : ℕ) → k < n → (y : Y) → IsAt (map f xs) k y → P y → ⊥) → (P (f x) → ⊥) → (k : ℕ) → k < n + 1 → (y : Y) → IsAt (map f xs) k y → P y → ⊥
   next-none n x e before here k h y a p = ⊎_elim
-      (λ z. here (subst P (at-one (map f xs) n y (f x) (subst (λ (r : ℕ). IsAt (map f xs) r y) z a) (map-from_get f xs n x e)) p))
+      (λ z. here (subst P (is-at_one (map f xs) n y (f x) (subst (λ (r : ℕ). IsAt (map f xs) r y) z a) (map-is_at f xs n x e)) p))
       (λ l. before k l y a p)
       (eq-or-lt_of_le {n = k} {m = n} (omega arith))
 
   pub all-none : (n : ℕ) → length xs ≤ n → ((k : ℕ) → k < n → (y : Y) → IsAt (map f xs) k y → P y → ⊥) → (k : ℕ) (y : Y) → IsAt (map f xs) k y → P y → ⊥
-  all-none n h before k y a p = before k (let w = at-within (map f xs) k y a in let e = length-map xs f in omega arith) y a p
+  all-none n h before k y a p = before k (let w = is-at_within (map f xs) k y a in let e = length-map xs f in omega arith) y a p
 
 -- the element that a loop over a slice is at
 pub read : {X : Type 0} (xs ys : List X) (n : ℕ) (x : X) → ys ≡ xs → n < length ys → x ≡ get_or ys n x → slice_get xs n ≡ Some x
@@ -51,8 +52,8 @@ module _ (m : SphereMap) (d : Vector) where
   svertex-within k (v, a, s) = map-within svertex_of m.svertices k v a
 
   pub label-svertex : (k : ℕ) (w : SVertex) → slice_get m.svertices k ≡ Some w → IsPlaceOf (map_of m) d (place.SVertex k) → MapLabel (map_of m) d w.mark
-  label-svertex k w e (v, a, s) = let b = map-from_get svertex_of m.svertices k w e in
-      at_svertex k (svertex_of w) b (subst (λ (r : MapVertex). SameDirection r.dir d) (at-one (map svertex_of m.svertices) k v (svertex_of w) a b) s) refl
+  label-svertex k w e (v, a, s) = let b = map-is_at svertex_of m.svertices k w e in
+      at_svertex k (svertex_of w) b (subst (λ (r : MapVertex). SameDirection r.dir d) (is-at_one (map svertex_of m.svertices) k v (svertex_of w) a b) s) refl
 
   -- the item at whose place a direction lies
   pub arc-placed : (k : ℕ) → IsPlaceOf (map_of m) d (place.Arc k) → (x : Item) × IsAt (items (map_of m)) k x × OnItem (map_of m) x d
@@ -71,15 +72,15 @@ module _ (m : SphereMap) (d : Vector) where
   sloop-place k h (sloop_item l) b o = (l, sloop-at (map_of m).arcs (map_of m).sloop k l b, o)
 
   pub label-item : (k : ℕ) (y : Item) (t : Label) → IsAt (items (map_of m)) k y → t ≡ item_mark y → ((x : Item) × IsAt (items (map_of m)) k x × OnItem (map_of m) x d) → MapLabel (map_of m) d t
-  label-item k y t b e (x, a, o) = on_item k y b (subst (λ (r : Item). OnItem (map_of m) r d) (at-one (items (map_of m)) k x y a b) o) (sym e)
+  label-item k y t b e (x, a, o) = on_item k y b (subst (λ (r : Item). OnItem (map_of m) r d) (is-at_one (items (map_of m)) k x y a b) o) (sym e)
 
 -- ---- going over the items of a map
 module _ (M : Map) (P : Item → Type 0) where
   pub none-more : (n : ℕ) (y : Item) → IsAt (items M) n y → (P y → ⊥) → ((k : ℕ) → k < n → (x : Item) → IsAt (items M) k x → P x → ⊥) → (k : ℕ) → k < n + 1 → (x : Item) → IsAt (items M) k x → P x → ⊥
   none-more n y b off before k h x a p = ⊎_elim
-      (λ e. off (subst P (at-one (items M) n x y (subst (λ (i : ℕ). IsAt (items M) i x) e a) b) p))
+      (λ e. off (subst P (is-at_one (items M) n x y (subst (λ (i : ℕ). IsAt (items M) i x) e a) b) p))
       (λ l. before k l x a p)
       (eq-or-lt_of_le {n = k} {m = n} (omega arith))
 
   pub none-of_all : (n : ℕ) → length (items M) ≤ n → ((k : ℕ) → k < n → (x : Item) → IsAt (items M) k x → P x → ⊥) → (k : ℕ) (x : Item) → IsAt (items M) k x → P x → ⊥
-  none-of_all n h before k x a p = before k (let i = at-within (items M) k x a in omega arith) x a p
+  none-of_all n h before k x a p = before k (let i = is-at_within (items M) k x a in omega arith) x a p

@@ -1,5 +1,5 @@
 -- The side that sees a free direction: that of the item which a way close to it meets first, or the only one.
-use Rattle.nef_smap.proofs.Prelude.{◌≡◌, ℕ, zero, suc, ◌+◌, ◌*◌, ◌^◌, ◌≤◌, ℤ, pos, ◌-ℤ◌, ◌*ℤ◌, ◌<ℤ◌, arith, refl, ap, sym, ◌∙◌, inl, ⊎_elim, List, [], ◌∷◌, ◌++◌, length, Option, Some, None, subst, slice_get, negsuc, nat_abs, ◌≤ℤ◌, Bool, true, false, cond, ◌↔◌, not_true, normal_limit, ints, ring, at, num, ◌⊕◌, ◌⊖◌, ◌⊗◌, follows, given, none, sign, nought-is, by_order, mul_pos, nought-or, square_pos, Vector, vector, IsDirection, IsNormal, IsAtMost, triple, cross, dot, blend, up as upward, Label, IsAt, same-off, MapVertex, Arc, MapSloop, Map, Item, arc_item, sloop_item, items, items_then, item_normal, dir_of, OnItem, IsFree, IsClear, around_svertex, pos_item, neg_item, whole, Sees, directly, by_way_of, HasArc, Shaped, Keeps, forms, gather, normal-is, direction-by, amount, far-keeps, far-level, gather-has, at-one, item-forms, normal-form, on-level, on-direction, arc-point, Ends, ends-of, at-arc, product-off, slid, slid-level, slid-square, IsZero-times, cross-self, miss-between, between-off_target, free-around, clear-around, Outlook, outlook, outlook-free, outlook-clear, outlook-svertex, clear-self, IsLarge, SideSees, labelled, svertex_sides, item_sides, way_meet, IsFair, IsFirstMet, self-pos, triple-in_plane, cross-none, dir-self, apart, is-at_none}
+use Rattle.nef_smap.proofs.Prelude.{◌≡◌, ℕ, zero, suc, ◌+◌, ◌*◌, ◌^◌, ◌≤◌, ℤ, pos, ◌-ℤ◌, ◌*ℤ◌, ◌<ℤ◌, arith, refl, ap, sym, ◌∙◌, inl, ⊎_elim, List, [], ◌∷◌, ◌++◌, length, Option, Some, None, subst, slice_get, negsuc, nat_abs, ◌≤ℤ◌, Bool, true, false, cond, ◌↔◌, not_true, normal_limit, ints, ring, at, num, ◌⊕◌, ◌⊖◌, ◌⊗◌, follows, given, none, sign, nought-is, by_order, mul_pos, nought-or, square_pos, Vector, vector, IsDirection, IsNormal, IsAtMost, triple, cross, dot, blend, up as upward, Label, IsAt, same-off, MapVertex, Arc, MapSloop, Map, Item, arc_item, sloop_item, items, items_then, item_normal, dir_of, OnItem, IsFree, IsClear, around_svertex, pos_item, neg_item, whole, Sees, directly, by_way_of, HasArc, Shaped, Keeps, forms, gather, normal-is, direction-by, amount, far-keeps, far-level, gather-has, is-at_one, item-forms, normal-form, on-level, on-direction, arc-point, Ends, ends-of, at-arc, product-off, slid, slid-level, slid-square, IsZero-times, cross-self, miss-between, between-off_target, free-around, clear-around, Outlook, outlook, outlook-free, outlook-clear, outlook-svertex, clear-self, IsLarge, SideSees, labelled, svertex_sides, item_sides, way_meet, IsFair, IsFirstMet, self-pos, triple-in_plane, cross-none, dir-self, apart, is-at_none}
 use Rattle.std.specs.Bool.{IsTrue}
 use Rattle.nef_smap.proofs.FirstMet.{first-clear}
 
@@ -160,7 +160,7 @@ module _ (M : Map) (V : Shaped M) (d : Vector) (F : IsFree M d) (l : MapSloop) (
       direction = direction-by m (blend i d j point) (between-off_target m d point i j si level circle-off);
       off_svertices = λ k v a q. miss-between d v.dir point i j sj (V.svertex_dirs k v a) (off_point k v a) across q;
       off_items = λ k x a o.
-          let e = at-one (items M) 0 x (sloop_item l) (subst (λ (r : ℕ). IsAt (items M) r x) (only k x a) a) h in
+          let e = is-at_one (items M) 0 x (sloop_item l) (subst (λ (r : ℕ). IsAt (items M) r x) (only k x a) a) h in
           between-off_target m d point i j si level circle-off (on-level M (sloop_item l) (blend i d j point) (subst (λ (y : Item). OnItem M y (blend i d j point)) e o));
     };
   }

@@ -1,7 +1,8 @@
 -- Lists of links, link by link.
-use Rattle.nef_smap.proofs.Prelude.{◌≡◌, ℕ, zero, suc, ◌+◌, ◌<◌, arith, length-append, refl, ap, sym, ◌∙◌, ⊎_elim, List, [], ◌∷◌, ◌++◌, length, subst, Option, Some, None, Bor, IsAt, up, Label, MapVertex, Arc, MapSloop, Map, sloop_item, items, items_then, around_svertex, pos_item, whole, at-one, Link, labelled, svertex_sides, item_sides, sides_of, AreLinked, SphereMap, BelowFirsts, BelowFirst, ArcFirst, SloopFirst, met_number, IsJoin, join_below, join_around, join_arc, join_sloop, join_ground, AreJoins, one_if_label, arounds_before, side_number, JoinsBelow, JoinsAround, JoinsArc, JoinsSloop, JoinsGround, HasLink, ComesOf, AreEach, AreArounds, AreSloops, AreGrounds, less-or-last, Either, earlier, last, is-at_either, is-at_left, is-at_last, is-at_some, is-at_parts, is-at_right, is-at_none, is-at_first}
-use Rattle.nef_smap.proofs.Lists.{at-within}
+use Rattle.nef_smap.proofs.Prelude.{◌≡◌, ℕ, zero, suc, ◌+◌, ◌<◌, arith, length-append, refl, ap, sym, ◌∙◌, ⊎_elim, List, [], ◌∷◌, ◌++◌, length, subst, Option, Some, None, Bor, IsAt, up, Label, MapVertex, Arc, MapSloop, Map, sloop_item, items, items_then, around_svertex, pos_item, whole, is-at_one, Link, labelled, svertex_sides, item_sides, sides_of, AreLinked, SphereMap, BelowFirsts, BelowFirst, ArcFirst, SloopFirst, met_number, IsJoin, join_below, join_around, join_arc, join_sloop, join_ground, AreJoins, one_if_label, arounds_before, side_number, JoinsBelow, JoinsAround, JoinsArc, JoinsSloop, JoinsGround, HasLink, ComesOf, AreEach, AreArounds, AreSloops, AreGrounds, less-or-last, Either, earlier, last, is-at_either, is-at_left, is-at_last, is-at_some, is-at_parts, is-at_right, is-at_none, is-at_first}
 use Rattle.nef_smap.proofs.SideLists.{length-item_sides}
+use Rattle.nef_space.proofs.Lists.{is-at_within}
+use Rattle.law_sphere.proofs.Builder.{sloops-one}
 
 -- ---- one link for each
 pub each-more : (P : ℕ → Link → Type 0) (n : ℕ) (ls : List Link) (l : Link) → P n l → AreEach P n ls → AreEach P (n + 1) (ls ++ l ∷ [])
@@ -41,7 +42,7 @@ has-last P ls l p = (length ls, l, is-at_last ls l, p)
 -- what lies over the directions just below a svertex is joined with the side round it
 pub around-of_below : (M : Map) (n side : ℕ) (v : MapVertex) (m : Label) (l : Link) → IsAt M.svertices n v → v.around ≡ Some m → side ≡ arounds_before M.svertices n → JoinsBelow M n l → JoinsAround M n (record { first = side; second = l.first })
 around-of_below M n side v m l a q e (w, b, (j, f, g)) =
-    (w, m, b, ap (λ (u : MapVertex). u.around) (at-one M.svertices n w v b a) ∙ q, (record { aside = j.aside; off = j.off; first = j.left; is_first = j.left_first }, e, f))
+    (w, m, b, ap (λ (u : MapVertex). u.around) (is-at_one M.svertices n w v b a) ∙ q, (record { aside = j.aside; off = j.off; first = j.left; is_first = j.left_first }, e, f))
 
 pub arounds-none : (M : Map) → AreArounds M 0 []
 arounds-none M = record { only = λ i l a. cc; each = λ k v m h a q. absurd (omega arith) }
@@ -63,18 +64,9 @@ arounds-pass M n ls v b e A = record {
 }
   where
     none : {k : ℕ} (w : MapVertex) (m : Label) → IsAt M.svertices k w → w.around ≡ Some m → k ≡ n → ⊥
-    none w m a q g = let r = at-one M.svertices n v w b (subst (λ (i : ℕ). IsAt M.svertices i w) g a) in let s = sym e ∙ ap (λ (x : MapVertex). x.around) r ∙ q in absurd cc
+    none w m a q g = let r = is-at_one M.svertices n v w b (subst (λ (i : ℕ). IsAt M.svertices i w) g a) in let s = sym e ∙ ap (λ (x : MapVertex). x.around) r ∙ q in absurd cc
 
 -- ---- links for the sloop
-sloops-one : (as' : List Arc) (o : Option MapSloop) (i k : ℕ) (l c : MapSloop) → IsAt (items_then as' o) i (sloop_item l) → IsAt (items_then as' o) k (sloop_item c) → i ≡ k
-sloops-one [] None i k l c a b = absurd (is-at_none a)
-sloops-one [] (Some m) zero zero l c a b = refl
-sloops-one [] (Some m) zero (suc k) l c a b = absurd (is-at_none b)
-sloops-one [] (Some m) (suc i) k l c a b = absurd (is-at_none a)
-sloops-one (x ∷ as') o zero k l c a b = cc
-sloops-one (x ∷ as') o (suc i) zero l c a b = cc
-sloops-one (x ∷ as') o (suc i) (suc k) l c a b = ap suc (sloops-one as' o i k l c a b)
-
 pub sloops-some : (M : Map) (k : ℕ) (l : Link) → JoinsSloop M k l → AreSloops M (l ∷ [])
 sloops-some M k l (c, a, j) = record {
   only = λ i x b. (k, subst (JoinsSloop M k) (only i x b) (c, a, j));
@@ -144,9 +136,9 @@ module _ (M : Map) (below around arcs sloops grounds : List Link) (nv na : ℕ) 
   pub all-joins : AreJoins M up Linked
   all-joins = record {
     only = λ s t h. linked s t h;
-    svertices = λ k v a. by_svertex k v a (each-has (JoinsBelow M) nv below B k (let h = at-within M.svertices k v a in omega arith));
-    arounds = λ k v m a q. by_around k v m a q (R.each k v m (let h = at-within M.svertices k v a in omega arith) a q);
-    arcs = λ k r a. by_arc k r a (each-has (JoinsArc M) na arcs A k (let h = at-within M.arcs k r a in omega arith));
+    svertices = λ k v a. by_svertex k v a (each-has (JoinsBelow M) nv below B k (let h = is-at_within M.svertices k v a in omega arith));
+    arounds = λ k v m a q. by_around k v m a q (R.each k v m (let h = is-at_within M.svertices k v a in omega arith) a q);
+    arcs = λ k r a. by_arc k r a (each-has (JoinsArc M) na arcs A k (let h = is-at_within M.arcs k r a in omega arith));
     sloops = λ k r a. by_sloop k r a (L.each k r a);
     ground = λ m q. by_ground m q (D.each m q);
   }
@@ -158,25 +150,25 @@ module _ (M : Map) (below around arcs sloops grounds : List Link) (nv na : ℕ) 
       by_svertex k v a h =
           let r = from (JoinsBelow M k) (has-more (JoinsBelow M k) below around h) in
           let p = r.3 in
-          subst (λ (w : MapVertex). (j : BelowFirsts M up w.dir) × Linked (met_number M j.left) (met_number M j.right)) (at-one M.svertices k p.0 v p.1 a) (let q = p.2 in (q.0, (r.0, r.1, r.2, q.1, q.2)))
+          subst (λ (w : MapVertex). (j : BelowFirsts M up w.dir) × Linked (met_number M j.left) (met_number M j.right)) (is-at_one M.svertices k p.0 v p.1 a) (let q = p.2 in (q.0, (r.0, r.1, r.2, q.1, q.2)))
 
       by_around : (k : ℕ) (v : MapVertex) (m : Label) → IsAt M.svertices k v → v.around ≡ Some m → HasLink around (JoinsAround M k) → (j : BelowFirst M up v.dir) × Linked (side_number M (around_svertex k)) (met_number M j.first)
       by_around k v m a q h =
           let r = from (JoinsAround M k) (has-right (JoinsAround M k) below around h) in
           let p = r.3 in
-          subst (λ (w : MapVertex). (j : BelowFirst M up w.dir) × Linked (side_number M (around_svertex k)) (met_number M j.first)) (at-one M.svertices k p.0 v p.2 a) (let x = p.4 in (x.0, (r.0, r.1, r.2, x.1, x.2)))
+          subst (λ (w : MapVertex). (j : BelowFirst M up w.dir) × Linked (side_number M (around_svertex k)) (met_number M j.first)) (is-at_one M.svertices k p.0 v p.2 a) (let x = p.4 in (x.0, (r.0, r.1, r.2, x.1, x.2)))
 
       by_arc : (k : ℕ) (r : Arc) → IsAt M.arcs k r → HasLink arcs (JoinsArc M k) → (j : ArcFirst M up r) × Linked (side_number M (pos_item k)) (met_number M j.first)
       by_arc k w a h =
           let r = has-more (JoinsArc M k) (below ++ around ++ arcs ++ sloops) grounds (has-more (JoinsArc M k) (below ++ around ++ arcs) sloops (has-right (JoinsArc M k) (below ++ around) arcs h)) in
           let p = r.3 in
-          subst (λ (x : Arc). (j : ArcFirst M up x) × Linked (side_number M (pos_item k)) (met_number M j.first)) (at-one M.arcs k p.0 w p.1 a) (let q = p.2 in (q.0, (r.0, r.1, r.2, q.1, q.2)))
+          subst (λ (x : Arc). (j : ArcFirst M up x) × Linked (side_number M (pos_item k)) (met_number M j.first)) (is-at_one M.arcs k p.0 w p.1 a) (let q = p.2 in (q.0, (r.0, r.1, r.2, q.1, q.2)))
 
       by_sloop : (k : ℕ) (r : MapSloop) → IsAt (items M) k (sloop_item r) → HasLink sloops (JoinsSloop M k) → (j : SloopFirst M up r) × Linked (side_number M (pos_item k)) (met_number M j.first)
       by_sloop k w a h =
           let r = has-more (JoinsSloop M k) (below ++ around ++ arcs ++ sloops) grounds (has-right (JoinsSloop M k) (below ++ around ++ arcs) sloops h) in
           let p = r.3 in
-          subst (λ (x : MapSloop). (j : SloopFirst M up x) × Linked (side_number M (pos_item k)) (met_number M j.first)) (one p.0 w (at-one (items M) k (sloop_item p.0) (sloop_item w) p.1 a)) (let q = p.2 in (q.0, (r.0, r.1, r.2, q.1, q.2)))
+          subst (λ (x : MapSloop). (j : SloopFirst M up x) × Linked (side_number M (pos_item k)) (met_number M j.first)) (one p.0 w (is-at_one (items M) k (sloop_item p.0) (sloop_item w) p.1 a)) (let q = p.2 in (q.0, (r.0, r.1, r.2, q.1, q.2)))
         where
           one : (c d : MapSloop) → sloop_item c ≡ sloop_item d → c ≡ d
           one c d e = cc

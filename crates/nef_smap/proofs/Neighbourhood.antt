@@ -1,11 +1,11 @@
 -- Stars of directions in faces and on items show the map.
-use Rattle.nef_smap.proofs.Prelude.{◌≡◌, ℕ, zero, List, [], ◌∷◌, length, map, pos, true, false, Option, Some, None, Result, Ok, Err, IfOk, refl, sym, ap, subst, ◌∙◌, sign, normal_limit, svertex_limit, Vector, dot, cross, IsDirection, SameDirection, IsAtMost, IsNormal, IsAt, Label, vector_of, Dir, same_directions_equal, MapVertex, Map, HasArc, at_svertex, Item, items, item_normal, item_pos, item_mark, item_neg, OnItem, Side, HasSide, SeenAs, MapLabel, on_item, seen, NearLabel, Valid, by_side, StarLabel, on_ray, in_sector, in_only_sector, StarShows, IsStraight, at-one, none-at, near-lone, straight_star-label, near-free, near-item, sees-free, Ray, Star, ray_of, star_of, sector_at, IsRay, IsStar, at-ray, sector-at, sectors-fill, each_has_one_label, SVertex, SphereMap, svertex_of, map_of, LabelledSide, sides_of, IsSide, SideSees, IsNeighbourhood, IsStarAlong, dir-self, is-at_first}
+use Rattle.nef_smap.proofs.Prelude.{◌≡◌, ℕ, zero, List, [], ◌∷◌, length, map, pos, true, false, Option, Some, None, Result, Ok, Err, IfOk, refl, sym, ap, subst, ◌∙◌, sign, normal_limit, svertex_limit, Vector, dot, cross, IsDirection, SameDirection, IsAtMost, IsNormal, IsAt, Label, vector_of, Dir, same_directions_equal, MapVertex, Map, HasArc, at_svertex, Item, items, item_normal, item_pos, item_mark, item_neg, OnItem, Side, HasSide, SeenAs, MapLabel, on_item, seen, NearLabel, Valid, by_side, StarLabel, on_ray, in_sector, in_only_sector, StarShows, IsStraight, is-at_one, none-at, near-lone, straight_star-label, near-free, near-item, sees-free, Ray, Star, ray_of, star_of, sector_at, IsRay, IsStar, at-ray, sector-at, sectors-fill, each_has_one_label, SVertex, SphereMap, svertex_of, map_of, LabelledSide, sides_of, IsSide, SideSees, IsNeighbourhood, IsStarAlong, dir-self, is-at_first}
 use Rattle.law_sphere.specs.Stars.{Ray as PlainRay}
 use Rattle.nef_star.proofs.Straight.{plane-star}
-use Rattle.nef_smap.proofs.Lists.{map-at, at-from_get}
 use Rattle.nef_smap.proofs.NeighbourhoodEnds.{ray-is}
 use Rattle.nef_smap.proofs.SideLists.{side-has}
 use Rattle.nef_smap.proofs.WellFormed.{star-well_formed}
+use Rattle.nef_space.proofs.Lists.{map-is_at}
 
 -- what a star says of the map is its neighbourhood
 pub neighbourhood-of : (t : Star) → IsStar t → (M : Map) → StarShows (star_of t) M → (d : Dir) → t.axis ≡ d → IsNeighbourhood (star_of t) M (vector_of d)
@@ -50,7 +50,7 @@ lone-shows t M m T empty one mark near = record {
 pub side-label : (M : Map) (s : ℕ) (d : Vector) (l : Label) → SideSees M s d → ((o : Side) × IsSide M s o l) → SeenAs M d l
 side-label M s d l (o, k, is, sees) (o', is') = record {
   side = o;
-  has = subst (HasSide M o) (ap (λ (p : LabelledSide). p.1) (at-one (sides_of M) s (o, k) (o', l) (at-from_get (sides_of M) s (o, k) is) (at-from_get (sides_of M) s (o', l) is'))) (side-has M s o k is);
+  has = subst (HasSide M o) (ap (λ (p : LabelledSide). p.1) (is-at_one (sides_of M) s (o, k) (o', l) is is')) (side-has M s o k is);
   sees = sees;
 }
 
@@ -100,7 +100,7 @@ along-here t M i x d V a o T axis A = neighbourhood-of t T M (along-shows t M V 
 
 -- what lies on an item with this number
 pub on-listed : (M : Map) (i : ℕ) (y : Item) (d : Vector) → (x : Item) × IsAt (items M) i x × OnItem M x d → IsAt (items M) i y → OnItem M y d
-on-listed M i y d (x, a, o) b = subst (λ (z : Item). OnItem M z d) (at-one (items M) i x y a b) o
+on-listed M i y d (x, a, o) b = subst (λ (z : Item). OnItem M z d) (is-at_one (items M) i x y a b) o
 
 -- ---- the two rays along an item
 module _ (x : Item) (t : Star) (q r : Ray) (n : Dir) (m a b : Label) (rays : t.rays.items ≡ q ∷ r ∷ []) (sectors : t.sectors.items ≡ a ∷ b ∷ []) (mark : t.mark ≡ m)
@@ -129,8 +129,8 @@ module _ (x : Item) (t : Star) (q r : Ray) (n : Dir) (m a b : Label) (rays : t.r
 pub svertex-here : (m : SphereMap) (k : ℕ) (s : SVertex) (d : Dir) → IsAt m.svertices k s → (v : MapVertex) × IsAt (map_of m).svertices k v × SameDirection v.dir (vector_of d)
     → IsAt (map_of m).svertices k (record { dir = vector_of d; mark = s.mark; around = s.around })
 svertex-here m k s d h (v, a, w) =
-    let b = map-at svertex_of m.svertices k s (at-from_get m.svertices k s h) in
-    let e : v ≡ svertex_of s = at-one (map_of m).svertices k v (svertex_of s) a b in
+    let b = map-is_at svertex_of m.svertices k s h in
+    let e : v ≡ svertex_of s = is-at_one (map_of m).svertices k v (svertex_of s) a b in
     let f : s.dir ≡ d = same_directions_equal s.dir d (subst (λ (x : MapVertex). SameDirection x.dir (vector_of d)) e w) in
     subst (λ (x : Dir). IsAt (map_of m).svertices k (record { dir = vector_of x; mark = s.mark; around = s.around })) f b
 

@@ -1,12 +1,12 @@
 -- The star of a svertex with arcs shows the map: its rays are the ends of the arcs there.
-use Rattle.nef_smap.proofs.Prelude.{◌≡◌, ℕ, zero, suc, ◌+◌, ◌<◌, pos, List, [], ◌∷◌, length, Option, Some, None, Result, Ok, Err, IfOk, ◌⊎◌, inl, inr, arith, refl, sym, ap, subst, ◌∙◌, ints, IsAt, Vector, IsDirection, cross, dot, opposite, SameDirection, blend, Label, IsOnCircle, IsStrictlyOn, Passes, order_is_transitive, vector_of, Dir, MapVertex, Arc, Map, arc_item, items, OnItem, HasArc, HasSide, at_svertex, NearLabel, Valid, StarShows, ArcRay, end_left, ray_left, ray_side, Unrayed, at-arc, at-one, left-on, on-end, ArcEnd, EndsAreApart, IsRound, IsTurning, IsNext, Ray, Star, star_of, left_of, left_at, mark_at, sector_at, IsRay, IsStar, LeftGives, to-left, sectors-fill, sector-at, SArc, SphereMap, arc_of, map_of, IsSmall, IsArcEnd, AreArcEnds, IsNeighbourhood, dot-comm, self-pos, opposite-dot, square-cross, dir-self, is-at_none}
+use Rattle.nef_smap.proofs.Prelude.{◌≡◌, ℕ, zero, suc, ◌+◌, ◌<◌, pos, List, [], ◌∷◌, length, Option, Some, None, Result, Ok, Err, IfOk, ◌⊎◌, inl, inr, arith, refl, sym, ap, subst, ◌∙◌, ints, IsAt, Vector, IsDirection, cross, dot, opposite, SameDirection, blend, Label, IsOnCircle, IsStrictlyOn, Passes, order_is_transitive, vector_of, Dir, MapVertex, Arc, Map, arc_item, items, OnItem, HasArc, HasSide, at_svertex, NearLabel, Valid, StarShows, ArcRay, end_left, ray_left, ray_side, Unrayed, at-arc, is-at_one, left-on, on-end, ArcEnd, EndsAreApart, IsRound, IsTurning, IsNext, Ray, Star, star_of, left_of, left_at, mark_at, sector_at, IsRay, IsStar, LeftGives, to-left, sectors-fill, sector-at, SArc, SphereMap, arc_of, map_of, IsSmall, IsArcEnd, AreArcEnds, IsNeighbourhood, dot-comm, self-pos, opposite-dot, square-cross, dir-self, is-at_none}
 use Rattle.nef_star.specs.Turning.{on_ray as at_ray, in_sector as of_sector, in_only_sector as of_only_sector}
 use Rattle.nef_star.proofs.Turns.{four, next_in, none_between, not_both}
-use Rattle.nef_smap.proofs.Lists.{map-at, at-map, at-from_get, get-from_at}
 use Rattle.nef_smap.proofs.NeighbourhoodEnds.{ahead, back}
 use Rattle.nef_smap.proofs.NeighbourhoodRays.{ray-label, after-label}
 use Rattle.nef_smap.proofs.Neighbourhood.{neighbourhood-of, sector-of}
 use Rattle.nef_smap.proofs.WellFormed.{star-well_formed}
+use Rattle.nef_space.proofs.Lists.{is-at_map, map-is_at}
 
 -- ---- rays by their places
 pub record Listed (rays : List Ray) (k : ℕ) : Type 0 where
@@ -49,7 +49,7 @@ module _ (m : SphereMap) (V : Valid (map_of m)) (k : ℕ) (v : MapVertex) (a : I
     pub side : HasSide M (ray_side ray) e.1
 
   arc-listed : (j : ℕ) (b : SArc) → IsAt m.arcs j b → IsAt M.arcs j (arc_of b)
-  arc-listed j b h = map-at arc_of m.arcs j b (at-from_get m.arcs j b h)
+  arc-listed j b h = map-is_at arc_of m.arcs j b h
 
   item-listed : (j : ℕ) (b : SArc) → IsAt m.arcs j b → IsAt (items M) j (arc_item (arc_of b))
   item-listed j b h = at-arc M.arcs M.sloop j (arc_of b) (arc-listed j b h)
@@ -80,14 +80,14 @@ module _ (m : SphereMap) (V : Valid (map_of m)) (k : ℕ) (v : MapVertex) (a : I
     pub left_is : left_of end.0 ≡ left
 
   pub ray-end : (q : ArcRay M k) → RayEnd (ray_left q)
-  ray-end q = by q.end (at-map arc_of m.arcs q.number q.arc q.listed)
+  ray-end q = by q.end (is-at_map arc_of m.arcs q.number q.arc q.listed)
     where
       by : (end : (q.arc.source ≡ k) ⊎ (q.arc.target ≡ k)) → (b : SArc) × IsAt m.arcs q.number b × (arc_of b ≡ q.arc) → RayEnd (end_left q.arc end)
       by (inl s) (b, h, f) = record {
         number = q.number;
         arc = b;
         end = ahead b;
-        listed = get-from_at m.arcs q.number b h;
+        listed = h;
         is = inl (ap (λ (x : Arc). x.source) f ∙ s, refl);
         left_is = ap (λ (x : Arc). x.normal) f;
       }
@@ -95,7 +95,7 @@ module _ (m : SphereMap) (V : Valid (map_of m)) (k : ℕ) (v : MapVertex) (a : I
         number = q.number;
         arc = b;
         end = back b;
-        listed = get-from_at m.arcs q.number b h;
+        listed = h;
         is = inr (ap (λ (x : Arc). x.target) f ∙ s, refl);
         left_is = ap (λ (x : Arc). opposite x.normal) f;
       }
@@ -137,7 +137,7 @@ module _ (m : SphereMap) (V : Valid (map_of m)) (k : ℕ) (v : MapVertex) (a : I
         let q = end-ray r.0 r.1 e r.2 r.3 in
         let t = end-ray s.0 s.1 f s.2 s.3 in
         let same : r.0 ≡ s.0 = sym q.number ∙ one-arc q.ray t.ray (sym q.left ∙ l ∙ t.left) ∙ t.number in
-        let one : s.1 ≡ r.1 = at-one m.arcs s.0 s.1 r.1 (at-from_get m.arcs s.0 s.1 s.2) (at-from_get m.arcs s.0 r.1 (subst (λ (x : ℕ). IsAt m.arcs x r.1) same r.2)) in
+        let one : s.1 ≡ r.1 = is-at_one m.arcs s.0 s.1 r.1 s.2 (subst (λ (x : ℕ). IsAt m.arcs x r.1) same r.2) in
         one-end r.1 e f r.3 (subst (λ (x : SArc). IsArcEnd x k f) one s.3) l
 
     pub ends-rays : IsSmall M → (i : ℕ) (e : ArcEnd) → IsAt ends i e → IsRay p e.0
@@ -192,7 +192,7 @@ module _ (m : SphereMap) (V : Valid (map_of m)) (t : Star) (T : IsStar t) (k : �
   star-ray : (j : ℕ) → j < length rays → StarRay j
   star-ray j h =
       let r = ray-listed rays j h in
-      let l = get-from_at t.sectors.items j (sector_at t.sectors.items j) (sector-at t.sectors.items j (sectors-fill rays (length t.sectors.items) j T.turned.sectors h)) in
+      let l = (sector-at t.sectors.items j (sectors-fill rays (length t.sectors.items) j T.turned.sectors h)) in
       let e = R.each j r.ray (sector_at t.sectors.items j) r.is l in
       let b = A.each e.0 (r.ray, sector_at t.sectors.items j) e.1 in
       let q = end-ray m V k w a b.0 b.1 (r.ray, sector_at t.sectors.items j) b.2 b.3 in

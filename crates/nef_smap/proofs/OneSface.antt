@@ -4,7 +4,6 @@ use Rattle.law_sphere.proofs.Flips.{Axial, directed-by, far_directed-by, sloop-a
 use Rattle.law_sphere.proofs.ArcLabels.{arc-along}
 use Rattle.nef_smap.proofs.Rise.{form-over}
 use Rattle.nef_smap.proofs.Stands.{stand, stands, stands-keeps, stands-third, dot-opposite}
-use Rattle.nef_smap.proofs.Close.{cross-last}
 use Rattle.nef_smap.proofs.Common.{all-meet}
 use Rattle.nef_smap.proofs.Labelled.{above_forms, over-above, LabelAbove, by_one, labelled}
 use Rattle.nef_smap.proofs.Clean.{lone-clean}
@@ -12,6 +11,7 @@ use Rattle.nef_smap.proofs.Settled.{plain-free, straight-on, round-lone}
 use Rattle.nef_smap.proofs.Pole.{plain-up, plain-down}
 use Rattle.nef_smap.proofs.Upper.{upper-arc, upper-sloop}
 use Rattle.nef_smap.proofs.Reached.{Sided, sides-agree}
+use Rattle.law_sphere.proofs.building.RayClose.{cross-last}
 
 module _ (M : Map) (V : Shaped M) (u : Vector) (ahead : (k : ℕ) (x : Item) → IsAt (items M) k x → pos 0 <ℤ dot (item_normal x) u)
     (across : (k : ℕ) (v : MapVertex) → IsAt M.svertices k v → IsDirection (cross u v.dir)) (G : Side → Label) (top : Label) (Z : Firsts M u) (J : Joins M u G top Z)

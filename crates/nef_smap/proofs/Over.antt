@@ -1,5 +1,5 @@
 -- What lies over a direction close to d lies over d, or ends over d.
-use Rattle.nef_smap.proofs.Prelude.{◌≡◌, ℕ, pos, ◌-ℤ◌, ◌*ℤ◌, ◌<ℤ◌, arith, refl, ap, sym, ◌∙◌, ◌⊎◌, inl, inr, ⊎_elim, [], ◌∷◌, subst, Option, Some, None, ints, ring, at, num, ◌⊕◌, ◌⊖◌, ◌⊗◌, follows, given, none, sign, by_order, sign-scaled, same-nought, Vector, IsDirection, dot, SameDirection, IsAt, MapVertex, Arc, Map, Item, arc_item, sloop_item, items, item_normal, dir_of, OnItem, Shaped, SameSigns, Keeps, forms, normal-is, same-minus, at-one, kept-nought, SameDirection-decided, Decided, item-forms, normal-form, on-level, OnItem-by_signs, dir-at, arc-at, IsStrictlyOn-back, rise, meridians, IsOver, IsFirst, dir-signs}
+use Rattle.nef_smap.proofs.Prelude.{◌≡◌, ℕ, pos, ◌-ℤ◌, ◌*ℤ◌, ◌<ℤ◌, arith, refl, ap, sym, ◌∙◌, ◌⊎◌, inl, inr, ⊎_elim, [], ◌∷◌, subst, Option, Some, None, ints, ring, at, num, ◌⊕◌, ◌⊖◌, ◌⊗◌, follows, given, none, sign, by_order, sign-scaled, same-nought, Vector, IsDirection, dot, SameDirection, IsAt, MapVertex, Arc, Map, Item, arc_item, sloop_item, items, item_normal, dir_of, OnItem, Shaped, SameSigns, Keeps, forms, normal-is, same-minus, is-at_one, kept-nought, SameDirection-decided, Decided, item-forms, normal-form, on-level, OnItem-by_signs, dir-at, arc-at, IsStrictlyOn-back, rise, meridians, IsOver, IsFirst, dir-signs}
 use Rattle.nef_smap.proofs.Rise.{rise-is, rise_form-value, rise-same}
 
 -- ---- an item close to y is met at y or has an end there
@@ -36,8 +36,8 @@ module _ (M : Map) (V : Shaped M) where
   arc_end-level i k v r a c q =
       let b = V.arcs_between i r (arc-at M.arcs M.sloop i r a) in
       ⊎_elim
-      (λ e. subst (λ (w : MapVertex). dot r.normal w.dir ≡ pos 0) (at-one M.svertices k b.source v (subst (λ (j : ℕ). IsAt M.svertices j b.source) e b.has_source) c) b.level_source)
-      (λ e. subst (λ (w : MapVertex). dot r.normal w.dir ≡ pos 0) (at-one M.svertices k b.target v (subst (λ (j : ℕ). IsAt M.svertices j b.target) e b.has_target) c) b.level_target) q
+      (λ e. subst (λ (w : MapVertex). dot r.normal w.dir ≡ pos 0) (is-at_one M.svertices k b.source v (subst (λ (j : ℕ). IsAt M.svertices j b.source) e b.has_source) c) b.level_source)
+      (λ e. subst (λ (w : MapVertex). dot r.normal w.dir ≡ pos 0) (is-at_one M.svertices k b.target v (subst (λ (j : ℕ). IsAt M.svertices j b.target) e b.has_target) c) b.level_target) q
 
   pub touches-level : (i : ℕ) (x : Item) (d : Vector) → IsAt (items M) i x → Touches M x d → dot (item_normal x) d ≡ pos 0
   touches-level i x d a (meets o) = on-level M x d o

@@ -25,7 +25,7 @@ pub use Rattle.law_sphere.proofs.Direct.{IsZero-times, between-off_target, cross
 pub use Rattle.law_sphere.proofs.Forms.{IsFree-decided, OnItem-by_signs, OnItem-decided, OnItem-stays, axes-forms, free-by_signs, item-forms, normal-form, on-direction, on-level}
 pub use Rattle.law_sphere.proofs.Generic.{Generic, amount, far-keeps, far-level, generic}
 pub use Rattle.law_sphere.proofs.Labels.{label-by_signs, mixed-sign, near-from_far, sees-free}
-pub use Rattle.law_sphere.proofs.Lists.{at-one, gather-has, none-at}
+pub use Rattle.law_sphere.proofs.Lists.{gather-has, none-at}
 pub use Rattle.law_sphere.proofs.Lone.{near-lone, near-same_signs}
 pub use Rattle.law_sphere.proofs.NearItems.{clear-around, keeps-between, kept-not_opposite, near-free, near-item}
 pub use Rattle.law_sphere.proofs.Parallel.{arc-point, past_source}
@@ -43,7 +43,7 @@ pub use Rattle.law_sphere.specs.Labelling.{PlainAt}
 pub use Rattle.law_sphere.specs.Maps.{ArcBetween}
 pub use Rattle.nef_classes.proofs.Chains.{chain-keeps, chain-link, chain-map, chain-trans, chain-turned}
 pub use Rattle.nef_classes.proofs.ClassLists.{Either, earlier, is-at_either, last, less-or-last}
-pub use Rattle.nef_space.proofs.Lists.{is-at_first, is-at_get, is-at_is, is-at_last, is-at_left, is-at_none, is-at_parts, is-at_right, is-at_some, is-at_within, map-is_at}
+pub use Rattle.nef_space.proofs.Lists.{is-at_first, is-at_get, is-at_is, is-at_last, is-at_left, is-at_none, is-at_parts, is-at_right, is-at_some, is-at_within, map-is_at, is-at_one}
 pub use Rattle.nef_classes.specs.Classes.{LinksAreBelow}
 pub use Rattle.nef_classes.specs.declared.forest.Link.{Link}
 pub use Rattle.nef_star.proofs.Labelled.{at-ray, each_has_one_label, sector-at, sectors-fill, to-left}

@@ -1,5 +1,5 @@
 -- Two sides that see one direction have one label, where the labels of the sides agree piece by piece with a labelling.
-use Rattle.nef_smap.proofs.Prelude.{◌≡◌, ℕ, ◌+◌, ◌*◌, arith, ap, sym, ◌∙◌, inl, inr, List, subst, Some, ints, mul-pos, sign, sign-plus, sign-minus, Vector, IsDirection, cross, dot, IsZero, SameDirection, blend, Label, Out, Decided, IsAt, MapVertex, Map, Item, items, item_normal, OnItem, IsFree, Side, around_svertex, pos_item, neg_item, whole, HasSide, IsClear, Reaches, Sees, directly, by_way_of, by_side, Labelling, Near, Plain, amount, at-one, on-level, cross-between, Beside, same_way, other_way, beside, near-same_signs, carried, between-direction, cross-direction_turned, dot-comm, zero-decided, cross-turned, SameDirection-turned, SameDirection-trans, direction-right, apart, parallel-trans, blend-turned, left-of}
+use Rattle.nef_smap.proofs.Prelude.{◌≡◌, ℕ, ◌+◌, ◌*◌, arith, ap, sym, ◌∙◌, inl, inr, List, subst, Some, ints, mul-pos, sign, sign-plus, sign-minus, Vector, IsDirection, cross, dot, IsZero, SameDirection, blend, Label, Out, Decided, IsAt, MapVertex, Map, Item, items, item_normal, OnItem, IsFree, Side, around_svertex, pos_item, neg_item, whole, HasSide, IsClear, Reaches, Sees, directly, by_way_of, by_side, Labelling, Near, Plain, amount, is-at_one, on-level, cross-between, Beside, same_way, other_way, beside, near-same_signs, carried, between-direction, cross-direction_turned, dot-comm, zero-decided, cross-turned, SameDirection-turned, SameDirection-trans, direction-right, apart, parallel-trans, blend-turned, left-of}
 
 -- at each place of the map, and near it, the labels are those that G gives the sides
 pub record Sided (M : Map) (G : Side → Label) (F : Vector → Label → Type 0) : Type 0 where
@@ -58,7 +58,7 @@ module _ (gs : List Vector) (F : Vector → Label → Type 0) (L : Labelling gs 
           along (same_way s) = absurd (c.start.off_svertices k u b (SameDirection-trans u.dir y a w s))
           along (other_way s) = absurd (c.short (record { parallel = z; backward = let p = dot-comm a y in let r = s.backward in omega (arith, ints) }))
       by (inr f) =
-          let q = at-one M.svertices k v u h b in
+          let q = is-at_one M.svertices k v u h b in
           let g = cross-direction_turned a y f in
           let n = A.lone k u m a b (sym (ap (λ (r : MapVertex). r.around) q) ∙ e) (λ z. g (parallel-trans y u.dir a (direction-right y u.dir (SameDirection-turned u.dir y w)) (cross-turned u.dir y w.parallel) z)) in
           from_near a y c f (G (around_svertex k)) (near-way y u.dir a w g (G (around_svertex k)) n)

@@ -1,12 +1,12 @@
 -- Sides are of one sface exactly where joins lead from one to the other.
 use Rattle.nef_smap.proofs.Prelude.{◌≡◌, ℕ, ◌+◌, ◌<◌, pos, ◌<ℤ◌, Bool, true, false, arith, refl, ap, sym, ◌∙◌, ⊎_elim, List, ◌++◌, length, subst, Option, Some, None, ◌↔◌, eqb_tells, lies-left, lies-right, Chained, Vector, IsDirection, cross, dot, opposite, Label, Out, Not, In, IsAt, MapVertex, Map, Item, arc_item, sloop_item, items, item_normal, item_neg, dir_of, Side, around_svertex, pos_item, neg_item, whole, HasSide, Sees, Shaped, Generic, generic, point_forms, apart-by_rows, at-arc, sides_of, SeeOneWay, side_number, over_forms, met, FirstNear, Firsts, Joins, met_number, AreJoins, IsJoin, join_below, join_around, join_arc, join_sloop, join_ground, chain-link, chain-keeps, chain-map}
 use lib.Dec.{eqb}
-use Rattle.nef_smap.proofs.Lists.{at-within, at-from_get}
 use Rattle.nef_smap.proofs.SideLists.{side-has}
 use Rattle.nef_smap.proofs.SideNumbers.{side-number, number-one}
 use Rattle.nef_smap.proofs.Stands.{stand, stands}
 use Rattle.nef_smap.proofs.OneSface.{joined-agree}
 use Rattle.nef_smap.proofs.Sound.{root, root-side, sound}
+use Rattle.nef_space.proofs.Lists.{is-at_within}
 
 abbrev in_if : Bool → Label
 in_if true = In
@@ -28,7 +28,7 @@ module _ (M : Map) (V : Shaped M) (u : Vector) (ahead : (k : ℕ) (x : Item) →
 
   -- ---- joins are between sides and u
   number-within : (o : Side) (l : Label) → HasSide M o l → side_number M o < count + 1
-  number-within o l h = let i = at-within (sides_of M) (side_number M o) (o, l) (at-from_get (sides_of M) (side_number M o) (o, l) (side-number M o l h)) in omega arith
+  number-within o l h = let i = is-at_within (sides_of M) (side_number M o) (o, l) (side-number M o l h) in omega arith
 
   met-within : (a b c : Vector) (r : Option ℕ) → FirstNear M u a b c r → met_number M r < count + 1
   met-within a b c None f = omega arith

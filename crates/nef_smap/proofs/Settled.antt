@@ -1,5 +1,5 @@
 -- By what lies over directions, free directions are plain and directions on items straight, and round a svertex without arcs there is one label.
-use Rattle.nef_smap.proofs.Prelude.{◌≡◌, ℕ, ◌+◌, ◌<◌, ◌≤◌, pos, ◌+ℤ◌, ◌*ℤ◌, ◌<ℤ◌, nat_abs, arith, refl, ap, sym, ◌∙◌, inl, inr, ◌∷◌, subst, Some, ints, Sign, sign, sign-plus, sign-minus, by_order, nought-is, Lies, Vector, IsDirection, IsZero, cross, dot, SameDirection, blend, Label, Out, same-off, sign-large, IsAt, MapVertex, Map, Item, items, item_normal, OnItem, IsFree, Side, neg_item, HasArc, Shaped, Keeps, forms, by_side, Near, PlainAt, StraightAt, dot-comb, same-plus, same-minus, at-one, item-forms, normal-form, on-level, amount, far-keeps, far-level, cross-between, direction-around, svertex-around, free-around, item-stays, free-beside, over_forms, first_sign, Stands, met, BelowFirsts, self-pos}
+use Rattle.nef_smap.proofs.Prelude.{◌≡◌, ℕ, ◌+◌, ◌<◌, ◌≤◌, pos, ◌+ℤ◌, ◌*ℤ◌, ◌<ℤ◌, nat_abs, arith, refl, ap, sym, ◌∙◌, inl, inr, ◌∷◌, subst, Some, ints, Sign, sign, sign-plus, sign-minus, by_order, nought-is, Lies, Vector, IsDirection, IsZero, cross, dot, SameDirection, blend, Label, Out, same-off, sign-large, IsAt, MapVertex, Map, Item, items, item_normal, OnItem, IsFree, Side, neg_item, HasArc, Shaped, Keeps, forms, by_side, Near, PlainAt, StraightAt, dot-comb, same-plus, same-minus, is-at_one, item-forms, normal-form, on-level, amount, far-keeps, far-level, cross-between, direction-around, svertex-around, free-around, item-stays, free-beside, over_forms, first_sign, Stands, met, BelowFirsts, self-pos}
 use Rattle.nef_smap.proofs.Rise.{form-over, keeps-then}
 use Rattle.nef_smap.proofs.Over.{touches-back, first-one}
 use Rattle.nef_smap.proofs.Stands.{first-none, stand, stands, stands-keeps}
@@ -128,7 +128,7 @@ module _ (M : Map) (V : Shaped M) (u : Vector) (ahead : (k : ℕ) (x : Item) →
           hd = subst IsDirection q (V.svertex_dirs i v a)
 
           apart-from : (j : ℕ) (y : MapVertex) → IsAt M.svertices j y → SameDirection y.dir z → j ≡ i → ⊥
-          apart-from j y b s m = h (subst (λ (r : Vector). IsZero (cross r z)) (ap (λ (r : MapVertex). r.dir) (at-one M.svertices i y v (subst (λ (r : ℕ). IsAt M.svertices r y) m b) a) ∙ q) s.parallel)
+          apart-from j y b s m = h (subst (λ (r : Vector). IsZero (cross r z)) (ap (λ (r : MapVertex). r.dir) (is-at_one M.svertices i y v (subst (λ (r : ℕ). IsAt M.svertices r y) m b) a) ∙ q) s.parallel)
 
       pub round-lone : (w : Vector) → IsDirection (cross d w) → Near F d w over_label
       round-lone w h = (

@@ -2,7 +2,8 @@
 use Rattle.nef_smap.proofs.Prelude.{◌≡◌, ℕ, zero, suc, ◌+◌, ◌*◌, ◌/◌, ◌%◌, ◌⊎◌, inl, inr, ⊎_elim, List, [], ◌∷◌, ◌++◌, length, map, Option, Some, None, cond, is_some, arith, add-zero, zero-add, length-append, refl, sym, ◌∙◌, ap, subst, slice_get, ◌<◌, Bool, true, false, not, filter_map, cons_option, IsAt, Label, MapVertex, Item, Map, items, item_pos, item_neg, Side, around_svertex, pos_item, neg_item, whole, HasSide, SVertex, SphereMap, svertex_of, map_of, LabelledSide, labelled, svertex_sides, item_sides, sides_of, IsSide, is-at_none, is-at_first}
 use lib.Dec.{eqb}
 use mir.Val.{bool_byte}
-pub use Rattle.nef_smap.proofs.Lists.{at-from_get, get-from_at, at-left, at-right, InSecond, at-parts, at-some, get-past, either-at}
+pub use Rattle.nef_smap.proofs.Lists.{at-right, InSecond, at-parts, get-past, either-at}
+pub use Rattle.nef_space.proofs.Lists.{is-at_left, is-at_some}
 
 -- ---- how many
 pub length-item_sides : (k : ℕ) (xs : List Item) → length (item_sides k xs) ≡ 2 * length xs
@@ -71,10 +72,10 @@ module _ (m : SphereMap) where
   pub side-around : (s : ℕ) (l : Label) → slice_get (filter_map (λ (v : SVertex). v.around) m.svertices) s ≡ Some l → (o : Side) × IsSide (map_of m) s o l
   side-around s l e =
       let r = around-side 0 m.svertices s l e in
-      (r.0, get-from_at (sides_of (map_of m)) s (r.0, l) (at-left (arounds ++ of_items) (labelled whole m.ground) s (r.0, l) (at-left arounds of_items s (r.0, l) r.1)))
+      (r.0, (is-at_left (arounds ++ of_items) (labelled whole m.ground) s (r.0, l) (is-at_left arounds of_items s (r.0, l) r.1)))
 
   of-items : (s i : ℕ) (y : LabelledSide) → s ≡ arounds_count + i → IsAt of_items i y → IsAt (sides_of (map_of m)) s y
-  of-items s i y e a = get-from_at (sides_of (map_of m)) s y (at-left (arounds ++ of_items) (labelled whole m.ground) s y (at-right arounds of_items i s y (let f = length-svertex_sides 0 m.svertices in omega arith) a))
+  of-items s i y e a = (is-at_left (arounds ++ of_items) (labelled whole m.ground) s y (at-right arounds of_items i s y (let f = length-svertex_sides 0 m.svertices in omega arith) a))
 
   pub side-above : (s k : ℕ) (x : Item) → s ≡ arounds_count + 2 * k → IsAt (items (map_of m)) k x → IsSide (map_of m) s (pos_item k) (item_pos x)
   side-above s k x e a = of-items s (2 * k) (pos_item k, item_pos x) e (subst (λ (i : ℕ). IsAt of_items (2 * k) (pos_item i, item_pos x)) (zero-add k) (item-side 0 (items (map_of m)) k x a).0)
@@ -87,7 +88,7 @@ module _ (m : SphereMap) where
       let g = length-svertex_sides 0 m.svertices in
       let h = length-item_sides 0 (items (map_of m)) in
       let i = length-append arounds of_items in
-      get-from_at (sides_of (map_of m)) s (whole, l) (at-right (arounds ++ of_items) (labelled whole m.ground) 0 s (whole, l) (omega arith) (by m.ground f))
+      (at-right (arounds ++ of_items) (labelled whole m.ground) 0 s (whole, l) (omega arith) (by m.ground f))
     where
       by : (g : Option Label) → g ≡ Some l → IsAt (labelled whole g) 0 (whole, l)
       by None e = cc
@@ -103,8 +104,8 @@ module _ (m : SphereMap) where
 
   pub side-of : (s k : ℕ) (above : Bool) → k < length (items (map_of m)) → s ≡ arounds_count + 2 * k + bool_byte (not above)
       → (x : Item) × IsAt (items (map_of m)) k x × IsSide (map_of m) s (cond above (pos_item k) (neg_item k)) (cond above (item_pos x) (item_neg x))
-  side-of s k true h e = let r = at-some (items (map_of m)) k h in (r.0, r.1, side-above s k r.0 (omega arith) r.1)
-  side-of s k false h e = let r = at-some (items (map_of m)) k h in (r.0, r.1, side-below s k r.0 (omega arith) r.1)
+  side-of s k true h e = let r = is-at_some (items (map_of m)) k h in (r.0, r.1, side-above s k r.0 (omega arith) r.1)
+  side-of s k false h e = let r = is-at_some (items (map_of m)) k h in (r.0, r.1, side-below s k r.0 (omega arith) r.1)
 
 -- ---- what a numbered side is
 labelled-has : (p : Side) (f : Option Label) (s : ℕ) (o : Side) (l : Label) → IsAt (labelled p f) s (o, l) → (o ≡ p) × (f ≡ Some l)
@@ -134,7 +135,7 @@ item-has n (x ∷ xs) (suc (suc s)) o l a =
 
 -- a map has each of its numbered sides
 pub side-has : (M : Map) (s : ℕ) (o : Side) (l : Label) → IsSide M s o l → HasSide M o l
-side-has M s o l g = by (either-at (svertex_sides 0 M.svertices ++ item_sides 0 (items M)) (labelled whole M.ground) s (o, l) (at-from_get (sides_of M) s (o, l) g))
+side-has M s o l g = by (either-at (svertex_sides 0 M.svertices ++ item_sides 0 (items M)) (labelled whole M.ground) s (o, l) g)
   where
     around : ((i : ℕ) × (v : MapVertex) × IsAt M.svertices i v × (v.around ≡ Some l) × (o ≡ around_svertex (0 + i))) → HasSide M o l
     around (i, v, a, e, f) = subst (λ (p : Side). HasSide M p l) (sym (f ∙ ap around_svertex (zero-add i))) (v, a, e)

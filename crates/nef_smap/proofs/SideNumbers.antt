@@ -1,7 +1,8 @@
 -- Each side of a map has its number, and no other.
 use Rattle.nef_smap.proofs.Prelude.{◌≡◌, ℕ, zero, suc, ◌+◌, ◌*◌, ◌⊎◌, inl, inr, ⊎_elim, List, [], ◌∷◌, ◌++◌, length, Option, Some, None, arith, zero-add, length-append, refl, sym, ◌∙◌, ap, subst, Label, IsAt, MapVertex, Item, Map, items, Side, around_svertex, pos_item, neg_item, whole, HasSide, LabelledSide, labelled, svertex_sides, item_sides, sides_of, IsSide, one_if_label, arounds_before, side_number, is-at_none, is-at_first}
 use Rattle.nef_smap.proofs.SideLists.{length-item_sides, item-side}
-use Rattle.nef_smap.proofs.Lists.{at-from_get, get-from_at, at-left, at-right, InSecond, at-parts}
+use Rattle.nef_smap.proofs.Lists.{at-right, InSecond, at-parts}
+use Rattle.nef_space.proofs.Lists.{is-at_left}
 
 -- ---- where each side stands
 svertex-at : (n : ℕ) (vs : List MapVertex) (k : ℕ) (v : MapVertex) (l : Label) → IsAt vs k v → v.around ≡ Some l → IsAt (svertex_sides n vs) (arounds_before vs k) (around_svertex (n + k), l)
@@ -25,25 +26,24 @@ module _ (M : Map) where
   of_items = item_sides 0 (items M)
 
   of-item : (i s : ℕ) (y : LabelledSide) → s ≡ length around + i → IsAt of_items i y → IsAt (sides_of M) s y
-  of-item i s y e a = at-left (around ++ of_items) (labelled whole M.ground) s y (at-right around of_items i s y e a)
+  of-item i s y e a = is-at_left (around ++ of_items) (labelled whole M.ground) s y (at-right around of_items i s y e a)
 
   pub side-number : (o : Side) (l : Label) → HasSide M o l → IsSide M (side_number M o) o l
-  side-number (around_svertex k) l (v, a, e) = get-from_at (sides_of M) (arounds_before M.svertices k) (around_svertex k, l)
-      (at-left (around ++ of_items) (labelled whole M.ground) (arounds_before M.svertices k) (around_svertex k, l) (at-left around of_items (arounds_before M.svertices k) (around_svertex k, l)
+  side-number (around_svertex k) l (v, a, e) = (is-at_left (around ++ of_items) (labelled whole M.ground) (arounds_before M.svertices k) (around_svertex k, l) (is-at_left around of_items (arounds_before M.svertices k) (around_svertex k, l)
       (subst (λ (r : ℕ). IsAt around (arounds_before M.svertices k) (around_svertex r, l)) (zero-add k) (svertex-at 0 M.svertices k v l a e))))
   side-number (pos_item k) l (x, a, e) =
       let s = length around + 2 * k in
-      get-from_at (sides_of M) s (pos_item k, l) (of-item (2 * k) s (pos_item k, l) refl
+      (of-item (2 * k) s (pos_item k, l) refl
       (subst (λ (i : ℕ). IsAt of_items (2 * k) (pos_item i, l)) (zero-add k) (subst (λ (r : Label). IsAt of_items (2 * k) (pos_item (0 + k), r)) e (item-side 0 (items M) k x a).0)))
   side-number (neg_item k) l (x, a, e) =
       let s = length around + (2 * k + 1) in
-      get-from_at (sides_of M) s (neg_item k, l) (of-item (2 * k + 1) s (neg_item k, l) refl
+      (of-item (2 * k + 1) s (neg_item k, l) refl
       (subst (λ (i : ℕ). IsAt of_items (2 * k + 1) (neg_item i, l)) (zero-add k) (subst (λ (r : Label). IsAt of_items (2 * k + 1) (neg_item (0 + k), r)) e (item-side 0 (items M) k x a).1)))
   side-number whole l e =
       let s = length around + 2 * length (items M) in
       let h = length-item_sides 0 (items M) in
       let i = length-append around of_items in
-      get-from_at (sides_of M) s (whole, l) (at-right (around ++ of_items) (labelled whole M.ground) 0 s (whole, l) (omega arith) (by M.ground e))
+      (at-right (around ++ of_items) (labelled whole M.ground) 0 s (whole, l) (omega arith) (by M.ground e))
     where
       by : (g : Option Label) → g ≡ Some l → IsAt (labelled whole g) 0 (whole, l)
       by None e = cc
@@ -79,7 +79,7 @@ items-number n (x ∷ xs) (suc (suc s)) o l a =
     (suc r.0, ⊎_elim (λ q. inl (q.0 ∙ ap pos_item e, (let i = q.1 in let h : suc (suc s) ≡ 2 * suc r.0 = omega arith in h))) (λ q. inr (q.0 ∙ ap neg_item e, (let i = q.1 in let h : suc (suc s) ≡ 2 * suc r.0 + 1 = omega arith in h))) r.1)
 
 pub number-one : (M : Map) (s : ℕ) (o : Side) (l : Label) → IsSide M s o l → s ≡ side_number M o
-number-one M s o l g = by (at-parts (around M ++ of_items M) (labelled whole M.ground) s (o, l) (at-from_get (sides_of M) s (o, l) g))
+number-one M s o l g = by (at-parts (around M ++ of_items M) (labelled whole M.ground) s (o, l) g)
   where
     is : (p : Side) → o ≡ p → s ≡ side_number M p → s ≡ side_number M o
     is p e q = q ∙ ap (side_number M) (sym e)

@@ -6,11 +6,11 @@ use Rattle.std.proofs.lemmas.Cmp.{tied_itself}
 use Rattle.std.proofs.lemmas.List.Kept.{Contains-from_dedup, IsStrictlySortedBy-dedup}
 use Rattle.std.proofs.lemmas.List.Sorted.{Contains-permutation, IsPermutation-sym}
 use Rattle.std.proofs.lemmas.Map.Keys.{Less-from_sorted}
-use Rattle.nef_smap.proofs.Lists.{at-within, at-get}
+use Rattle.nef_space.proofs.Lists.{is-at_is, is-at_within}
 
 -- what holds of the elements that are read at two places holds of those that stand there
 pub both-at : {A : Type 0} (P : A → A → Type 0) (xs : List A) (i k : ℕ) (x y : A) → IsAt xs i x → IsAt xs k y → ((d : A) → P (get_or xs i d) (get_or xs k d)) → P x y
-both-at P xs i k x y a b h = subst (P x) (at-get xs k y x b) (subst (λ z. P z (get_or xs k x)) (at-get xs i x x a) (h x))
+both-at P xs i k x y a b h = subst (P x) (is-at_is xs k y x b) (subst (λ z. P z (get_or xs k x)) (is-at_is xs i x x a) (h x))
 
 -- ---- a test for equality
 one_test : (b c : Bool) → (b ≡ true → c ≡ true) → (c ≡ true → b ≡ true) → b ≡ c
@@ -35,7 +35,7 @@ pub once-in_order : {A : Type 0} {order : A → A → Ordering} (total : IsTotal
     (Below : A → A → Type 0) → ((x y : A) → order x y ≡ Less → Below x y) → (xs : List A) → IsSorted order xs → InOrder Below (dedup test xs)
 once-in_order {order = order} total {test = test} ties Below less xs sorted i k x y l a b =
     let once = dedup test xs in
-    less x y (both-at (λ v w. order v w ≡ Less) once i k x y a b (λ d. Less-from_sorted order once i k d (IsStrictlySortedBy-dedup total ties xs sorted) l (at-within once k y b)))
+    less x y (both-at (λ v w. order v w ≡ Less) once i k x y a b (λ d. Less-from_sorted order once i k d (IsStrictlySortedBy-dedup total ties xs sorted) l (is-at_within once k y b)))
 
 pub once-only : {A : Type 0} (test : A → A → Bool) (xs ys : List A) (x : A) → IsPermutation xs ys → Contains (dedup test ys) x → Contains xs x
 once-only test xs ys x moved h = Contains-permutation ys xs x (IsPermutation-sym xs ys moved) (Contains-from_dedup test ys x h)

@@ -1,15 +1,15 @@
 -- Joined sides are of one sface.
-use Rattle.nef_smap.proofs.Prelude.{◌≡◌, ℕ, ◌+◌, ◌<◌, ◌≤◌, ℤ, pos, ◌-ℤ◌, ◌*ℤ◌, ◌<ℤ◌, neg_ℤ, arith, refl, ap, sym, ◌∙◌, ◌⊎◌, inl, inr, ⊎_elim, [], ◌∷◌, length, subst, Option, Some, None, ints, ring, at, num, neg, ◌⊕◌, ◌⊖◌, ◌⊗◌, follows, given, none, sign, sign-plus, plus-is, nought-is, mul_pos, sign-scaled, nought-or, square_pos, Lies, Chained, Vector, IsDirection, IsZero, cross, triple, dot, opposite, SameDirection, blend, Label, IsAt, MapVertex, Arc, MapSloop, Map, Item, arc_item, sloop_item, items, item_normal, item_pos, dir_of, OnItem, IsFree, Side, around_svertex, pos_item, neg_item, whole, HasSide, IsClear, Sees, directly, HasArc, Shaped, Keeps, forms, normal-is, dot-comb, at-one, item-forms, normal-form, on-direction, on-level, amount, far-keeps, arc-point, cross-self, between-off_target, cross-between, dir-at, arc-at, direction-around, svertex-around, free-around, free-beside, at-arc, keeps-between, kept-not_opposite, clear-around, axes-forms, clear-self, sees_both, free-seen, sides_of, SideSees, SeeOneWay, side_number, meridians, over_forms, IsFirst, first_sign, Stands, FirstNear, BelowFirsts, BelowFirst, ArcFirst, SloopFirst, met_number, IsJoin, join_below, join_around, join_arc, join_sloop, join_ground, chain-link, chain-trans, chain-turned, cases_lt, zero-dot, self-pos, cross-turned, dir-self, opposite-turned, apart, blend-turned}
+use Rattle.nef_smap.proofs.Prelude.{◌≡◌, ℕ, ◌+◌, ◌<◌, ◌≤◌, ℤ, pos, ◌-ℤ◌, ◌*ℤ◌, ◌<ℤ◌, neg_ℤ, arith, refl, ap, sym, ◌∙◌, ◌⊎◌, inl, inr, ⊎_elim, [], ◌∷◌, length, subst, Option, Some, None, ints, ring, at, num, neg, ◌⊕◌, ◌⊖◌, ◌⊗◌, follows, given, none, sign, sign-plus, plus-is, nought-is, mul_pos, sign-scaled, nought-or, square_pos, Lies, Chained, Vector, IsDirection, IsZero, cross, triple, dot, opposite, SameDirection, blend, Label, IsAt, MapVertex, Arc, MapSloop, Map, Item, arc_item, sloop_item, items, item_normal, item_pos, dir_of, OnItem, IsFree, Side, around_svertex, pos_item, neg_item, whole, HasSide, IsClear, Sees, directly, HasArc, Shaped, Keeps, forms, normal-is, dot-comb, is-at_one, item-forms, normal-form, on-direction, on-level, amount, far-keeps, arc-point, cross-self, between-off_target, cross-between, dir-at, arc-at, direction-around, svertex-around, free-around, free-beside, at-arc, keeps-between, kept-not_opposite, clear-around, axes-forms, clear-self, sees_both, free-seen, sides_of, SideSees, SeeOneWay, side_number, meridians, over_forms, IsFirst, first_sign, Stands, FirstNear, BelowFirsts, BelowFirst, ArcFirst, SloopFirst, met_number, IsJoin, join_below, join_around, join_arc, join_sloop, join_ground, chain-link, chain-trans, chain-turned, cases_lt, zero-dot, self-pos, cross-turned, dir-self, opposite-turned, apart, blend-turned}
 use Rattle.nef_smap.proofs.Rise.{form-over, meridian-over, meridian-level, svertex-meridian, meridian-turn}
 use Rattle.nef_smap.proofs.Over.{touches-back, touches-level}
 use Rattle.nef_smap.proofs.Stands.{first-none, first-last, dot-opposite, far-stands, stand, stands, stands-keeps, stands-second, stands-third}
-use Rattle.nef_smap.proofs.Close.{cross-last}
 use Rattle.nef_smap.proofs.Clean.{lone-untouched}
 use Rattle.nef_smap.proofs.Upper.{arc-viewer, arc-viewer_off, arc-viewer_stands}
 use Rattle.nef_smap.proofs.Pole.{parallel-value}
 use Rattle.nef_smap.proofs.FirstSees.{Generic, none-clear, first-sees}
-use Rattle.nef_smap.proofs.Lists.{at-within, at-from_get}
 use Rattle.nef_smap.proofs.SideNumbers.{side-number}
+use Rattle.nef_space.proofs.Lists.{is-at_within}
+use Rattle.law_sphere.proofs.building.RayClose.{cross-last}
 
 -- the turn from s to r, both in the plane of n
 pub along-turn : (n s r u : Vector) → dot n s ≡ pos 0 → dot n r ≡ pos 0 → dot n n *ℤ dot (cross u s) r ≡ triple n s r *ℤ dot n u
@@ -83,7 +83,7 @@ module _ (M : Map) (V : Shaped M) (u : Vector) (ahead : (k : ℕ) (x : Item) →
       by (inr k) = refl
 
   side-within : (s : ℕ) (d : Vector) → SideSees M s d → s < length (sides_of M)
-  side-within s d (o, l, i, x) = at-within (sides_of M) s (o, l) (at-from_get (sides_of M) s (o, l) i)
+  side-within s d (o, l, i, x) = is-at_within (sides_of M) s (o, l) i
 
   -- an element sees d: a side does, or the way from d to u is clear
   abbrev ElementSees : ℕ → Vector → Type 0
@@ -200,7 +200,7 @@ module _ (M : Map) (V : Shaped M) (u : Vector) (ahead : (k : ℕ) (x : Item) →
     off-svertices : (z : Vector) → Keeps (forms M) w z → IsDirection (cross w z) → (j : ℕ) (y : MapVertex) → IsAt M.svertices j y → SameDirection y.dir z → ⊥
     off-svertices z h f j y b s =
         let m = V.svertices_apart j k y v b a (svertex-around M V w z h j y b hw s) in
-        f (subst (λ (r : MapVertex). IsZero (cross r.dir z)) (at-one M.svertices k y v (subst (λ (r : ℕ). IsAt M.svertices r y) m b) a) s.parallel)
+        f (subst (λ (r : MapVertex). IsZero (cross r.dir z)) (is-at_one M.svertices k y v (subst (λ (r : ℕ). IsAt M.svertices r y) m b) a) s.parallel)
 
     -- close below w
     abbrev c : Vector

@@ -2,9 +2,9 @@
 use Rattle.nef_smap.proofs.Prelude.{◌≡◌, ℕ, ◌≤◌, pos, ◌+ℤ◌, ◌*ℤ◌, ◌<ℤ◌, arith, refl, ap, sym, ◌∙◌, inl, inr, ⊎_elim, List, [], ◌∷◌, Option, ints, ring, at, num, ◌⊕◌, ◌⊖◌, ◌⊗◌, follows, given, none, Sign, minus, nought, plus, sign, sign-plus, plus-is, nought-is, mul_pos, cancel_eq, sign-scaled, nought-or, Vector, IsDirection, cross, triple, dot, blend, Label, IsAt, MapVertex, Arc, MapSloop, Map, Item, arc_item, sloop_item, items, item_normal, dir_of, OnItem, Side, pos_item, Shaped, normal-is, item-forms, normal-form, on-level, amount, cross-self, over_forms, IsFirst, first_sign, Stands, met, BelowFirsts, ArcFirst, SloopFirst, self-pos}
 use Rattle.nef_smap.proofs.Rise.{form-over}
 use Rattle.nef_smap.proofs.Stands.{far-first, stand, stands, stands-keeps, stands-second, stands-third}
-use Rattle.nef_smap.proofs.Close.{cross-last}
 use Rattle.nef_smap.proofs.Common.{AllMeet}
 use Rattle.nef_smap.proofs.Clean.{item-clean}
+use Rattle.law_sphere.proofs.building.RayClose.{cross-last}
 
 -- ---- the directions n, s and n x s at right angles
 -- the direction along n from s, but for a part along s

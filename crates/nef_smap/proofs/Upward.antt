@@ -1,11 +1,11 @@
 -- The upward direction lies on the upper side of every plane of a sphere map and is parallel to no svertex; and which items lie over close directions.
 use Rattle.nef_smap.proofs.Prelude.{◌≡◌, ℕ, zero, suc, ◌<◌, ◌≤◌, length, ℤ, pos, negsuc, ◌*ℤ◌, ◌≤ℤ◌, ◌<ℤ◌, nat_abs, arith, refl, ap, sym, ◌∙◌, inl, inr, ⊎_elim, [], ◌∷◌, subst, ◌↔◌, ints, length-map, eqb_tells, ring, at, num, ◌⊗◌, minus, plus, sign, sign-minus, minus-is, nought-is, mul_pos, nought-or, square_pos, Lies, normal_limit, svertex_limit, Vector, vector, IsDirection, IsNormal, IsAtMost, cross, triple, dot, up, SameDirection, Decided, vector_of, IsAt, MapVertex, Arc, MapSloop, Map, Item, arc_item, sloop_item, items, item_normal, dir_of, ArcBetween, Shaped, axis_x, axis_y, axis_z, normal-is, axis_x-is, axis_y-is, axis_z-is, item-forms, normal-form, axes-forms, cross-self, dir-at, arc-at, Close, SArc, SphereMap, svertex_of, arc_of, map_of, IsSphereMap, rise, rise_form, IsOver, close_sign, IsClose, ArcPasses, zero-dot, self-pos}
 use Rattle.nef_smap.proofs.Rise.{rise-is, rise-level, form-over, meridian-over, meridian-turn, svertex-meridian, rise-meridian}
-use Rattle.nef_smap.proofs.Lists.{at-within}
 use Rattle.nef_smap.proofs.Close.{rise-direction}
 use Rattle.nef_smap.proofs.CloseSigns.{level-sign, passes-alike}
 use Rattle.nef_smap.proofs.Passing.{passes-on, on-passes}
 use Rattle.nef_smap.proofs.Stands.{first-none}
+use Rattle.nef_space.proofs.Lists.{is-at_within}
 
 -- ---- upward
 pub normal-ahead : (n : Vector) → IsNormal n → IsAtMost normal_limit n → pos 0 <ℤ dot n up
@@ -200,6 +200,6 @@ module _ (m : SphereMap) (S : IsSphereMap m) where
   ends-within k r a =
       let b = V.arcs_between k (arc_of r) (arc-at M.arcs M.sloop k (arc_of r) a) in
       let l = length-map m.svertices svertex_of in
-      let p = at-within M.svertices r.source b.source b.has_source in
-      let q = at-within M.svertices r.target b.target b.has_target in
+      let p = is-at_within M.svertices r.source b.source b.has_source in
+      let q = is-at_within M.svertices r.target b.target b.has_target in
       (omega (arith, l), omega (arith, l))

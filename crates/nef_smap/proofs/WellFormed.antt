@@ -3,8 +3,9 @@ use Rattle.nef_smap.proofs.Prelude.{◌≡◌, ℕ, zero, suc, List, [], ◌∷�
 use Rattle.law_sphere.specs.Stars.{Ray as PlainRay, LeavesAxis as IsPlainRay}
 use Rattle.law_sphere.specs.Raw.{IsWellFormed, RayBelow, sector_count as plain_count}
 use Rattle.nef_star.specs.Stars.{sector_count}
-use Rattle.nef_smap.proofs.Lists.{at-map, at-within, at-get}
 use Rattle.nef_smap.proofs.Primitive.{dir-primitive}
+use Rattle.nef_space.proofs.Lists.{is-at_is, is-at_map, is-at_within}
+use Rattle.law_sphere.proofs.cones.Lowest.{below-either}
 
 -- ---- the order of directions
 pub below-vectors : (u v : Vector) → IsBelow (direction_numbers u) (direction_numbers v) → VectorBelow u v
@@ -17,14 +18,6 @@ pub vectors-below : (u v : Vector) → VectorBelow u v → IsBelow (direction_nu
 vectors-below u v (inl h) = inl h
 vectors-below u v (inr (inl (e, h))) = inr (e, inl h)
 vectors-below u v (inr (inr (e, f, h))) = inr (e, inr (f, inl h))
-
-pub vector-order : (u v : Vector) → VectorBelow u v ⊎ (u ≡ v) ⊎ VectorBelow v u
-vector-order u v =
-    by_order u.x v.x (λ h. inl (inl h))
-    (λ e. by_order u.y v.y (λ h. inl (inr (inl (e, h))))
-    (λ f. by_order u.z v.z (λ h. inl (inr (inr (e, f, h)))) (λ g. inr (inl (vector-same u v e f g))) (λ h. inr (inr (inr (inr (sym e, sym f, h))))))
-    (λ h. inr (inr (inr (inl (sym e, h))))))
-    (λ h. inr (inr (inl h)))
 
 pub dir-equal : (a b : Dir) → vector_of a ≡ vector_of b → a ≡ b
 dir-equal a b e = same_directions_equal a b (subst (λ (v : Vector). SameDirection (vector_of a) v) e (dir-self (vector_of a) a.some))
@@ -64,19 +57,19 @@ module _ (t : Star) (T : IsStar t) where
   rays = t.rays.items
 
   leaves : (k : ℕ) (r : Ray) → IsAt t.rays.items k r → IsRay (vector_of t.axis) r
-  leaves k r h = subst (IsRay (vector_of t.axis)) (at-get t.rays.items k r r h) (T.turned.rays k r (at-within t.rays.items k r h))
+  leaves k r h = subst (IsRay (vector_of t.axis)) (is-at_is t.rays.items k r r h) (T.turned.rays k r (is-at_within t.rays.items k r h))
 
   pub star-ray : (k : ℕ) (r : Ray) → IsAt t.rays.items k r → IsPlainRay (star_of t) (ray_of r)
   star-ray k r h = let i = leaves k r h in record { level = i.level; normal = i.normal }
 
   first-below : (k : ℕ) (q r : Ray) → IsAt t.rays.items 0 q → IsAt t.rays.items (suc k) r → RayBelow (ray_of q) (ray_of r)
   first-below k q r h i =
-      let within = at-within t.rays.items (suc k) r i in let turning = T.turned.counterclockwise in
-      let least = T.least_first (suc k) q r within (at-get t.rays.items 0 q q h) (at-get t.rays.items (suc k) r r i) in
+      let within = is-at_within t.rays.items (suc k) r i in let turning = T.turned.counterclockwise in
+      let least = T.least_first (suc k) q r within (is-at_is t.rays.items 0 q q h) (is-at_is t.rays.items (suc k) r r i) in
       let l0 = left-at t.rays.items 0 q h in let l1 = left-at t.rays.items (suc k) r i in
       let direction : IsDirection (left_of q) = subst IsDirection l0 (turning.circle 0 (omega (arith, within))).direction in
       let apart : SameDirection (left_of q) (left_of r) → ⊥ = λ s. turning.apart (suc k) (omega arith) within (rw (l0, l1) s) in
-      elim (vector-order (vector_of q.normal) (vector_of r.normal)) [
+      elim (below-either (vector_of q.normal) (vector_of r.normal)) [
         | inl b ↦ inl b
         | inr s ↦ elim s [
           | inl e ↦ let a = one_ahead q r direction apart least (dir-equal q.normal r.normal e) in inr (e, a.0, a.1)
@@ -88,10 +81,10 @@ module _ (t : Star) (T : IsStar t) where
   star-well_formed = record {
     axis = t.axis.some;
     axis_lowest = dir-primitive t.axis;
-    rays = λ k p h. let r = at-map ray_of t.rays.items k p h in subst (IsPlainRay (star_of t)) r.2 (star-ray k r.0 r.1);
-    rays_lowest = λ k p h. let r = at-map ray_of t.rays.items k p h in subst (λ (p : PlainRay). IsPrimitive p.normal) r.2 (dir-primitive r.0.normal);
+    rays = λ k p h. let r = is-at_map ray_of t.rays.items k p h in subst (IsPlainRay (star_of t)) r.2 (star-ray k r.0 r.1);
+    rays_lowest = λ k p h. let r = is-at_map ray_of t.rays.items k p h in subst (λ (p : PlainRay). IsPrimitive p.normal) r.2 (dir-primitive r.0.normal);
     least_first = λ k p s h i.
-        let q = at-map ray_of t.rays.items 0 p h in let r = at-map ray_of t.rays.items (suc k) s i in
+        let q = is-at_map ray_of t.rays.items 0 p h in let r = is-at_map ray_of t.rays.items (suc k) s i in
         subst (λ (p : PlainRay). RayBelow p s) q.2 (subst (λ (s : PlainRay). RayBelow (ray_of q.0) s) r.2 (first-below k q.0 r.0 q.1 r.1));
     as_many = T.turned.sectors ∙ plain-counts t.rays.items;
     each = λ e off. let l = each_has_one_label t T.turned e off in (l.0, l.1);

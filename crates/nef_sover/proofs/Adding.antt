@@ -1,7 +1,7 @@
 -- Axes added to a list of axes.
-use Rattle.nef_sover.proofs.Prelude.{◌≡◌, ℕ, ◌+◌, ◌<◌, ◌≤◌, List, [], ◌∷◌, ◌++◌, length, get_or, arith, subst, inl, inr, ◌⊎◌, Contains, eq-or-lt_of_le, svertex_limit, Vector, IsAtMost, SameDirection, vector_of, IsAt, at-one, at-within, Axis, CrossedItems, AddsAxes, HasDirection}
+use Rattle.nef_sover.proofs.Prelude.{◌≡◌, ℕ, ◌+◌, ◌<◌, ◌≤◌, List, [], ◌∷◌, ◌++◌, length, get_or, arith, subst, inl, inr, ◌⊎◌, Contains, eq-or-lt_of_le, svertex_limit, Vector, IsAtMost, SameDirection, vector_of, IsAt, is-at_one, is-at_within, Axis, CrossedItems, AddsAxes, HasDirection}
 use Rattle.std.proofs.lemmas.List.Elements.{Contains-append_left, Contains-push, Contains-push_cases}
-use Rattle.nef_sover.proofs.Places.{read-at}
+use Rattle.nef_space.proofs.Lists.{is-at_read}
 
 pub has-more : (xs ys : List Axis) → ((e : Axis) → Contains xs e → Contains ys e) → (d : Vector) → HasDirection xs d → HasDirection ys d
 has-more xs ys f d (e, h, s) = (e, f e h, s)
@@ -70,14 +70,14 @@ module _ {X : Type 0} (P : X → CrossedItems → Vector → Type 0) (xs : List 
   any-more i x ds es fs l e p q = adds-both (AnyFirst P xs i) (P x) (AnyFirst P xs (i + 1)) ds es fs p q forth back
     where
       here : IsAt xs i x
-      here = read-at xs i x l e
+      here = is-at_read xs i x l e
 
       forth : (c : CrossedItems) (d : Vector) → AnyFirst P xs i c d ⊎ P x c d → AnyFirst P xs (i + 1) c d
       forth c d (inl (k, y, h, a, r)) = (k, y, omega (arith, h), a, r)
       forth c d (inr r) = (i, x, omega arith, here, r)
 
       split : (c : CrossedItems) (d : Vector) (k : ℕ) (y : X) → (k ≡ i) ⊎ (k < i) → IsAt xs k y → P y c d → AnyFirst P xs i c d ⊎ P x c d
-      split c d k y (inl z) a r = inr (subst (λ w. P w c d) (at-one xs i y x (subst (λ (j : ℕ). IsAt xs j y) z a) here) r)
+      split c d k y (inl z) a r = inr (subst (λ w. P w c d) (is-at_one xs i y x (subst (λ (j : ℕ). IsAt xs j y) z a) here) r)
       split c d k y (inr h) a r = inl (k, y, h, a, r)
 
       back : (c : CrossedItems) (d : Vector) → AnyFirst P xs (i + 1) c d → AnyFirst P xs i c d ⊎ P x c d
@@ -85,4 +85,4 @@ module _ {X : Type 0} (P : X → CrossedItems → Vector → Type 0) (xs : List 
 
   pub any-all : (i : ℕ) (ds es : List Axis) → length xs ≤ i → AddsAxes (AnyFirst P xs i) ds es → AddsAxes (AnyAt P xs) ds es
   any-all i ds es l p = adds-as (AnyFirst P xs i) (AnyAt P xs) ds es
-      (λ c d a. (a.0, a.1, a.3, a.4)) (λ c d a. let h = at-within xs a.0 a.1 a.2 in (a.0, a.1, omega (arith, h), a.2, a.3)) p
+      (λ c d a. (a.0, a.1, a.3, a.4)) (λ c d a. let h = is-at_within xs a.0 a.1 a.2 in (a.0, a.1, omega (arith, h), a.2, a.3)) p

@@ -1,5 +1,5 @@
 -- The star of a direction in which items of two maps cross.
-use Rattle.nef_sover.proofs.Prelude.{◌≡◌, ℕ, pos, Some, Result, Ok, Err, IfOk, refl, sym, subst, normal_limit, Vector, IsParallel, IsAtMost, IsNormal, dot, vector_of, Dir, by_side, IsAt, Map, Item, items, item_normal, item_mark, item_pos, item_neg, OnItem, MapLabel, on_item, NearLabel, on-level, at-one, near-item, Op, Star, op_label, IsStar, SphereMap, map_of, IsSphereMap, CrossedItems, IsCrossedAt, CrossesAt, AreCircleLabelsOf, IsMergedAt}
+use Rattle.nef_sover.proofs.Prelude.{◌≡◌, ℕ, pos, Some, Result, Ok, Err, IfOk, refl, sym, subst, normal_limit, Vector, IsParallel, IsAtMost, IsNormal, dot, vector_of, Dir, by_side, IsAt, Map, Item, items, item_normal, item_mark, item_pos, item_neg, OnItem, MapLabel, on_item, NearLabel, on-level, is-at_one, near-item, Op, Star, op_label, IsStar, SphereMap, map_of, IsSphereMap, CrossedItems, IsCrossedAt, CrossesAt, AreCircleLabelsOf, IsMergedAt}
 use Rattle.nef_space.specs.Signs.{sign}
 use Rattle.nef_star.specs.declared.rounds.CircleLabels.{CircleLabels}
 use Rattle.nef_star.specs.Lines.{IsOnAxis, circle_label, IsCrossed}
@@ -28,7 +28,7 @@ module _ (m : SphereMap) (S : IsSphereMap m) (i : ℕ) (x : Item) (a : IsAt (ite
 
 -- a line of the item with this number
 pub line-at : (M : Map) (i : ℕ) (x : Item) (l : CircleLabels) → IsAt (items M) i x → (y : Item) × IsAt (items M) i y × AreCircleLabelsOf y l → AreCircleLabelsOf x l
-line-at M i x l a (y, b, L) = subst (λ (z : Item). AreCircleLabelsOf z l) (at-one (items M) i y x b a) L
+line-at M i x l a (y, b, L) = subst (λ (z : Item). AreCircleLabelsOf z l) (is-at_one (items M) i y x b a) L
 
 module _ (m n : SphereMap) (S : IsSphereMap m) (T : IsSphereMap n) (op : Op) (i k : ℕ) (d : Dir) (C : IsCrossedAt (map_of m) (map_of n) i k (vector_of d)) (x y : CircleLabels) (X : AreCircleLabelsOf C.x x) (Y : AreCircleLabelsOf C.y y) where
   pub lines-apart : IsParallel (vector_of x.normal) (vector_of y.normal) → ⊥

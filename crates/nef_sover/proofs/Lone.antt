@@ -1,5 +1,5 @@
 -- The circle of a sloop that no axis lies on isn't crossed by either map.
-use Rattle.nef_sover.proofs.Prelude.{◌≡◌, ℕ, pos, Some, sym, subst, inl, inr, ◌⊎◌, Vector, IsDirection, IsZero, cross, dot, Decided, IsOnCircle, IsAt, MapVertex, MapSloop, Item, sloop_item, Map, items, item_normal, OnItem, Valid, at-one, on-direction, at-sloop, OnSvertex, IsAxis, IsUncrossed, zero-decided, cross-turned, cross-self, dir-self}
+use Rattle.nef_sover.proofs.Prelude.{◌≡◌, ℕ, pos, Some, sym, subst, inl, inr, ◌⊎◌, Vector, IsDirection, IsZero, cross, dot, Decided, IsOnCircle, IsAt, MapVertex, MapSloop, Item, sloop_item, Map, items, item_normal, OnItem, Valid, is-at_one, on-direction, at-sloop, OnSvertex, IsAxis, IsUncrossed, zero-decided, cross-turned, cross-self, dir-self}
 
 module _ (M : Map) (V : Valid M) (l : MapSloop) where
   svertex-on : (k : ℕ) (v : MapVertex) → IsAt M.svertices k v → dot l.normal v.dir ≡ pos 0 → IsOnCircle l.normal v.dir
@@ -16,7 +16,7 @@ module _ (M : Map) (V : Valid M) (l : MapSloop) where
   own e k x d a o z =
       let r = at-sloop M.arcs M.sloop l e in
       let i = V.shaped.no_items_meet k r.0 x (sloop_item l) d a r.1 o (item-on x d o z) in
-      let q = at-one (items M) r.0 x (sloop_item l) (subst (λ (j : ℕ). IsAt (items M) j x) i a) r.1 in
+      let q = is-at_one (items M) r.0 x (sloop_item l) (subst (λ (j : ℕ). IsAt (items M) j x) i a) r.1 in
       subst (λ (y : Item). IsZero (cross l.normal (item_normal y))) (sym q) (cross-self l.normal)
 
 crossed-not : (u v : Vector) → (IsDirection (cross u v) → ⊥) → IsZero (cross u v)

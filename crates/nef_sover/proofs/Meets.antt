@@ -1,9 +1,9 @@
 -- The directions in which two items meet.
-use Rattle.nef_sover.proofs.Prelude.{◌≡◌, ℕ, ◌+◌, ◌<◌, ◌≤◌, List, [], ◌∷◌, ◌++◌, Some, None, length, get_or, refl, sym, ap, subst, inl, inr, ◌⊎◌, svertex_limit, Vector, IsAtMost, IsParallel, SameDirection, cross, opposite, vector_of, Dir, IsOnCircle, arcs_are_of_directions, two_meets_at, SVertex, SphereMap, map-at, at-map, svertex_of, map_of, IsSphereMap, Track, track_normal, track_number, IsOnTrack, Axis, CrossedItems, AddsAxes, NamesTracks, IsCommon, IsMeetAlong, IsTrackMeet, IsOnSvertex, direction-right, dir-self, level-way, SameDirection-turned}
+use Rattle.nef_sover.proofs.Prelude.{◌≡◌, ℕ, ◌+◌, ◌<◌, ◌≤◌, List, [], ◌∷◌, ◌++◌, Some, None, length, get_or, refl, sym, ap, subst, inl, inr, ◌⊎◌, svertex_limit, Vector, IsAtMost, IsParallel, SameDirection, cross, opposite, vector_of, Dir, IsOnCircle, arcs_are_of_directions, two_meets_at, SVertex, SphereMap, map-is_at, is-at_map, svertex_of, map_of, IsSphereMap, Track, track_normal, track_number, IsOnTrack, Axis, CrossedItems, AddsAxes, NamesTracks, IsCommon, IsMeetAlong, IsTrackMeet, IsOnSvertex, direction-right, dir-self, level-way, SameDirection-turned}
 use Rattle.nef_arc.proofs.Ends.{source_on, target_on}
 use Rattle.nef_sover.specs.declared.axes.Track.TheVariants.{Arc, Sloop}
-use Rattle.nef_sover.proofs.Places.{read-at}
 use Rattle.nef_sover.proofs.Adding.{adds-none, adds-one, adds-both, adds-as, AnyFirst, AnyAt, any-more, any-all}
+use Rattle.nef_space.proofs.Lists.{is-at_read}
 
 on-same : (x : Track) (d e : Vector) → SameDirection d e → IsOnTrack x d → IsOnTrack x e
 on-same (Arc k a) d e s o = arcs_are_of_directions (vector_of a.normal) (vector_of a.source) (vector_of a.target) d e a.normal.some (source_on a) (target_on a) s o
@@ -47,12 +47,12 @@ module _ (m : SphereMap) (S : IsSphereMap m) where
   pub svertex-more : (i : ℕ) (v : SVertex) (ds es fs : List Axis) → i < length m.svertices → v ≡ get_or m.svertices i v → AddsAxes (AnyFirst IsSvertexAlong m.svertices i) ds es
       → fs ≡ es ++ record { dir = v.dir; crossed = None } ∷ [] → AddsAxes (AnyFirst IsSvertexAlong m.svertices (i + 1)) ds fs
   svertex-more i v ds es fs l e p q =
-      let s = S.small.svertices i (svertex_of v) (map-at svertex_of m.svertices i v (read-at m.svertices i v l e)) in
+      let s = S.small.svertices i (svertex_of v) (map-is_at svertex_of m.svertices i v (is-at_read m.svertices i v l e)) in
       any-more IsSvertexAlong m.svertices i v ds es fs l e p
       (subst (AddsAxes (IsSvertexAlong v) es) (sym q) (adds-one (IsSvertexAlong v) es (record { dir = v.dir; crossed = None }) ((dir-self (vector_of v.dir) v.dir.some, refl), s) (λ c f w. w.0)))
 
   pub svertices-all : (i : ℕ) (ds es : List Axis) → length m.svertices ≤ i → AddsAxes (AnyFirst IsSvertexAlong m.svertices i) ds es → AddsAxes (IsOnSvertex (map_of m)) ds es
   svertices-all i ds es l p = adds-as (AnyAt IsSvertexAlong m.svertices) (IsOnSvertex (map_of m)) ds es
-      (λ c d a. let r = a.3 in ((a.0, svertex_of a.1, map-at svertex_of m.svertices a.0 a.1 a.2, r.0), r.1))
-      (λ c d o. let a = o.0 in let v = at-map svertex_of m.svertices a.0 a.1 a.2 in (a.0, v.0, v.1, (subst (λ w. SameDirection w d) (ap (λ u. u.dir) (sym v.2)) a.3, o.1)))
+      (λ c d a. let r = a.3 in ((a.0, svertex_of a.1, map-is_at svertex_of m.svertices a.0 a.1 a.2, r.0), r.1))
+      (λ c d o. let a = o.0 in let v = is-at_map svertex_of m.svertices a.0 a.1 a.2 in (a.0, v.0, v.1, (subst (λ w. SameDirection w d) (ap (λ u. u.dir) (sym v.2)) a.3, o.1)))
       (any-all IsSvertexAlong m.svertices i ds es l p)

@@ -1,11 +1,9 @@
 -- Elements of lists by their places.
-use Rattle.nef_sover.proofs.Prelude.{◌≡◌, ℕ, zero, suc, ◌+◌, ◌<◌, ◌≤◌, List, [], ◌∷◌, ◌++◌, length, take, get_or, Option, Some, None, Result, Ok, Err, refl, sym, ap, subst, ◌∙◌, AllZip, IsAt, at-within, at-get, get-at, is-at_none, is-at_first}
+use Rattle.nef_sover.proofs.Prelude.{◌≡◌, ℕ, zero, suc, ◌+◌, ◌<◌, ◌≤◌, List, [], ◌∷◌, ◌++◌, length, take, get_or, Option, Some, None, Result, Ok, Err, refl, sym, ap, subst, ◌∙◌, AllZip, IsAt, is-at_within, is-at_is, is-at_get, is-at_none, is-at_first}
 use Rattle.std.specs.Option.{MatchOption}
 use Rattle.std.specs.Result.{IfOk}
 use Rattle.std.proofs.lemmas.List.{take_more, take_all}
-
-pub read-at : {X : Type 0} (xs : List X) (k : ℕ) (x : X) → k < length xs → x ≡ get_or xs k x → IsAt xs k x
-read-at xs k x l e = subst (IsAt xs k) (sym e) (get-at xs k x l)
+use Rattle.nef_space.proofs.Lists.{is-at_read}
 
 -- two lists place by place
 pub zip-second : {X Y : Type 0} (R : X → Y → Type 0) (xs : List X) (ys : List Y) (k : ℕ) (x : X) → AllZip R xs ys → IsAt xs k x → (y : Y) × IsAt ys k y × R x y
@@ -28,7 +26,7 @@ zip-append R (a ∷ as') (b ∷ bs) us vs z w = (z.0, zip-append R as' bs us vs 
 
 -- one more of the first elements
 pub zip-more : {X Y : Type 0} (R : X → Y → Type 0) (xs : List X) (ys : List Y) (k : ℕ) (x : X) (y : Y) → AllZip R xs (take k ys) → IsAt ys k y → R x y → AllZip R (xs ++ x ∷ []) (take (k + 1) ys)
-zip-more R xs ys k x y z h r = subst (AllZip R (xs ++ x ∷ [])) (sym (take_more ys k y (at-within ys k y h) ∙ ap (λ w. take k ys ++ w ∷ []) (at-get ys k y y h))) (zip-append R xs (take k ys) (x ∷ []) (y ∷ []) z (r, tt))
+zip-more R xs ys k x y z h r = subst (AllZip R (xs ++ x ∷ [])) (sym (take_more ys k y (is-at_within ys k y h) ∙ ap (λ w. take k ys ++ w ∷ []) (is-at_is ys k y y h))) (zip-append R xs (take k ys) (x ∷ []) (y ∷ []) z (r, tt))
 
 pub zip-all : {X Y : Type 0} (R : X → Y → Type 0) (xs : List X) (ys : List Y) (k : ℕ) → length ys ≤ k → AllZip R xs (take k ys) → AllZip R xs ys
 zip-all R xs ys k l z = subst (AllZip R xs) (take_all k ys l) z

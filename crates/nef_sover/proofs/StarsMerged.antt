@@ -1,7 +1,7 @@
 -- Two stars of one direction, merged.
-use Rattle.nef_sover.proofs.Prelude.{◌≡◌, ℕ, List, map, sym, subst, ◌∙◌, All, Vector, IsDirection, cross, SameDirection, Label, vector_of, Dir, IsAt, Map, StarLabel, ByOp, InOrder, VectorBelow, IsAxis, NearByOp, IsMerged, Op, Star, op_label, star_of, IsStar, IsCombined, each_has_one_label, IsNeighbourhood, map-at, at-map, at-get, at-contains, contains-at, star-well_formed, Axis, AreAxes, IsMergedAt, AreMerged}
+use Rattle.nef_sover.proofs.Prelude.{◌≡◌, ℕ, List, map, sym, subst, ◌∙◌, All, Vector, IsDirection, cross, SameDirection, Label, vector_of, Dir, IsAt, Map, StarLabel, ByOp, InOrder, VectorBelow, IsAxis, NearByOp, IsMerged, Op, Star, op_label, star_of, IsStar, IsCombined, each_has_one_label, IsNeighbourhood, map-is_at, is-at_map, is-at_is, at-contains, contains-at, star-well_formed, Axis, AreAxes, IsMergedAt, AreMerged}
 use Rattle.law_sphere.specs.Stars.{Star as PlainStar}
-use Rattle.nef_smap.proofs.SideLists.{at-some}
+use Rattle.nef_smap.proofs.SideLists.{is-at_some}
 use Rattle.nef_sover.proofs.Places.{zip-first, zip-second}
 
 -- p and q are the stars of A and B at d
@@ -39,22 +39,22 @@ module _ (A B : Map) (op : Label → Label → Label) (ds : List Axis) (ts : Lis
 
   pub all-merged : (k : ℕ) (t : PlainStar) → IsAt (map star_of ts) k t → IsMerged A B op t
   all-merged k t h =
-      let s = at-map star_of ts k t h in let d = of_star k s.0 s.1 in
+      let s = is-at_map star_of ts k t h in let d = of_star k s.0 s.1 in
       subst (IsMerged A B op) s.2 (merged-from d.0.dir s.0 (X.axis d.0 (at-contains ds k d.0 d.1)) d.2)
 
   pub all-complete : (d : Vector) → IsAxis A B d → (k : ℕ) × (t : PlainStar) × IsAt (map star_of ts) k t × SameDirection t.axis d
   all-complete d x =
       let e = X.all d x in let k = contains-at ds e.0 e.1 in
       let t = zip-first (λ (s : Star) (f : Axis). IsMergedAt A B op f.dir s) ts ds k.0 e.0 Z k.1 in let m = t.2 in
-      (k.0, star_of t.0, map-at star_of ts k.0 t.0 t.1, subst (λ (f : Dir). SameDirection (vector_of f) d) (sym m.axis) e.2)
+      (k.0, star_of t.0, map-is_at star_of ts k.0 t.0 t.1, subst (λ (f : Dir). SameDirection (vector_of f) d) (sym m.axis) e.2)
 
   pub all-ordered : InOrder (λ (t u : PlainStar). VectorBelow t.axis u.axis) (map star_of ts)
   all-ordered i k t u l h j =
-      let s = at-map star_of ts i t h in let r = at-map star_of ts k u j in
+      let s = is-at_map star_of ts i t h in let r = is-at_map star_of ts k u j in
       let d = of_star i s.0 s.1 in let e = of_star k r.0 r.1 in let m = d.2 in let n = e.2 in
       let below = X.ordered i k d.0 e.0 l d.1 e.1 in
       subst (λ (v : PlainStar). VectorBelow t.axis v.axis) r.2 (subst (λ (v : PlainStar). VectorBelow v.axis (vector_of r.0.axis)) s.2
       (subst (λ (f : Dir). VectorBelow (vector_of s.0.axis) (vector_of f)) (sym n.axis) (subst (λ (f : Dir). VectorBelow (vector_of f) (vector_of e.0.dir)) (sym m.axis) below)))
 
   pub all-stars : All IsStar ts
-  all-stars k d l = let t = at-some ts k l in let e = of_star k t.0 t.1 in let m = e.2 in subst IsStar (sym (at-get ts k t.0 d t.1)) m.star
+  all-stars k d l = let t = is-at_some ts k l in let e = of_star k t.0 t.1 in let m = e.2 in subst IsStar (sym (is-at_is ts k t.0 d t.1)) m.star

@@ -25,7 +25,7 @@ swap a b c = sym (*ℤ_assoc a b c) ∙ ap (λ z. z *ℤ c) (*ℤ_comm a b) ∙ 
 distribute_right : (a b c : ℤ) → (a +ℤ b) *ℤ c ≡ a *ℤ c +ℤ b *ℤ c
 distribute_right a b c = *ℤ_comm (a +ℤ b) c ∙ *ℤ_distribute c a b ∙ ap (λ z. z +ℤ c *ℤ b) (*ℤ_comm c a) ∙ ap (λ z. a *ℤ c +ℤ z) (*ℤ_comm c b)
 
-one_times : (a : ℤ) → pos 1 *ℤ a ≡ a
+pub one_times : (a : ℤ) → pos 1 *ℤ a ≡ a
 one_times a = omega (arith, ints)
 
 put-value : (xs : List ℤ) (n : ℕ) (m : List ℕ) → product xs (insert_variable n m) ≡ entry xs n *ℤ product xs m

@@ -206,7 +206,7 @@ opposite-dot a b = ring (numbers a b b b) (neg (at 0) ⊗ at 3 ⊕ neg (at 1) �
 pub dot-opposite : (n d : Vector) → dot n (opposite d) ≡ neg_ℤ (dot n d)
 dot-opposite n d = dot-comm n (opposite d) ∙ opposite-dot d n ∙ ap neg_ℤ (dot-comm d n)
 
-neg-zero : (z : ℤ) → neg_ℤ z ≡ pos 0 → z ≡ pos 0
+pub neg-zero : (z : ℤ) → neg_ℤ z ≡ pos 0 → z ≡ pos 0
 neg-zero z e = omega (arith, ints)
 
 pub direction-opposite : (d : Vector) → IsDirection d → IsDirection (opposite d)

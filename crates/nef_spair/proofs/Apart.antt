@@ -1,5 +1,5 @@
 -- What is apart in an order stands in order once it is sorted.
-use Rattle.nef_spair.proofs.Prelude.{◌≡◌, ℕ, ◌<◌, ⊎_elim, List, get_or, false, Ordering, Equal, arith, sym, ap, subst, ◌∙◌, IsDistinct, IsPermutation, IsSorted, MatchOrdering, eq_by_cmp, is_lt, is_eq, IsTotalOrder, false≢true, by_ranked, eq_by_cmp_equiv, tied_back, ranks_by, sorted_far, Contains-permutation, IsPermutation-sym, IsAt, InOrder, at-within, get-at, at-contains, contains-at, StandApart}
+use Rattle.nef_spair.proofs.Prelude.{◌≡◌, ℕ, ◌<◌, ⊎_elim, List, get_or, false, Ordering, Equal, arith, sym, ap, subst, ◌∙◌, IsDistinct, IsPermutation, IsSorted, MatchOrdering, eq_by_cmp, is_lt, is_eq, IsTotalOrder, false≢true, by_ranked, eq_by_cmp_equiv, tied_back, ranks_by, sorted_far, Contains-permutation, IsPermutation-sym, IsAt, InOrder, is-at_within, is-at_get, at-contains, contains-at, StandApart}
 use Rattle.std.proofs.lemmas.Bool.{cases_order}
 use Rattle.std.proofs.lemmas.Map.Keys.{IsDistinct-from_apart, IsDistinct-IsPermutation, apart_from_distinct}
 use Rattle.nef_smap.proofs.SortedOnce.{both-at}
@@ -22,13 +22,13 @@ module _ {A : Type 0} (order : A → A → Ordering) (total : IsTotalOrder order
 
   distinct : (xs : List A) → StandApart Same xs → IsDistinct (eq_by_cmp order) xs
   distinct xs h = IsDistinct-from_apart (eq_by_cmp order) xs (λ j k d l m. not-equal (get_or xs j d) (get_or xs k d)
-      (λ s. let e : j ≡ k = h j k (get_or xs j d) (get_or xs k d) (get-at xs j d (omega arith)) (get-at xs k d m) s in omega (arith, e, l)))
+      (λ s. let e : j ≡ k = h j k (get_or xs j d) (get_or xs k d) (is-at_get xs j d (omega arith)) (is-at_get xs k d m) s in omega (arith, e, l)))
 
   apart : (xs : List A) → IsDistinct (eq_by_cmp order) xs → StandApart Same xs
   apart xs h j k a b l r s = ⊎_elim (λ e. e) (λ d. absurd (⊎_elim (λ m. differ j k a b m l r s) (λ m. differ k j b a m r l (turned-same a b s)) d)) (cases_order j k)
     where
       differ : (j k : ℕ) (a b : A) → j < k → IsAt xs j a → IsAt xs k b → Same a b → ⊥
-      differ j k a b m l r s = false≢true (sym (both-at (λ v w. eq_by_cmp order v w ≡ false) xs j k a b l r (λ d. apart_from_distinct (eq_by_cmp order) xs j k d h m (at-within xs k b r))) ∙ ap is_eq (equal a b s))
+      differ j k a b m l r s = false≢true (sym (both-at (λ v w. eq_by_cmp order v w ≡ false) xs j k a b l r (λ d. apart_from_distinct (eq_by_cmp order) xs j k d h m (is-at_within xs k b r))) ∙ ap is_eq (equal a b s))
 
   pub still-apart : (xs ys : List A) → IsPermutation xs ys → StandApart Same xs → StandApart Same ys
   still-apart xs ys moved h = apart ys (IsDistinct-IsPermutation (eq_by_cmp order) (eq_by_cmp_equiv total).symm xs ys moved (distinct xs h))
@@ -41,4 +41,4 @@ module _ {A : Type 0} (order : A → A → Ordering) (total : IsTotalOrder order
     where
       test : is_lt (order y x) ≡ false
       test = both-at (λ v w. is_lt (order w v) ≡ false) ys i k x y a b
-          (λ d. sorted_far (λ a b. is_lt (order a b)) (ranks_by total (λ (a : A). a)) ys s i k d (omega (arith, l)) (at-within ys k y b))
+          (λ d. sorted_far (λ a b. is_lt (order a b)) (ranks_by total (λ (a : A). a)) ys s i k d (omega (arith, l)) (is-at_within ys k y b))

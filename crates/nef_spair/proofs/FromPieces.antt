@@ -1,5 +1,5 @@
 -- The map that is made of the pieces of simplified stars is built from these stars, and its numbers are small.
-use Rattle.nef_spair.proofs.Prelude.{◌≡◌, ℕ, zero, suc, List, [], ◌∷◌, map, Option, Some, None, option_map, MatchOption, true, refl, sym, ap, subst, ◌∙◌, inl, inr, All, normal_limit, svertex_limit, Vector, IsAtMost, Label, vector_of, IsAt, MapVertex, Arc, MapSloop, Item, items_then, item_normal, InOrder, ArcBelow, IsStraight, IsBare, IsRawOf, svertex_at, IsArcFrom, IsSloopFrom, raw_sloop, straight_sloop, IsRawLabel, IsBuiltFrom, ray_of, star_of, IsStar, SArc, SLoop, RawStars, SphereMap, svertex_of, arc_of, sloop_of, map_of, raw_of, IsSmall, at-map, map-at, at-within, IsMadeOf, Pieces, ArePiecesOf, IsChosen, not-both as none-some, is-at_none, is-at_first}
+use Rattle.nef_spair.proofs.Prelude.{◌≡◌, ℕ, zero, suc, List, [], ◌∷◌, map, Option, Some, None, option_map, MatchOption, true, refl, sym, ap, subst, ◌∙◌, inl, inr, All, normal_limit, svertex_limit, Vector, IsAtMost, Label, vector_of, IsAt, MapVertex, Arc, MapSloop, Item, items_then, item_normal, InOrder, ArcBelow, IsStraight, IsBare, IsRawOf, svertex_at, IsArcFrom, IsSloopFrom, raw_sloop, straight_sloop, IsRawLabel, IsBuiltFrom, ray_of, star_of, IsStar, SArc, SLoop, RawStars, SphereMap, svertex_of, arc_of, sloop_of, map_of, raw_of, IsSmall, is-at_map, map-is_at, is-at_within, IsMadeOf, Pieces, ArePiecesOf, IsChosen, not-both as none-some, is-at_none, is-at_first}
 use Rattle.law_sphere.specs.Stars.{Ray as PlainRay, Star as PlainStar}
 use Rattle.nef_spair.proofs.OneKind.{no-sloop-was, none-was}
 use Rattle.nef_spair.proofs.Places.{all-at}
@@ -13,19 +13,19 @@ module _ (q : RawStars) (p : Pieces) (m : SphereMap) (pieces : ArePiecesOf q p) 
 
   -- ---- arcs
   arcs-from : (k : ℕ) (a : Arc) → IsAt (map arc_of m.arcs) k a → IsArcFrom K a
-  arcs-from k a h = let b = at-map arc_of m.arcs k a h in let w = made.arcs in subst (IsArcFrom K) b.2 (w.from k b.0 b.1)
+  arcs-from k a h = let b = is-at_map arc_of m.arcs k a h in let w = made.arcs in subst (IsArcFrom K) b.2 (w.from k b.0 b.1)
 
   arcs-all : (i k : ℕ) (t : PlainStar) (r : PlainRay) → IsAt K i t → IsAt t.rays k r → r.ahead ≡ true → (j : ℕ) × (a : Arc) × IsAt (map arc_of m.arcs) j a × (a.source ≡ i) × (a.normal ≡ r.normal)
   arcs-all i k t r h b f =
-      let u = at-map star_of p.kept i t h in
-      let v = at-map ray_of u.0.rays.items k r (subst (λ (x : PlainStar). IsAt x.rays k r) (sym u.2) b) in
+      let u = is-at_map star_of p.kept i t h in
+      let v = is-at_map ray_of u.0.rays.items k r (subst (λ (x : PlainStar). IsAt x.rays k r) (sym u.2) b) in
       let w = made.arcs in
-      let o = w.all i k u.0 v.0 u.1 v.1 (ap (λ (x : PlainRay). x.ahead) v.2 ∙ f) (inl (at-within p.kept i u.0 u.1)) in
-      (o.0, arc_of o.1, map-at arc_of m.arcs o.0 o.1 o.2, o.3, ap vector_of o.4 ∙ ap (λ (x : PlainRay). x.normal) v.2)
+      let o = w.all i k u.0 v.0 u.1 v.1 (ap (λ (x : PlainRay). x.ahead) v.2 ∙ f) (inl (is-at_within p.kept i u.0 u.1)) in
+      (o.0, arc_of o.1, map-is_at arc_of m.arcs o.0 o.1 o.2, o.3, ap vector_of o.4 ∙ ap (λ (x : PlainRay). x.normal) v.2)
 
   arcs-ordered : InOrder ArcBelow (map arc_of m.arcs)
   arcs-ordered i k x y l a b =
-      let u = at-map arc_of m.arcs i x a in let v = at-map arc_of m.arcs k y b in
+      let u = is-at_map arc_of m.arcs i x a in let v = is-at_map arc_of m.arcs k y b in
       subst (ArcBelow x) v.2 (subst (λ (z : Arc). ArcBelow z (arc_of v.0)) u.2 (made.ordered i k u.0 v.0 l u.1 v.1))
 
   -- ---- the sloop
@@ -33,7 +33,7 @@ module _ (q : RawStars) (p : Pieces) (m : SphereMap) (pieces : ArePiecesOf q p) 
   chosen-from c (inl (given, proper)) = raw_sloop (ap (option_map sloop_of) given) proper
   chosen-from c (inr (k, listed, bare)) =
       let w = pieces.circles in let f = w.from k c listed in
-      straight_sloop f.0 (star_of f.1) (map-at star_of q.stars f.0 f.1 f.2) f.3.0 (subst (IsBare K) (ap (λ (l : MapSloop). l.normal) f.3.1) bare) f.3.1
+      straight_sloop f.0 (star_of f.1) (map-is_at star_of q.stars f.0 f.1 f.2) f.3.0 (subst (IsBare K) (ap (λ (l : MapSloop). l.normal) f.3.1) bare) f.3.1
 
   sloop-from : (l : MapSloop) → option_map sloop_of m.sloop ≡ Some l → IsSloopFrom (raw_of q) K l
   sloop-from l e =
@@ -47,7 +47,7 @@ module _ (q : RawStars) (p : Pieces) (m : SphereMap) (pieces : ArePiecesOf q p) 
       let c = sloop-was q.sloop l e in
       (c.0, inl (c.1, λ a b. proper (sym (ap (λ (x : MapSloop). x.pos) c.2) ∙ a ∙ ap (λ (x : MapSloop). x.mark) c.2) (sym (ap (λ (x : MapSloop). x.neg) c.2) ∙ b ∙ ap (λ (x : MapSloop). x.mark) c.2)))
   choice l (straight_sloop j t a s bare e) =
-      let u = at-map star_of q.stars j t a in
+      let u = is-at_map star_of q.stars j t a in
       let v : (s : IsStraight (star_of u.0)) × IsBare K s.first.normal = subst (λ (x : PlainStar). (s : IsStraight x) × IsBare K s.first.normal) (sym u.2) (s, bare) in
       let w = pieces.circles in let f = w.all j u.0 u.1 v.0 in
       let same = ap (λ (x : MapSloop). x.normal) f.3.1 ∙ ap (λ (x : PlainRay). x.normal) (first-same (star_of u.0) f.3.0 v.0) in
@@ -95,8 +95,8 @@ module _ (q : RawStars) (p : Pieces) (m : SphereMap) (pieces : ArePiecesOf q p) 
   module _ (stars : All IsStar q.stars) (circle : (l : SLoop) → q.sloop ≡ Some l → IsAtMost normal_limit (vector_of l.normal)) where
     way-small : (k : ℕ) (v : MapVertex) → IsAt (map svertex_of m.svertices) k v → IsAtMost svertex_limit v.dir
     way-small k v a =
-        let t = at-map svertex_at K k v (subst (λ (l : List MapVertex). IsAt l k v) made.svertices a) in
-        let u = at-map star_of p.kept k t.0 t.1 in
+        let t = is-at_map svertex_at K k v (subst (λ (l : List MapVertex). IsAt l k v) made.svertices a) in
+        let u = is-at_map star_of p.kept k t.0 t.1 in
         let s = all-at IsStar p.kept (kept-stars q p pieces stars) k u.0 u.1 in
         subst (λ (x : MapVertex). IsAtMost svertex_limit x.dir) t.2 (subst (λ (x : PlainStar). IsAtMost svertex_limit x.axis) u.2 s.turned.axis_small)
 

@@ -1,11 +1,12 @@
 -- The arcs that leave stars, one ray after another.
-use Rattle.nef_spair.proofs.Prelude.{◌≡◌, ℕ, zero, suc, ◌+◌, ◌<◌, ◌≤◌, List, [], ◌∷◌, ◌++◌, length, map, get_or, true, Bool, cond, arith, sym, ap, subst, ◌∙◌, inl, inr, ◌⊎◌, eq-or-lt_of_le, length-map, normal_limit, opposite, IsAtMost, SameDirection, Label, Out, vector_of, Dir, IsAt, Arc as PlainArc, Follows, at-one, IsArcFrom, IsFirstAfter, Ray, Star, ray_of, star_of, left_of, left_at, IsRay, BeginsAnywhere, IsNext, three_ways, count-some, SArc, arc_of, map-at, at-within, get-at, IsEarlierRay, LeavesAlong, IsTwin, AreApart, AreArcs, SameDirection-turned, dir-self, is-at_none, is-at_first}
+use Rattle.nef_spair.proofs.Prelude.{◌≡◌, ℕ, zero, suc, ◌+◌, ◌<◌, ◌≤◌, List, [], ◌∷◌, ◌++◌, length, map, get_or, true, Bool, cond, arith, sym, ap, subst, ◌∙◌, inl, inr, ◌⊎◌, eq-or-lt_of_le, length-map, normal_limit, opposite, IsAtMost, SameDirection, Label, Out, vector_of, Dir, IsAt, Arc as PlainArc, Follows, is-at_one, IsArcFrom, IsFirstAfter, Ray, Star, ray_of, star_of, left_of, left_at, IsRay, BeginsAnywhere, IsNext, three_ways, count-some, SArc, arc_of, map-is_at, is-at_within, is-at_get, IsEarlierRay, LeavesAlong, IsTwin, AreApart, AreArcs, SameDirection-turned, dir-self, is-at_none, is-at_first}
 use Rattle.nef_smap.proofs.WellFormed.{left-at}
-use Rattle.nef_spair.proofs.Places.{at-before, at-last, at-more, all-at}
+use Rattle.nef_spair.proofs.Places.{all-at}
+use Rattle.nef_space.proofs.Lists.{is-at_last, is-at_left, is-at_more}
 
 -- ---- one arc
 pub as-many-sectors : (t : Star) → BeginsAnywhere t → (k : ℕ) (r : Ray) → IsAt t.rays.items k r → length t.sectors.items ≡ length t.rays.items
-as-many-sectors t T k r h = T.sectors ∙ count-some t.rays.items (let w = at-within t.rays.items k r h in omega (arith, w))
+as-many-sectors t T k r h = T.sectors ∙ count-some t.rays.items (let w = is-at_within t.rays.items k r h in omega (arith, w))
 
 pub ray-leaves : (t : Star) → BeginsAnywhere t → (k : ℕ) (r : Ray) → IsAt t.rays.items k r → IsRay (vector_of t.axis) r
 ray-leaves t T k r h = all-at (IsRay (vector_of t.axis)) t.rays.items T.rays k r h
@@ -17,10 +18,10 @@ module _ (kept : List Star) (a : PlainArc) (t : Star) (r : Ray) (number before :
   sectors = as-many-sectors t T number r ray
 
   within : number < length t.rays.items
-  within = at-within t.rays.items number r ray
+  within = is-at_within t.rays.items number r ray
 
   label : (k : ℕ) (l : Label) → k < length t.sectors.items → l ≡ get_or t.sectors.items k Out → IsAt t.sectors.items k l
-  label k l h e = subst (IsAt t.sectors.items k) (sym e) (get-at t.sectors.items k Out h)
+  label k l h e = subst (IsAt t.sectors.items k) (sym e) (is-at_get t.sectors.items k Out h)
 
   before_within : before < length t.sectors.items
   before_within = elim follows [ inl e ↦ omega (arith, e.0, within, sectors) | inr e ↦ omega (arith, e.0) ]
@@ -37,8 +38,8 @@ module _ (kept : List Star) (a : PlainArc) (t : Star) (r : Ray) (number before :
     ray = ray_of r;
     before = before;
     number = number;
-    has_star = map-at star_of kept a.source t star;
-    has_ray = map-at ray_of t.rays.items number r ray;
+    has_star = map-is_at star_of kept a.source t star;
+    has_ray = map-is_at ray_of t.rays.items number r ray;
     ahead = ahead;
     normal = normal;
     mark = mark;
@@ -65,12 +66,11 @@ module _ (t : Star) (T : BeginsAnywhere t) where
   pub one-ray : (i k : ℕ) (q r : Ray) → IsAt t.rays.items i q → IsAt t.rays.items k r → q.ahead ≡ true → r.ahead ≡ true → q.normal ≡ r.normal → i ≡ k
   one-ray i k q r a b qa ra e =
       elim (three_ways i k) [
-        | inl l ↦ absurd (later-differs i k l (at-within t.rays.items k r b) (same-left i k q r a b qa ra e))
-        | inr o ↦ elim o [ inl s ↦ s | inr l ↦ absurd (later-differs k i l (at-within t.rays.items i q a) (same-left k i r q b a ra qa (sym e))) ]
+        | inl l ↦ absurd (later-differs i k l (is-at_within t.rays.items k r b) (same-left i k q r a b qa ra e))
+        | inr o ↦ elim o [ inl s ↦ s | inr l ↦ absurd (later-differs k i l (is-at_within t.rays.items i q a) (same-left k i r q b a ra qa (sym e))) ]
       ]
 
 -- ---- arcs of more rays
-
 module _ (kept : List Star) (i n : ℕ) (arcs : List SArc) (w : AreArcs kept i n arcs) where
   earlier : (j m : ℕ) → IsEarlierRay i n j m → IsEarlierRay i (n + 1) j m
   earlier j m (inl h) = inl h
@@ -92,8 +92,8 @@ module _ (kept : List Star) (i n : ℕ) (arcs : List SArc) (w : AreArcs kept i n
     where
       same : (j m : ℕ) (u : Star) (q : Ray) → IsAt kept j u → IsAt u.rays.items m q → q.ahead ≡ true → j ≡ i → m ≡ n → r.ahead ≡ true
       same j m u q h b f e z =
-          let us : u ≡ t = at-one kept i u t (subst (λ (x : ℕ). IsAt kept x u) e h) st in
-          let qs : q ≡ r = at-one t.rays.items n q r (subst (λ (x : Star). IsAt x.rays.items n q) us (subst (λ (x : ℕ). IsAt u.rays.items x q) z b)) ra in
+          let us : u ≡ t = is-at_one kept i u t (subst (λ (x : ℕ). IsAt kept x u) e h) st in
+          let qs : q ≡ r = is-at_one t.rays.items n q r (subst (λ (x : Star). IsAt x.rays.items n q) us (subst (λ (x : ℕ). IsAt u.rays.items x q) z b)) ra in
           subst (λ (x : Ray). x.ahead ≡ true) qs f
 
   -- the arc along ray n of star i
@@ -105,12 +105,12 @@ module _ (kept : List Star) (i n : ℕ) (arcs : List SArc) (w : AreArcs kept i n
     twin : (k : ℕ) (a : SArc) → IsAt arcs k a → IsTwin a c → ⊥
     twin k a h (e, s) =
         let p = w.along k a h in let u = p.1 in
-        let same : u.star ≡ along.star = at-one kept i u.star along.star (subst (λ (x : ℕ). IsAt kept x u.star) (s ∙ source) u.has_star) (subst (λ (x : ℕ). IsAt kept x along.star) source along.has_star) in
+        let same : u.star ≡ along.star = is-at_one kept i u.star along.star (subst (λ (x : ℕ). IsAt kept x u.star) (s ∙ source) u.has_star) (subst (λ (x : ℕ). IsAt kept x along.star) source along.has_star) in
         let one : p.0 ≡ n = one-ray along.star turned p.0 n u.ray along.ray (subst (λ (x : Star). IsAt x.rays.items p.0 u.ray) same u.has_ray) along.has_ray u.ahead along.ahead (sym u.normal ∙ e ∙ along.normal) in
         elim p.2 [ inl l ↦ omega (arith, l, s, source) | inr l ↦ omega (arith, l.1, one) ]
 
     old-or-new : (k : ℕ) (a : SArc) → IsAt (arcs ++ c ∷ []) k a → IsAt arcs k a ⊎ ((k ≡ length arcs) × (c ≡ a))
-    old-or-new k a h = at-more arcs c k a h
+    old-or-new k a h = is-at_more arcs c k a h
 
     twins : AreApart (arcs ++ c ∷ [])
     twins j k a b h l z =
@@ -134,15 +134,15 @@ module _ (kept : List Star) (i n : ℕ) (arcs : List SArc) (w : AreArcs kept i n
           ];
       all = λ j m u q h b f e.
           elim (latest j m e) [
-            | inl x ↦ let o = w.all j m u q h b f x in (o.0, o.1, at-before arcs (c ∷ []) o.0 o.1 o.2, o.3, o.4)
-            | inr x ↦ (length arcs, c, at-last arcs c, source ∙ sym x.0, along.normal ∙ same j m u q h b x.0 x.1)
+            | inl x ↦ let o = w.all j m u q h b f x in (o.0, o.1, is-at_left arcs (c ∷ []) o.0 o.1 o.2, o.3, o.4)
+            | inr x ↦ (length arcs, c, is-at_last arcs c, source ∙ sym x.0, along.normal ∙ same j m u q h b x.0 x.1)
           ];
     }
       where
         same : (j m : ℕ) (u : Star) (q : Ray) → IsAt kept j u → IsAt u.rays.items m q → j ≡ i → m ≡ n → along.ray.normal ≡ q.normal
         same j m u q h b e z =
-            let us : u ≡ along.star = at-one kept i u along.star (subst (λ (x : ℕ). IsAt kept x u) e h) (subst (λ (x : ℕ). IsAt kept x along.star) source along.has_star) in
-            ap (λ (r : Ray). r.normal) (at-one along.star.rays.items n along.ray q along.has_ray (subst (λ (x : Star). IsAt x.rays.items n q) us (subst (λ (x : ℕ). IsAt u.rays.items x q) z b)))
+            let us : u ≡ along.star = is-at_one kept i u along.star (subst (λ (x : ℕ). IsAt kept x u) e h) (subst (λ (x : ℕ). IsAt kept x along.star) source along.has_star) in
+            ap (λ (r : Ray). r.normal) (is-at_one along.star.rays.items n along.ray q along.has_ray (subst (λ (x : Star). IsAt x.rays.items n q) us (subst (λ (x : ℕ). IsAt u.rays.items x q) z b)))
 
 -- all rays of star i are done
 pub arcs-next : (kept : List Star) (i n : ℕ) (arcs : List SArc) (t : Star) → IsAt kept i t → length t.rays.items ≤ n → AreArcs kept i n arcs → AreArcs kept (i + 1) 0 arcs
@@ -157,7 +157,7 @@ arcs-next kept i n arcs t st h w = record {
     before : (j m : ℕ) (u : Star) (q : Ray) → IsAt kept j u → IsAt u.rays.items m q → IsEarlierRay (i + 1) 0 j m → IsEarlierRay i n j m
     before j m u q x b (inl l) =
         elim (eq-or-lt_of_le {n = j} {m = i} (omega (arith, l))) [
-          | inl z ↦ inr (z, let us : u ≡ t = at-one kept i u t (subst (λ (y : ℕ). IsAt kept y u) z x) st in omega (arith, h, at-within t.rays.items m q (subst (λ (y : Star). IsAt y.rays.items m q) us b)))
+          | inl z ↦ inr (z, let us : u ≡ t = is-at_one kept i u t (subst (λ (y : ℕ). IsAt kept y u) z x) st in omega (arith, h, is-at_within t.rays.items m q (subst (λ (y : Star). IsAt y.rays.items m q) us b)))
           | inr y ↦ inl y
         ]
     before j m u q x b (inr l) = absurd (omega (arith, l.1))

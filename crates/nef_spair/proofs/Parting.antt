@@ -1,7 +1,8 @@
 -- Circles of straight stars, one star after another, and what they and the kept stars are made of.
 use Rattle.nef_spair.proofs.Prelude.{◌≡◌, List, [], ◌∷◌, ◌++◌, length, map, get_or, sym, ap, subst, ◌∙◌, inl, inr, normal_limit, Vector, IsAtMost, Label, Out, vector_of, MapSloop, IsPlain, IsStraight, sloop_at, Ray, Star, ray_of, star_of, SLoop, sloop_of, IsDropped, AreAllKept, IsCircleOf, AreCircles, is-at_none}
 use Rattle.law_sphere.specs.Stars.{Ray as PlainRay}
-use Rattle.nef_spair.proofs.Places.{at-before, at-last, at-more, all-at, at-all}
+use Rattle.nef_spair.proofs.Places.{all-at, at-all}
+use Rattle.nef_space.proofs.Lists.{is-at_last, is-at_left, is-at_more}
 
 -- ---- the circle of a straight star
 sloop-same : (l k : MapSloop) → l.normal ≡ k.normal → l.pos ≡ k.pos → l.mark ≡ k.mark → l.neg ≡ k.neg → l ≡ k
@@ -38,17 +39,17 @@ module _ (ts : List Star) (cs : List SLoop) (t : Star) (w : AreCircles ts cs) wh
   pub circles-more : (c : SLoop) → IsCircleOf (star_of t) (sloop_of c) → IsAtMost normal_limit (vector_of c.normal) → AreCircles (ts ++ t ∷ []) (cs ++ c ∷ [])
   circles-more c i small = record {
     from = λ k d h.
-        elim (at-more cs c k d h) [
-          | inl a ↦ let f = w.from k d a in (f.0, f.1, at-before ts (t ∷ []) f.0 f.1 f.2, f.3)
-          | inr a ↦ (length ts, t, at-last ts t, subst (λ (x : SLoop). IsCircleOf (star_of t) (sloop_of x)) a.1 i)
+        elim (is-at_more cs c k d h) [
+          | inl a ↦ let f = w.from k d a in (f.0, f.1, is-at_left ts (t ∷ []) f.0 f.1 f.2, f.3)
+          | inr a ↦ (length ts, t, is-at_last ts t, subst (λ (x : SLoop). IsCircleOf (star_of t) (sloop_of x)) a.1 i)
         ];
     all = λ j u h s.
-        elim (at-more ts t j u h) [
-          | inl a ↦ let f = w.all j u a s in (f.0, f.1, at-before cs (c ∷ []) f.0 f.1 f.2, f.3)
-          | inr a ↦ (length cs, c, at-last cs c, subst (λ (x : Star). IsCircleOf (star_of x) (sloop_of c)) a.1 i)
+        elim (is-at_more ts t j u h) [
+          | inl a ↦ let f = w.all j u a s in (f.0, f.1, is-at_left cs (c ∷ []) f.0 f.1 f.2, f.3)
+          | inr a ↦ (length cs, c, is-at_last cs c, subst (λ (x : Star). IsCircleOf (star_of x) (sloop_of c)) a.1 i)
         ];
     small = at-all (λ (x : SLoop). IsAtMost normal_limit (vector_of x.normal)) (cs ++ c ∷ []) (λ k d h.
-        elim (at-more cs c k d h) [
+        elim (is-at_more cs c k d h) [
           | inl a ↦ all-at (λ (x : SLoop). IsAtMost normal_limit (vector_of x.normal)) cs w.small k d a
           | inr a ↦ subst (λ (x : SLoop). IsAtMost normal_limit (vector_of x.normal)) a.1 small
         ]);
@@ -56,7 +57,7 @@ module _ (ts : List Star) (cs : List SLoop) (t : Star) (w : AreCircles ts cs) wh
 
   pub circles-same : (IsStraight (star_of t) → ⊥) → AreCircles (ts ++ t ∷ []) cs
   circles-same n = record {
-    from = λ k d h. let f = w.from k d h in (f.0, f.1, at-before ts (t ∷ []) f.0 f.1 f.2, f.3);
-    all = λ j u h s. elim (at-more ts t j u h) [ inl a ↦ w.all j u a s | inr a ↦ absurd (n (subst (λ (x : Star). IsStraight (star_of x)) (sym a.1) s)) ];
+    from = λ k d h. let f = w.from k d h in (f.0, f.1, is-at_left ts (t ∷ []) f.0 f.1 f.2, f.3);
+    all = λ j u h s. elim (is-at_more ts t j u h) [ inl a ↦ w.all j u a s | inr a ↦ absurd (n (subst (λ (x : Star). IsStraight (star_of x)) (sym a.1) s)) ];
     small = w.small;
   }

@@ -1,28 +1,13 @@
 -- Elements by their places in longer lists, and what is left of a list without some.
-use Rattle.nef_spair.proofs.Prelude.{◌≡◌, ℕ, zero, suc, ◌<◌, List, [], ◌∷◌, ◌++◌, length, get_or, slice_get, Some, arith, refl, sym, ap, subst, inl, inr, ◌⊎◌, All, IsAt, at-within, at-get, get-at, AreOthers, is-at_none, is-at_first, is-at_left, is-at_last, is-at_more}
+use Rattle.nef_spair.proofs.Prelude.{◌≡◌, ℕ, zero, suc, ◌<◌, List, [], ◌∷◌, ◌++◌, length, get_or, slice_get, Some, arith, refl, sym, ap, subst, inl, inr, ◌⊎◌, All, IsAt, is-at_within, is-at_is, is-at_get, AreOthers, is-at_none, is-at_first, is-at_left, is-at_last, is-at_more}
+use Rattle.nef_space.proofs.Lists.{is-at_read}
 
 module _ {A : Type 0} where
-  pub at-before : (xs ys : List A) (k : ℕ) (x : A) → IsAt xs k x → IsAt (xs ++ ys) k x
-  at-before xs ys k x h = is-at_left xs ys k x h
-
-  pub at-last : (xs : List A) (x : A) → IsAt (xs ++ x ∷ []) (length xs) x
-  at-last xs x = is-at_last xs x
-
-  pub at-more : (xs : List A) (y : A) (k : ℕ) (x : A) → IsAt (xs ++ y ∷ []) k x → IsAt xs k x ⊎ ((k ≡ length xs) × (y ≡ x))
-  at-more xs y k x h = is-at_more xs y k x h
-
   pub all-at : (P : A → Type 0) (xs : List A) → All P xs → (k : ℕ) (x : A) → IsAt xs k x → P x
-  all-at P xs a k x h = subst P (at-get xs k x x h) (a k x (at-within xs k x h))
+  all-at P xs a k x h = subst P (is-at_is xs k x x h) (a k x (is-at_within xs k x h))
 
   pub at-all : (P : A → Type 0) (xs : List A) → ((k : ℕ) (x : A) → IsAt xs k x → P x) → All P xs
-  at-all P xs a k d h = a k (get_or xs k d) (get-at xs k d h)
-
-  pub some-at : (xs : List A) (k : ℕ) (x : A) → slice_get xs k ≡ Some x → IsAt xs k x
-  some-at xs k x e = e
-
-  -- what indexing gives
-  pub index-at : (xs : List A) (k : ℕ) (x : A) → k < length xs → x ≡ get_or xs k x → IsAt xs k x
-  index-at xs k x h e = subst (IsAt xs k) (sym e) (get-at xs k x h)
+  at-all P xs a k d h = a k (get_or xs k d) (is-at_get xs k d h)
 
   -- ---- those of a list that P doesn't hold of
   module _ (P : A → Type 0) where

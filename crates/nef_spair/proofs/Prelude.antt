@@ -3,7 +3,7 @@ pub use Rattle.nef_geo.proofs.Prelude.{MatchOrdering, SpacePoint, false≢true, 
 pub use Rattle.law_sphere.proofs.Prelude.{Cone, IsInFacet, IsInVolume, IsOnEdge, SameLabels, Set, is-at_first, is-at_none, level-of_opposite, level-opposite-back}
 pub use Rattle.law_sphere.proofs.building.Prelude.{ArcBelow, AreSimplified, ByOp, Follows, IsArcFrom, IsBare, IsBuiltFrom, IsKeptRaw, IsKeptStar, IsLabelling, IsPlain, IsRawLabel, IsRawOf, IsSimplified, IsSloopFrom, Raw, label-unique, raw_sloop, sloop_at, straight_sloop, svertex_at}
 pub use Rattle.nef_star.proofs.Prelude.{AboutFour, All, BeginsAnywhere, length-set}
-pub use Rattle.nef_smap.proofs.Prelude.{Arc, Bool, Dir, Equal, Global, Greater, IfOk-weaker, InOrder, IsAt, IsAtMost, IsDirection, IsNext, IsOpposite, IsRay, IsSmall, IsStar, IsStraight, IsStrictlyOn, IsTotalOrder, Item, Label, Least, Less, List, Map, MapLabel, MapSloop, MapVertex, None, Option, Ordered, Ordering, Out, Ray, SameDirection, SameDirection-turned, Some, Star, Valid, Vec, Vector, VectorBelow, [], ap, arc_of, arith, at-one, cond, dir-self, dot, dot-comm, eq-or-lt_of_le, eq_by_cmp, false, forms, get_or, inl, inr, ints, is-at_last, is-at_left, is_eq, is_lt, item_normal, items_then, left_at, left_of, length, length-map, map, map_of, normal_limit, opposite, option_map, order_is_transitive, pos, ray_of, refl, rules, same_directions_equal, slice_get, sloop_of, star_of, subst, suc, svertex_limit, svertex_of, sym, take, true, vector-same, vector_of, zero, ℕ, ℤ, ⊎_elim, ◌++◌, ◌+◌, ◌-◌, ◌<ℤ◌, ◌<◌, ◌↔◌, ◌∙◌, ◌∷◌, ◌≡◌, ◌≢◌, ◌≤◌, ◌⊎◌}
+pub use Rattle.nef_smap.proofs.Prelude.{Arc, Bool, Dir, Equal, Global, Greater, IfOk-weaker, InOrder, IsAt, IsAtMost, IsDirection, IsNext, IsOpposite, IsRay, IsSmall, IsStar, IsStraight, IsStrictlyOn, IsTotalOrder, Item, Label, Least, Less, List, Map, MapLabel, MapSloop, MapVertex, None, Option, Ordered, Ordering, Out, Ray, SameDirection, SameDirection-turned, Some, Star, Valid, Vec, Vector, VectorBelow, [], ap, arc_of, arith, is-at_one, cond, dir-self, dot, dot-comm, eq-or-lt_of_le, eq_by_cmp, false, forms, get_or, inl, inr, ints, is-at_last, is-at_left, is_eq, is_lt, item_normal, items_then, left_at, left_of, length, length-map, map, map_of, normal_limit, opposite, option_map, order_is_transitive, pos, ray_of, refl, rules, same_directions_equal, slice_get, sloop_of, star_of, subst, suc, svertex_limit, svertex_of, sym, take, true, vector-same, vector_of, zero, ℕ, ℤ, ⊎_elim, ◌++◌, ◌+◌, ◌-◌, ◌<ℤ◌, ◌<◌, ◌↔◌, ◌∙◌, ◌∷◌, ◌≡◌, ◌≢◌, ◌≤◌, ◌⊎◌}
 pub use Rattle.std.proofs.Common.{MatchOption, get_or-set_other, get_or-set_same, slice_set}
 pub use Rattle.std.proofs.lemmas.Cmp.{by_ranked, eq_by_cmp_equiv, nat_cmp_total, ranked, tied_back}
 pub use Rattle.std.proofs.lemmas.List.Sorted.{Contains-permutation, IsPermutation-sym, answers_always, ranks_by, sorted_far}
@@ -16,7 +16,7 @@ pub use Rattle.law_sphere.specs.building.From.{IsFirstAfter}
 pub use Rattle.nef_star.proofs.Counted.{count-some, refilled}
 pub use Rattle.nef_star.proofs.Needed.{true_or_false}
 pub use Rattle.nef_star.proofs.Turns.{four, three_ways}
-pub use Rattle.nef_smap.proofs.Lists.{at-contains, at-get, at-map, at-within, contains-at, get-at, map-at}
+pub use Rattle.nef_smap.proofs.Lists.{at-contains, contains-at}
 pub use Rattle.nef_smap.proofs.WellFormed.{dir-equal, star-well_formed}
 pub use Rattle.nef_smap.specs.Maps.{IsLeastMap, IsRawStars, raw_of}
 pub use Rattle.nef_smap.specs.declared.map.RawStars.{RawStars}
@@ -28,4 +28,4 @@ pub use Rattle.nef_spair.specs.Kinds.{IsKind, IsVertexMap, KindFits}
 pub use Rattle.nef_spair.specs.Made.{IsMadeFrom, IsMadeOf, IsMadeOfSimple}
 pub use Rattle.nef_spair.specs.Pieces.{AreAllKept, AreCircles, AreOthers, ArePiecesOf, AreSimple, IsBareCircle, IsChosen, IsCircleOf, IsDropped, IsSimple, Pieces}
 pub use Rattle.nef_spair.specs.declared.answer.Kind.TheVariants.{InFacet, InVolume, OnEdge, Vertex}
-pub use Rattle.nef_space.proofs.Lists.{is-at_more}
+pub use Rattle.nef_space.proofs.Lists.{is-at_more, is-at_get, is-at_is, is-at_map, is-at_within, map-is_at}

@@ -9,16 +9,9 @@ use Rattle.nef_star.proofs.Needed.{true_or_false}
 use Rattle.nef_star.proofs.Straight.{plane-turning}
 use Rattle.nef_star.proofs.Alternating.{four-turning, both-gives}
 use Rattle.law_sphere.proofs.SectorSees.{turn-from_left as turn-to}
+use Rattle.nef_space.proofs.Vectors.{back-triple, right-turn}
 
 -- ---- turns
-neg-second : (a u v : Vector) → triple a u (opposite v) ≡ neg_ℤ (triple a u v)
-neg-second a u v =
-    ring (numbers a u v a) (at 0 ⊗ (at 4 ⊗ neg (at 8) ⊖ at 5 ⊗ neg (at 7)) ⊕ at 1 ⊗ (at 5 ⊗ neg (at 6) ⊖ at 3 ⊗ neg (at 8)) ⊕ at 2 ⊗ (at 3 ⊗ neg (at 7) ⊖ at 4 ⊗ neg (at 6))) (neg (triple_poly 0 3 6)) tt
-
-neg-first : (a u v : Vector) → triple a (opposite u) v ≡ neg_ℤ (triple a u v)
-neg-first a u v =
-    ring (numbers a u v a) (at 0 ⊗ (neg (at 4) ⊗ at 8 ⊖ neg (at 5) ⊗ at 7) ⊕ at 1 ⊗ (neg (at 5) ⊗ at 6 ⊖ neg (at 3) ⊗ at 8) ⊕ at 2 ⊗ (neg (at 3) ⊗ at 7 ⊖ neg (at 4) ⊗ at 6)) (neg (triple_poly 0 3 6)) tt
-
 turn-self : (a u : Vector) → IsDirection u → triple a u u ≡ pos 0
 turn-self a u h = turn_from_parallel a u u ((dir-self u h).parallel)
 
@@ -86,7 +79,7 @@ module _ (a : Vector) (axis : IsDirection a) (x : CircleLabels) (X : IsOnAxis a 
   by : (s : Sign) → sign (dot n e) ≡ s → Gives a 2 (lefts x) (marks x) (sectors x) d (circle_label x e)
   by plus h =
       let p = mul_pos (dot a a) (dot n e) square (plus-is (dot n e) h) in let t = turn-to a n e X.level in
-      let z = neg-second a n n in let q = neg-second a d n in let r = triple-back a n d in
+      let z = right-turn a n n in let q = right-turn a d n in let r = triple-back a n d in
       in_sector 0 1 (omega arith) (inl (refl, omega arith)) (half a n d (opposite n) on (omega (arith, ints, p, t)) (omega (arith, ints, z, self)) (omega (arith, ints, p, t, q, r))) (label plus h)
   by nought h =
       let z = nought-is (dot n e) h in let t = turn-to a n e X.level ∙ ap (λ (i : ℤ). dot a a *ℤ i) z in
@@ -97,7 +90,7 @@ module _ (a : Vector) (axis : IsDirection a) (x : CircleLabels) (X : IsOnAxis a 
       let m = minus-is (dot n e) h in let back : pos 0 <ℤ neg_ℤ (dot n e) = omega (arith, ints, m) in
       let p = mul_pos (dot a a) (neg_ℤ (dot n e)) square back in let t = turn-to a n e X.level in
       let f = ring (dot a a ∷ dot n e ∷ []) (at 0 ⊗ neg (at 1)) (neg (at 0 ⊗ at 1)) tt in
-      let z = neg-first a n n in let q = neg-first a n d in let r = triple-back a n d in
+      let z = back-triple a n n in let q = back-triple a n d in let r = triple-back a n d in
       in_sector 1 0 (omega arith) (inr (refl, refl)) (half a (opposite n) d n on (omega (arith, ints, p, t, f, q)) (omega (arith, ints, z, self)) (omega (arith, ints, p, t, f, r))) (label minus h)
 
   line-gives : Gives a 2 (lefts x) (marks x) (sectors x) d (circle_label x e)
@@ -136,22 +129,22 @@ module _ (op : Op) (axis : Dir) (small : IsAtMost svertex_limit (vector_of axis)
 
   left-past : IsToSide true → Passes a first second (opposite first)
   left-past p =
-      let z = neg-second a first first in let q = neg-second a second first in let r = triple-back a first second in
+      let z = right-turn a first first in let q = right-turn a second first in let r = triple-back a first second in
       half a first second (opposite first) (h.circle 0 (omega arith)) p (omega (arith, ints, z, flat)) (omega (arith, ints, p, q, r))
 
   left-back : IsToSide true → Passes a (opposite first) (opposite second) first
   left-back p =
-      let z = neg-first a first first in let u = neg-second a (opposite first) second in let v = neg-first a first second in let q = neg-first a second first in let r = triple-back a first second in
+      let z = back-triple a first first in let u = right-turn a (opposite first) second in let v = back-triple a first second in let q = back-triple a second first in let r = triple-back a first second in
       half a (opposite first) (opposite second) first (h.circle 1 (omega arith)) (omega (arith, ints, p, u, v)) (omega (arith, ints, z, flat)) (omega (arith, ints, p, q, r))
 
   right-past : IsToSide false → Passes a first (opposite second) (opposite first)
   right-past p =
-      let z = neg-second a first first in let u = neg-second a first second in let v = neg-second a (opposite second) first in let q = neg-first a second first in let r = triple-back a first second in
+      let z = right-turn a first first in let u = right-turn a first second in let v = right-turn a (opposite second) first in let q = back-triple a second first in let r = triple-back a first second in
       half a first (opposite second) (opposite first) (h.circle 1 (omega arith)) (omega (arith, ints, p, u)) (omega (arith, ints, z, flat)) (omega (arith, ints, p, v, q, r))
 
   right-back : IsToSide false → Passes a (opposite first) second first
   right-back p =
-      let z = neg-first a first first in let u = neg-first a first second in let r = triple-back a first second in
+      let z = back-triple a first first in let u = back-triple a first second in let r = triple-back a first second in
       half a (opposite first) second first (h.circle 0 (omega arith)) (omega (arith, ints, p, u)) (omega (arith, ints, z, flat)) (omega (arith, ints, p, r))
 
   lefts_turn : (b : Bool) → IsToSide b → IsFourRays op axis x y b s → IsTurning a 4 (left_at s.rays.items)

@@ -69,7 +69,7 @@ agree-push nodes [] (m ∷ ms) name s k a g h = let same : m ≡ k = cc in (subs
 agree-push nodes (b ∷ bs) [] name s k a g h = absurd a
 agree-push nodes (b ∷ bs) (m ∷ ms) name s k a g h = (a.0, agree-push nodes bs ms name s k a.1 g h)
 
-names-push : (sets : Bindings) (name : List ℕ) (s : Set) → names_in (sets ++ (name, s) ∷ []) ≡ names_in sets ++ name ∷ []
+pub names-push : (sets : Bindings) (name : List ℕ) (s : Set) → names_in (sets ++ (name, s) ∷ []) ≡ names_in sets ++ name ∷ []
 names-push [] name s = refl
 names-push (b ∷ bs) name s = ap (λ l. b.0 ∷ l) (names-push bs name s)
 

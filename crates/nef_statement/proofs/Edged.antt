@@ -1,5 +1,5 @@
 -- Which points belong to vertices with edges depends on which edges these are alone, not on their order.
-use Rattle.nef_statement.proofs.Prelude.{◌≡◌, ◌↔◌, ℕ, List, inl, inr, subst, SpacePoint, Vector, Label, In, IsAt, Item, dir_of, NearLabel, at-one, SpotMark, Towards, Belongs, on_skeleton, off_skeleton, Vertex, Corner, IsCorner, Edges, IsEdgePoint, IsOnEdges, IsFacetPoint, Spot, at_vertex, on_edge, in_facet, IsSpot, IsSkeletonPoint, with_edges, AreAllEdges}
+use Rattle.nef_statement.proofs.Prelude.{◌≡◌, ◌↔◌, ℕ, List, inl, inr, subst, SpacePoint, Vector, Label, In, IsAt, Item, dir_of, NearLabel, is-at_one, SpotMark, Towards, Belongs, on_skeleton, off_skeleton, Vertex, Corner, IsCorner, Edges, IsEdgePoint, IsOnEdges, IsFacetPoint, Spot, at_vertex, on_edge, in_facet, IsSpot, IsSkeletonPoint, with_edges, AreAllEdges}
 use Rattle.law_complex.specs.Complexes.{Edge}
 
 -- the sorted edges are the edges
@@ -47,9 +47,9 @@ module _ (vs : List Vertex) where
       record {
         spot = on_edge j;
         is = (e, v, w, c, record { low = h.low; high = h.high }, b);
-        mark = λ l (g, d, m). (e, c, subst (λ (f : Edge). f.mark ≡ l) (at-one es k g e d a) m);
+        mark = λ l (g, d, m). (e, c, subst (λ (f : Edge). f.mark ≡ l) (is-at_one es k g e d a) m);
         toward = λ d l (g, u, i, n, t).
-            let same = at-one es k g e i a in
+            let same = is-at_one es k g e i a in
             (e, u, c, subst (λ (f : Edge). IsAt vs f.low u) same n, subst (λ (f : Edge). NearLabel u.map (dir_of u.map.svertices f.low_svertex) d l) same t);
       }
 

@@ -9,6 +9,7 @@ use Rattle.nef_lex.proofs.Signs.{number_of_parts}
 use Rattle.nef_lex.proofs.Decimal.{decimal_value-push}
 use Rattle.nef_lex.proofs.LineLaws.{pieces_of_ended}
 use Rattle.nef_lex.proofs.WordLaws.{words_of_spaced}
+use Rattle.law_text.proofs.Words.{spelled}
 
 abbrev pub Row : Type 0
 Row = List Word
@@ -220,7 +221,6 @@ digits-some k n =
     let p : IsGood more = (omega arith, (glyph-byte (n % 10), tt)) in
     either-good (nat_eq (n / 10) 0) more (digits_onto k 10 false (n / 10) more) p (digits-more k (n / 10) more p)
 
-spelled : (n : ℕ) → digits_onto 64 10 false n [] ≡ digits 10 false n
 unfolding digits
 spelled n = refl
 

@@ -3,9 +3,7 @@ use Rattle.nef_statement.proofs.Prelude.{ℕ, Bool, true, false, List, [], ◌�
 use Rattle.nef_space.specs.Sets.{Holds}
 use Rattle.nef_conn.proofs.Leaves.{toward-same}
 use Rattle.nef_statement.proofs.Alike.{same-turned, same-trans}
-
-pub label-moved : (s : Set) (p q : SpacePoint) (l : Label) → SamePoint p q → HasLabel s p l → HasLabel s q l
-label-moved s p q l e = Label-cells s l p q (signs-same (carriers s) p q e)
+use Rattle.nef_unique.proofs.Sets.{label-moved}
 
 full-holds : (p : SpacePoint) → Holds Set.full p
 unfolding Holds

@@ -5,10 +5,8 @@ use Rattle.nef_geo.proofs.Rays.{reached_within}
 use Rattle.nef_geo.proofs.Sizes.{form_size}
 use Rattle.nef_ray.proofs.Along.{crossing-or, level-label, CarriersHoldRay}
 use Rattle.nef_ray.proofs.SomeEnd.{some-end}
-use Rattle.nef_statement.proofs.Moved.{label-moved}
-
-slope-zero_back : (h : Form) (d : Vector) → slope h d ≡ pos 0 → slope h (opposite d) ≡ pos 0
-slope-zero_back h d e = ring (h.a ∷ h.b ∷ h.c ∷ d.x ∷ d.y ∷ d.z ∷ []) (at 0 ⊗ neg (at 3) ⊕ at 1 ⊗ neg (at 4) ⊕ at 2 ⊗ neg (at 5)) (neg (at 0 ⊗ at 3 ⊕ at 1 ⊗ at 4 ⊕ at 2 ⊗ at 5)) tt ∙ ap neg_ℤ e
+use Rattle.law_complex.proofs.Spans.{opposite-level}
+use Rattle.nef_unique.proofs.Sets.{label-moved}
 
 -- the step to where a form with the opposite sign of its slope is zero
 zero-step : (v g : ℤ) → HasOppositeSigns v g → IsZeroStep v g (pos (nat_abs v)) (pos (nat_abs g))
@@ -47,7 +45,7 @@ module _ (s : Set) (p : SpacePoint) (d : Vector) (some : IsDirection d) where
         let v = SameDirection-trans (toward y q) (toward p y) d (SameDirection-turned (toward p y) (toward y q) e) (SameDirection-trans (toward p y) (toward p q) d (between-way p y q e) E.ahead) in
         let c = start-close n q p in
         Label-cells s E.before y q (near-same (carriers s) q y q c (within-self n q)
-        (λ h i o. sign-toward h q y o ∙ slope-same h (toward q y) (opposite d) (ahead-back y q d v) ∙ ap sign (slope-zero_back h d (level h i o)) ∙ sym o)) (E.same y e)
+        (λ h i o. sign-toward h q y o ∙ slope-same h (toward q y) (opposite d) (ahead-back y q d v) ∙ ap sign (opposite-level h d (level h i o)) ∙ sym o)) (E.same y e)
 
     after-label : (b : Bool) → Changes s q d E.before b l → CarriersHoldRay s d E.before q → HasLabel s q l
     after-label false h level = h

@@ -9,7 +9,7 @@ use Rattle.nef_script.specs.declared.arguments.Verb.TheVariants as verb
 use Rattle.nef_script.specs.declared.script.ScriptKind.TheVariants as kind
 use Rattle.nef_script.proofs.Values.{zero-are}
 use Rattle.nef_statement.proofs.Alike.{same-self}
-use Rattle.nef_statement.proofs.Bound.{names_in}
+use Rattle.nef_statement.proofs.Bound.{names_in, names-push}
 use Rattle.nef_statement.proofs.RayPoints.{ray-answer}
 use Rattle.nef_statement.proofs.Texts.{one-text}
 use Rattle.nef_statement.proofs.Turning.{set-same}
@@ -131,10 +131,6 @@ find-set (c ∷ sets) word e = by (bytes_eq word c.0) refl (λ f. find-set sets 
     by false f more =
         let (b, l, g) = more (sym (ap (λ u. u || list_any (bytes_eq word) (names_in sets)) f) ∙ e) in
         (b, inr l, ap (λ u. if u then Some c.1 else set_named sets word) f ∙ g)
-
-names-push : (sets : Bindings) (name : List ℕ) (s : Set) → names_in (sets ++ (name, s) ∷ []) ≡ names_in sets ++ name ∷ []
-names-push [] name s = refl
-names-push (b ∷ bs) name s = ap (λ l. b.0 ∷ l) (names-push bs name s)
 
 -- the bindings with one more, if there is a set for it
 abbrev and_bound : Bindings → List ℕ → Option Set → Bindings

@@ -1,5 +1,5 @@
 -- The raw stars of a map with what its labels become, and the map that is built of them.
-use Rattle.nef_stopo.proofs.Prelude.{◌≡◌, ℕ, List, length, map, Option, Some, None, Result, Ok, Err, IfOk, refl, sym, ap, subst, ◌∙◌, length-map, option_map, normal_limit, SpacePoint, Set, Vector, IsDirection, IsAtMost, Label, vector_of, IsAt, MapVertex, MapSloop, MapLabel, sloop_item, forms, Cone, at-sloop, IsLabelling, IsRawOf, Topology, set_by, IsTopologyMap, MarkLabel, label_from, face_label, sloop_by, map_labels, IsRemarkedAt, IsTopologyRaw, at-other, topology-cone, Star, star_of, IsStar, SLoop, SphereMap, RawStars, svertex_of, sloop_of, map_of, raw_of, IsSphereMap, IsLeastMap, IsRawStars, at-map, at-all, AreRemarked}
+use Rattle.nef_stopo.proofs.Prelude.{◌≡◌, ℕ, List, length, map, Option, Some, None, Result, Ok, Err, IfOk, refl, sym, ap, subst, ◌∙◌, length-map, option_map, normal_limit, SpacePoint, Set, Vector, IsDirection, IsAtMost, Label, vector_of, IsAt, MapVertex, MapSloop, MapLabel, sloop_item, forms, Cone, at-sloop, IsLabelling, IsRawOf, Topology, set_by, IsTopologyMap, MarkLabel, label_from, face_label, sloop_by, map_labels, IsRemarkedAt, IsTopologyRaw, at-other, topology-cone, Star, star_of, IsStar, SLoop, SphereMap, RawStars, svertex_of, sloop_of, map_of, raw_of, IsSphereMap, IsLeastMap, IsRawStars, is-at_map, at-all, AreRemarked}
 use Rattle.law_sphere.specs.Stars.{Star as PlainStar}
 use Rattle.law_sphere.proofs.border.RawTopology.{topology-stars}
 use Rattle.law_sphere.proofs.border.MarkMade.{topology-mark}
@@ -32,8 +32,8 @@ module _ (k : Topology) (m : SphereMap) (S : IsSphereMap m) (r : RawStars) (mark
 
   star-remarked : (i : ℕ) (v : MapVertex) (u : PlainStar) → IsAt (map svertex_of m.svertices) i v → IsAt (map star_of r.stars) i u → IsRemarkedAt k (map_of m) v.dir u
   star-remarked i v u a b =
-      let w = at-map svertex_of m.svertices i v a in
-      let x = at-map star_of r.stars i u b in
+      let w = is-at_map svertex_of m.svertices i v a in
+      let x = is-at_map star_of r.stars i u b in
       subst (λ (y : MapVertex). IsRemarkedAt k (map_of m) y.dir u) w.2
       (subst (IsRemarkedAt k (map_of m) (vector_of w.0.dir)) x.2 (M.stars i w.0 x.0 w.1 x.1).1)
 

@@ -1,5 +1,5 @@
 -- A star with other marks is a star; and with what its marks and sectors become it is remarked.
-use Rattle.nef_stopo.proofs.Prelude.{◌≡◌, ℕ, zero, suc, ◌-◌, ◌<◌, List, [], ◌∷◌, length, map, get_or, Bool, cond, arith, refl, sym, ap, subst, ◌∙◌, inl, inr, length-map, normal_limit, svertex_limit, IsBelow, Vector, zero_vector, opposite, dot, direction_numbers, IsAtMost, IsNormal, Label, Out, vector_of, Dir, IsAt, Follows, Topology, label_from, face_label, star_labels, marked, IsRemarked, Ray, Star, ray_of, star_of, left_of, left_at, sector_count, IsRay, IsRayBelow, BeginsAnywhere, IsStar, IsTurning, IsNext, sectors-fill, map-at, at-map, at-within, get-at, IsRayMarked, AreRaysMarked}
+use Rattle.nef_stopo.proofs.Prelude.{◌≡◌, ℕ, zero, suc, ◌-◌, ◌<◌, List, [], ◌∷◌, length, map, get_or, Bool, cond, arith, refl, sym, ap, subst, ◌∙◌, inl, inr, length-map, normal_limit, svertex_limit, IsBelow, Vector, zero_vector, opposite, dot, direction_numbers, IsAtMost, IsNormal, Label, Out, vector_of, Dir, IsAt, Follows, Topology, label_from, face_label, star_labels, marked, IsRemarked, Ray, Star, ray_of, star_of, left_of, left_at, sector_count, IsRay, IsRayBelow, BeginsAnywhere, IsStar, IsTurning, IsNext, sectors-fill, map-is_at, is-at_map, is-at_within, is-at_get, IsRayMarked, AreRaysMarked}
 use Rattle.law_sphere.specs.Stars.{Ray as PlainRay}
 use Rattle.nef_star.proofs.RayOrder.{one-value}
 
@@ -78,14 +78,14 @@ before-of n (suc k) h = (k, omega (arith, h), inl (refl, h))
 
 module _ (k : Topology) (t u : Star) (T : IsStar t) (axis : u.axis ≡ t.axis) (M : AreRaysMarked k t (length t.rays.items) u.rays.items) (sectors : u.sectors.items ≡ map (face_label k) t.sectors.items) where
   sector-of : (n : ℕ) → n < length t.rays.items → (l : Label) × IsAt t.sectors.items n l
-  sector-of n h = let w = sectors-fill t.rays.items (length t.sectors.items) n T.turned.sectors h in (get_or t.sectors.items n Out, get-at t.sectors.items n Out w)
+  sector-of n h = let w = sectors-fill t.rays.items (length t.sectors.items) n T.turned.sectors h in (get_or t.sectors.items n Out, is-at_get t.sectors.items n Out w)
 
   are-alike : AreLikeRays t.rays.items u.rays.items
   are-alike n d h =
       let w : n < length t.rays.items = omega (arith, h, M.as_many) in
       let i = before-of (length t.rays.items) n w in
       let l = sector-of i.0 i.1 in let m = sector-of n w in
-      let r = M.rays i.0 n (get_or t.rays.items n d) (get_or u.rays.items n d) l.0 m.0 (get-at t.rays.items n d w) (get-at u.rays.items n d h) i.2 l.1 m.1 in
+      let r = M.rays i.0 n (get_or t.rays.items n d) (get_or u.rays.items n d) l.0 m.0 (is-at_get t.rays.items n d w) (is-at_get u.rays.items n d h) i.2 l.1 m.1 in
       record { normal = r.normal; ahead = r.ahead }
 
   as-many : length u.sectors.items ≡ length t.sectors.items
@@ -103,13 +103,13 @@ module _ (k : Topology) (t u : Star) (T : IsStar t) (axis : u.axis ≡ t.axis) (
   rays-remarked : (i j : ℕ) (r : PlainRay) (l m : Label) → IsAt (map ray_of t.rays.items) j r → Follows (map ray_of t.rays.items) i j → IsAt t.sectors.items i l → IsAt t.sectors.items j m
       → IsAt (map ray_of u.rays.items) j (marked r (label_from k r.mark (l ∷ m ∷ [])))
   rays-remarked i j r l m a f b c =
-      let q = at-map ray_of t.rays.items j r a in
-      let w = at-within t.rays.items j q.0 q.1 in
+      let q = is-at_map ray_of t.rays.items j r a in
+      let w = is-at_within t.rays.items j q.0 q.1 in
       let h : j < length u.rays.items = omega (arith, w, M.as_many) in
       let v = get_or u.rays.items j q.0 in
-      let R = M.rays i j q.0 v l m q.1 (get-at u.rays.items j q.0 h) (next f w) b c in
+      let R = M.rays i j q.0 v l m q.1 (is-at_get u.rays.items j q.0 h) (next f w) b c in
       subst (λ (x : PlainRay). IsAt (map ray_of u.rays.items) j (marked x (label_from k x.mark (l ∷ m ∷ [])))) q.2
-      (subst (IsAt (map ray_of u.rays.items) j) (marked-ray q.0 v l m R) (map-at ray_of u.rays.items j v (get-at u.rays.items j q.0 h)))
+      (subst (IsAt (map ray_of u.rays.items) j) (marked-ray q.0 v l m R) (map-is_at ray_of u.rays.items j v (is-at_get u.rays.items j q.0 h)))
     where
       next : Follows (map ray_of t.rays.items) i j → j < length t.rays.items → IsNext (length t.rays.items) i j
       next (inl e) w = inl (e, w)
@@ -122,5 +122,5 @@ module _ (k : Topology) (t u : Star) (T : IsStar t) (axis : u.axis ≡ t.axis) (
     as_many_rays = length-map u.rays.items ray_of ∙ M.as_many ∙ sym (length-map t.rays.items ray_of);
     as_many_sectors = as-many;
     rays = rays-remarked;
-    sectors = λ j l a. subst (λ (ls : List Label). IsAt ls j (face_label k l)) (sym sectors) (map-at (face_label k) t.sectors.items j l a);
+    sectors = λ j l a. subst (λ (ls : List Label). IsAt ls j (face_label k l)) (sym sectors) (map-is_at (face_label k) t.sectors.items j l a);
   }

@@ -1,5 +1,5 @@
 -- The turned planes and vertices of a program's complex are those of the turned set, which are ready to be paired.
-use Rattle.nef_turn.proofs.Prelude.{ℕ, false, sym, subst, List, map, normal_limit, svertex_limit, Set, Vector, IsAtMost, form_of, Plane, MapVertex, Map, Shaped, Ordered, at-map, map-at, map_of, IsSmall, IsLeastMap, SphereMap, vertex_of, complex_of, ShowsSet, AreVerticesOf, Vertex, Complex, got-at, turned_set, IsTurnedMap, AreTurnedPlanes, AreTurnedVertices, at_most-turned, get-from_at as at-got}
+use Rattle.nef_turn.proofs.Prelude.{ℕ, false, sym, subst, List, map, normal_limit, svertex_limit, Set, Vector, IsAtMost, form_of, Plane, MapVertex, Map, Shaped, Ordered, is-at_map, map-is_at, map_of, IsSmall, IsLeastMap, SphereMap, vertex_of, complex_of, ShowsSet, AreVerticesOf, Vertex, Complex, turned_set, IsTurnedMap, AreTurnedPlanes, AreTurnedVertices, at_most-turned}
 use Rattle.law_complex.specs.Complexes.{Vertex as PlainVertex}
 use Rattle.law_turns.proofs.TurnedMaps.{svertex-from, item-from, item-normal, valid-turned, least-turned}
 use Rattle.law_turns.proofs.Complexes.{shows-turned}
@@ -28,11 +28,11 @@ module _ (k : ℕ) where
   pub paired-turned : (s : Set) (c : Complex) (hs : List Plane) (vs : List Vertex) → ShowsSet s c → AreTurnedPlanes k (map form_of c.carriers) (map form_of hs) → AreTurnedVertices k (map vertex_of c.vertices) (map vertex_of vs)
       → AreVerticesOf (turned_set k s) hs vs
   paired-turned s c hs vs S P T = record {
-    sorted = λ i j u v l a b. T.ordered i j (vertex_of u) (vertex_of v) l (map-at vertex_of vs i u (got-at vs i u a)) (map-at vertex_of vs j v (got-at vs j v b));
+    sorted = λ i j u v l a b. T.ordered i j (vertex_of u) (vertex_of v) l (map-is_at vertex_of vs i u a) (map-is_at vertex_of vs j v b);
     maps = λ j v a.
-        let b = map-at vertex_of vs j v (got-at vs j v a) in
+        let b = map-is_at vertex_of vs j v a in
         let (i, u, l, e, R) = T.each j (vertex_of v) b in
-        let (w, m, same) = at-map vertex_of c.vertices i u l in
-        least_map-turned w.map v.map (S.maps i w (at-got c.vertices i w m)) (subst (λ (r : PlainVertex). IsTurnedMap k r.map (map_of v.map)) (sym same) R) (T.maps_ordered j (vertex_of v) b);
+        let (w, m, same) = is-at_map vertex_of c.vertices i u l in
+        least_map-turned w.map v.map (S.maps i w m) (subst (λ (r : PlainVertex). IsTurnedMap k r.map (map_of v.map)) (sym same) R) (T.maps_ordered j (vertex_of v) b);
     shown = λ es E. shows-turned k s (complex_of c) (record { carriers = map form_of hs; vertices = map vertex_of vs; edges = es }) S.shows (record { planes = P; vertices = T; edges = E });
   }

@@ -1,16 +1,16 @@
 -- The steps that lead from the complex of a set to that of the turned set.
-use Rattle.nef_turn.proofs.Prelude.{◌≡◌, ℕ, List, map, subst, Set, form_of, Plane, map-at, vertex_of, ShowsSet, AreSorted, AreVerticesOf, AreInOrder, Vertex, Complex, got-at, at-some, turned_set, AreTurnedPlanes, AreTurnedVertices, HaveLeastMaps}
+use Rattle.nef_turn.proofs.Prelude.{◌≡◌, ℕ, List, map, subst, Set, form_of, Plane, map-is_at, vertex_of, ShowsSet, AreSorted, AreVerticesOf, AreInOrder, Vertex, Complex, turned_set, AreTurnedPlanes, AreTurnedVertices, HaveLeastMaps}
 use Rattle.nef_turn.proofs.Pairing.{paired-turned}
 
 module _ (s : Set) (c : Complex) (S : ShowsSet s c) where
   pub carriers-in_order : AreInOrder c.carriers
-  carriers-in_order i j g h l a b = S.shows.carriers.ordered i j (form_of g) (form_of h) l (map-at form_of c.carriers i g (got-at c.carriers i g a)) (map-at form_of c.carriers j h (got-at c.carriers j h b))
+  carriers-in_order i j g h l a b = S.shows.carriers.ordered i j (form_of g) (form_of h) l (map-is_at form_of c.carriers i g a) (map-is_at form_of c.carriers j h b)
 
   pub vertices-sorted : AreSorted c.vertices
-  vertices-sorted i j u v l a b = S.shows.ordered i j (vertex_of u) (vertex_of v) l (map-at vertex_of c.vertices i u (got-at c.vertices i u a)) (map-at vertex_of c.vertices j v (got-at c.vertices j v b))
+  vertices-sorted i j u v l a b = S.shows.ordered i j (vertex_of u) (vertex_of v) l (map-is_at vertex_of c.vertices i u a) (map-is_at vertex_of c.vertices j v b)
 
   pub maps-least : HaveLeastMaps c.vertices
-  maps-least j v a = S.maps j v (at-some c.vertices j v a)
+  maps-least j v a = S.maps j v a
 
   pub ready : (k i : ℕ) (gs hs : List Plane) (us vs : List Vertex) → i ≡ k → gs ≡ c.carriers → us ≡ c.vertices → AreTurnedPlanes i (map form_of gs) (map form_of hs) → AreTurnedVertices i (map vertex_of us) (map vertex_of vs)
       → AreVerticesOf (turned_set k s) hs vs

@@ -9,7 +9,7 @@ use Rattle.nef_smap.specs.contracts.map.SVertexPartialEq.TheImpl.{eq-value as sv
 use Rattle.nef_smap.specs.contracts.map.SArcPartialEq.TheImpl.{eq-value as arc_eq}
 use Rattle.nef_smap.specs.contracts.map.SLoopPartialEq.TheImpl.{eq-value as sloop_eq}
 use Rattle.nef_smap.proofs.WellFormed.{dir-equal}
-use Rattle.nef_complex.proofs.SamePoints.{point_test}
+use Rattle.nef_complex.proofs.SamePoints.{point_test, point-one}
 use Rattle.nef_unique.proofs.Injective.{svertex-equal, arc-equal, sloop-equal}
 
 -- the test says whether two values are equal
@@ -56,9 +56,6 @@ dir-decides d e =
     (λ h. dir-equal d e (ap (λ r. vector r d.y d.z) h.0 ∙ ap (λ r. vector e.x r d.z) h.1.0 ∙ ap (λ r. vector e.x e.y r) h.1.1))
     (λ h. (ap (λ (r : Dir). r.x) h, (ap (λ (r : Dir). r.y) h, ap (λ (r : Dir). r.z) h)))
     (Decides-and _ _ (Decides-int_eq d.x e.x) (Decides-and _ _ (Decides-int_eq d.y e.y) (Decides-int_eq d.z e.z)))
-
-point-one : (p q : Point) → p.x ≡ q.x → p.y ≡ q.y → p.z ≡ q.z → p.w ≡ q.w → p ≡ q
-point-one p q a b c d = same_points_equal p q (record { along_x = rw (a, d) refl; along_y = rw (b, d) refl; along_z = rw (c, d) refl })
 
 pub point-decides : IsTest Point point_test
 point-decides p q =

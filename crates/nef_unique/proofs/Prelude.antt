@@ -2,7 +2,7 @@
 pub use Rattle.law_near.proofs.Prelude.{SameCone, SameSet}
 pub use Rattle.law_complex.proofs.Prelude.{Arc, Complex, Cone, Decided, Edge, Germ, Germ-zero, HasLabel, In, IsVertex, Label, Label-cells, MapVertex, germs-by_cell, label-direction, label-one, signs-same, vector}
 pub use Rattle.nef_smap.proofs.Prelude.{Dir, InOrder, MapSloop, Not, arc_of, option_map, sloop_of, svertex_of}
-pub use Rattle.nef_complex.proofs.Prelude.{Bool, Decides-and, Decides-int_eq, IsAt, IsEdgeBelow, IsPointBelow, IsZero, List, Map, None, Option, Out, Point, SamePoint, Set, Shows, Some, SpacePoint, Vector, [], ap, arith, at-map, carriers, complex_of, edge_of, false, inl, inr, ints, length, map, map-at, map_of, nought-or, point_below-apart, point_below-trans, point_of, pos, refl, rules, same-point_sym, same_points_equal, subst, sym, take, take_all, true, vertex_of, ℕ, ⊎_elim, ◌<◌, ◌^◌, ◌∙◌, ◌∷◌, ◌≡◌}
+pub use Rattle.nef_complex.proofs.Prelude.{Bool, Decides-and, Decides-int_eq, IsAt, IsEdgeBelow, IsPointBelow, IsZero, List, Map, None, Option, Out, Point, SamePoint, Set, Shows, Some, SpacePoint, Vector, [], ap, arith, is-at_map, carriers, complex_of, edge_of, false, inl, inr, ints, length, map, map-is_at, map_of, nought-or, point_below-apart, point_below-trans, point_of, pos, refl, rules, same-point_sym, same_points_equal, subst, sym, take, take_all, true, vertex_of, ℕ, ⊎_elim, ◌<◌, ◌^◌, ◌∙◌, ◌∷◌, ◌≡◌}
 pub use Rattle.std.proofs.lemmas.Bool.Decides.{Decides-at, Decides-eqb, Decides-like}
 pub use Rattle.std.specs.Bool.{Decides}
 pub use Rattle.law_near.proofs.Alike.{FlatDim-by_cone, cones-of_same}

@@ -1,5 +1,5 @@
 -- Complexes that show one set have the same vertices and edges.
-use Rattle.nef_unique.proofs.Prelude.{◌≡◌, ℕ, arith, refl, sym, List, map, inl, inr, subst, ints, SameSet, SpacePoint, SamePoint, IsPointBelow, Set, SameCone, cones-of_same, FlatDim-by_cone, point_below-trans, point_below-apart, point_of, Point, same_points_equal, Cone, InOrder, IsAt, Map, same-lists, cone-unique, map_of, map-at, at-map, Edge as PlainEdge, IsEdgeBelow, Edges, Shows, Vertex, vertex_of, edge_of, complex_of}
+use Rattle.nef_unique.proofs.Prelude.{◌≡◌, ℕ, arith, refl, sym, List, map, inl, inr, subst, ints, SameSet, SpacePoint, SamePoint, IsPointBelow, Set, SameCone, cones-of_same, FlatDim-by_cone, point_below-trans, point_below-apart, point_of, Point, same_points_equal, Cone, InOrder, IsAt, Map, same-lists, cone-unique, map_of, map-is_at, is-at_map, Edge as PlainEdge, IsEdgeBelow, Edges, Shows, Vertex, vertex_of, edge_of, complex_of}
 use Rattle.law_complex.specs.Complexes.{Vertex as PlainVertex}
 use Rattle.nef_complex.specs.declared.complex.Complex.{Complex}
 use Rattle.nef_unique.proofs.Injective.{map-one, map_of-one, vertex-equal, edge-one}
@@ -32,7 +32,7 @@ never-both : (v u : Vertex) → IsBelow v u → IsBelow u v → ⊥
 never-both v u h k = let p = point_of v.point in point_below-apart p p (point_below-trans p (point_of u.point) p h k) (record { along_x = refl; along_y = refl; along_z = refl })
 
 in-order : (s : Set) (a : Complex) → Shows s (complex_of a) → InOrder IsBelow a.vertices
-in-order s a S i k v u l x y = S.ordered i k (vertex_of v) (vertex_of u) l (map-at vertex_of a.vertices i v x) (map-at vertex_of a.vertices k u y)
+in-order s a S i k v u l x y = S.ordered i k (vertex_of v) (vertex_of u) l (map-is_at vertex_of a.vertices i v x) (map-is_at vertex_of a.vertices k u y)
 
 module _ (s t : Set) (a b : Complex) (S : Shows s (complex_of a)) (T : Shows t (complex_of b)) (same : SameSet s t) where
   -- the other complex has the vertex at the same point, where both maps show the set
@@ -40,10 +40,10 @@ module _ (s t : Set) (a b : Complex) (S : Shows s (complex_of a)) (T : Shows t (
   vertex-carried k v h =
       let p = point_of v.point in
       let c = cones-of_same s t same p in
-      let i = map-at vertex_of a.vertices k v h in
+      let i = map-is_at vertex_of a.vertices k v h in
       let f = T.complete p ((FlatDim-by_cone s t p 0 c).0 (S.vertices k (vertex_of v) i)) in
-      let u = at-map vertex_of b.vertices f.0 f.1 f.2 in
-      let j = map-at vertex_of b.vertices f.0 u.0 u.1 in
+      let u = is-at_map vertex_of b.vertices f.0 f.1 f.2 in
+      let j = map-is_at vertex_of b.vertices f.0 u.0 u.1 in
       let e : v.point ≡ u.0.point = sym (same_points_equal u.0.point v.point (subst (λ (r : PlainVertex). SamePoint r.point p) (sym u.2) f.3)) in
       let C = cone-carried (map_of v.map) s t p c (S.cones k (vertex_of v) i) in
       let D = subst (λ (r : Point). Cone (map_of u.0.map) t (point_of r)) (sym e) (T.cones f.0 (vertex_of u.0) j) in

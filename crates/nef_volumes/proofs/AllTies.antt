@@ -1,5 +1,5 @@
 -- The ties of all links together.
-use Rattle.nef_volumes.proofs.Prelude.{◌≡◌, ℕ, ◌⊎◌, inl, inr, List, ◌++◌, refl, ◌∙◌, subst, ◌↔◌, Contains, Contains-append_left, Contains-append_right, Set, opposite, up, IsAt, Side, around_svertex, pos_item, neg_item, Sees, at-one, chain-trans, chain-turned, Vertex, Edge, Complex, Corner, Shows, VertexSide, RayDown, AreTied, Tie, FacetLink, IsSideOf, LinkInSface, AreSidesAlong, pos_arcs, neg_arcs, around_ends, LinkAcrossFacet, LinkDown, LinkOutside, VolumeLink, ShellLink, cell_of, outside_cell, IsCellOf, IsEndOf, AreLinks, AreTiedSides, AreTiesOf, AreTiesWithOutside, AreTiedOutside, AreTiesDown, AreVolumeTies, LinkOfItems, LinkOfEnds, LinkOfFacets, AreTiedCorners, AreItemTies}
+use Rattle.nef_volumes.proofs.Prelude.{◌≡◌, ℕ, ◌⊎◌, inl, inr, List, ◌++◌, refl, ◌∙◌, subst, ◌↔◌, Contains, Contains-append_left, Contains-append_right, Set, opposite, up, IsAt, Side, around_svertex, pos_item, neg_item, Sees, is-at_one, chain-trans, chain-turned, Vertex, Edge, Complex, Corner, Shows, VertexSide, RayDown, AreTied, Tie, FacetLink, IsSideOf, LinkInSface, AreSidesAlong, pos_arcs, neg_arcs, around_ends, LinkAcrossFacet, LinkDown, LinkOutside, VolumeLink, ShellLink, cell_of, outside_cell, IsCellOf, IsEndOf, AreLinks, AreTiedSides, AreTiesOf, AreTiesWithOutside, AreTiedOutside, AreTiesDown, AreVolumeTies, LinkOfItems, LinkOfEnds, LinkOfFacets, AreTiedCorners, AreItemTies}
 use Rattle.nef_volumes.proofs.SideCells.{tie-chain, more-tied, more-sides, both-links, links-as, one-cell}
 use Rattle.nef_volumes.proofs.BelowTies.{linked, one-below}
 
@@ -128,7 +128,7 @@ module _ (s : Set) (C : Complex) (S : Shows s C) (outside down : List Tie) (O : 
     from-down x y L =
         let (t, c, (z, w, e, f, g, M)) = D.all x y L in
         let v = L.vertex in
-        let one = at-one C.vertices x.vertex M.vertex v (subst (λ (n : ℕ). IsAt C.vertices n M.vertex) e M.is_vertex) L.is_vertex in
+        let one = is-at_one C.vertices x.vertex M.vertex v (subst (λ (n : ℕ). IsAt C.vertices n M.vertex) e M.is_vertex) L.is_vertex in
         let sight = subst (λ (r : Vertex). Sees r.map z.side (opposite up)) one M.sees in
         let h = tied-shell x z (inl (linked s C S x z v L.label M.label L.is_vertex e (v, L.is_vertex, L.has) (M.vertex, M.is_vertex, M.has) (opposite up) L.sees sight)) in
         let i = tied-shell y w (inl (one-below s C S v.point y w L.down (subst (λ (r : Vertex). RayDown C r.point w) one M.down))) in

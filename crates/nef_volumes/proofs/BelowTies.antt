@@ -1,5 +1,5 @@
 -- The side above the point where a ray down ends is one, up to its sface.
-use Rattle.nef_volumes.proofs.Prelude.{◌≡◌, ℕ, ◌+◌, pos, ◌⊎◌, inl, inr, [], ◌∷◌, arith, ap, sym, ◌∙◌, subst, ints, ring, at, num, ◌⊕◌, ◌⊖◌, ◌⊗◌, SpacePoint, Form, form_at, normal_of, SamePoint, toward, IsBetween, Set, Vector, IsDirection, SameDirection, dot, cross, opposite, blend, plane_axis, up, Label, same-point_sym, between-same, IsAt, item_normal, pos_item, Side, dir_of, HasSide, Sees, InOneSface, here, link, BoundsSector, normals-same, on-level, normal-is, at-one, bounds-sees, Vertex, Edge, Complex, Corner, Shows, item_plane, IsVertexPoint, IsEdgePoint, Spot, at_vertex, on_edge, in_facet, IsSpot, HasCorner, VertexSide, HasSideLabel, IsAbove, RayDown, same-itself, same-point_trans, facet-point, through-at, through-level, axis-in, LinkInSface, through-same, corner-same as corner-like, level-of_opposite, one-vertex, one-named, SameDirection-turned, SameDirection-trans, opposite-same}
+use Rattle.nef_volumes.proofs.Prelude.{◌≡◌, ℕ, ◌+◌, pos, ◌⊎◌, inl, inr, [], ◌∷◌, arith, ap, sym, ◌∙◌, subst, ints, ring, at, num, ◌⊕◌, ◌⊖◌, ◌⊗◌, SpacePoint, Form, form_at, normal_of, SamePoint, toward, IsBetween, Set, Vector, IsDirection, SameDirection, dot, cross, opposite, blend, plane_axis, up, Label, same-point_sym, between-same, IsAt, item_normal, pos_item, Side, dir_of, HasSide, Sees, InOneSface, here, link, BoundsSector, normals-same, on-level, normal-is, is-at_one, bounds-sees, Vertex, Edge, Complex, Corner, Shows, item_plane, IsVertexPoint, IsEdgePoint, Spot, at_vertex, on_edge, in_facet, IsSpot, HasCorner, VertexSide, HasSideLabel, IsAbove, RayDown, same-itself, same-point_trans, facet-point, through-at, through-level, axis-in, LinkInSface, through-same, corner-same as corner-like, level-of_opposite, one-vertex, one-named, SameDirection-turned, SameDirection-trans, opposite-same}
 use Rattle.law_sphere.proofs.cones.Smooth.{parallel-by}
 use Rattle.nef_conn.proofs.WayInward.{names-same}
 use Rattle.nef_locate.proofs.SameAxis.{axis-same}
@@ -10,8 +10,8 @@ module _ (s : Set) (C : Complex) (S : Shows s C) where
   -- ---- links in one sface
   pub linked : (x y : VertexSide) (v : Vertex) (l m : Label) → IsAt C.vertices x.vertex v → y.vertex ≡ x.vertex → HasSideLabel C x l → HasSideLabel C y m → (d : Vector) → Sees v.map x.side d → Sees v.map y.side d → LinkInSface C x y
   linked x y v l m a e (u, b, h) (w, c, i) d f g =
-      let one = at-one C.vertices x.vertex u v b a in
-      let other = at-one C.vertices x.vertex w v (subst (λ (n : ℕ). IsAt C.vertices n w) e c) a in
+      let one = is-at_one C.vertices x.vertex u v b a in
+      let other = is-at_one C.vertices x.vertex w v (subst (λ (n : ℕ). IsAt C.vertices n w) e c) a in
       let j = subst (λ (r : Vertex). HasSide r.map y.side m) other i in
       record {
         vertex = v;
@@ -26,7 +26,7 @@ module _ (s : Set) (C : Complex) (S : Shows s C) where
 
   linked-same : (x y : VertexSide) (l m : Label) → y.vertex ≡ x.vertex → x.side ≡ y.side → HasSideLabel C x l → HasSideLabel C y m → LinkInSface C x y
   linked-same x y l m e f (v, a, h) (w, c, i) =
-      let other = at-one C.vertices x.vertex w v (subst (λ (n : ℕ). IsAt C.vertices n w) e c) a in
+      let other = is-at_one C.vertices x.vertex w v (subst (λ (n : ℕ). IsAt C.vertices n w) e c) a in
       record {
         vertex = v;
         is_vertex = a;
@@ -41,7 +41,7 @@ module _ (s : Set) (C : Complex) (S : Shows s C) where
   linked-sector : (e : Edge) (x y : VertexSide) (v w : Vertex) (l m : Label) → IsAt C.vertices e.low v → IsAt C.vertices e.low w → x.vertex ≡ e.low → y.vertex ≡ e.low → HasSideLabel C x l → HasSideLabel C y m
       → BoundsSector v.map e.low_svertex up x.side → BoundsSector w.map e.low_svertex up y.side → LinkInSface C x y
   linked-sector e x y v w l m a b f g h i o p =
-      let one = at-one C.vertices e.low w v b a in
+      let one = is-at_one C.vertices e.low w v b a in
       let V = (S.cones e.low v a).valid.shaped in
       let s = bounds-sees v.map V e.low_svertex up x.side o in
       let t = bounds-sees v.map V e.low_svertex up y.side (subst (λ (r : Vertex). BoundsSector r.map e.low_svertex up y.side) one p) in
@@ -67,7 +67,7 @@ module _ (s : Set) (C : Complex) (S : Shows s C) where
       let E = edge-inside s C S i y p in
       let F = edge-inside s C S k z q in
       let m = between-same E.1.low_vertex.point y E.1.high_vertex.point E.1.low_vertex.point z E.1.high_vertex.point (same-itself E.1.low_vertex.point) o (same-itself E.1.high_vertex.point) E.3 in
-      at-one C.edges i e E.0 a E.2 ∙ one-edge_through s C S i k E.0 F.0 E.1 F.1 z E.2 F.2 m F.3 ∙ at-one C.edges k F.0 f F.2 b
+      is-at_one C.edges i e E.0 a E.2 ∙ one-edge_through s C S i k E.0 F.0 E.1 F.1 z E.2 F.2 m F.3 ∙ is-at_one C.edges k F.0 f F.2 b
 
   -- ---- the corner of a facet point is one
   module _ (z : SpacePoint) (j k : Corner) (H : HasCorner C z j) (K : HasCorner C z k) where
@@ -141,7 +141,7 @@ module _ (s : Set) (C : Complex) (S : Shows s C) where
     same-above q z o (at_vertex k) (at_vertex j) (v, a, e) (w, b, f) (u, c, g, sx) (t, d, n, sy) =
         let i = one-vertex s C S k j v w a b (same-point_trans v.point q w.point e (same-point_sym w.point q (same-point_trans w.point z q f (same-point_sym q z o)))) in
         linked x y u l m (subst (λ (r : ℕ). IsAt C.vertices r u) (sym g) c) (n ∙ sym i ∙ sym g) has has_other up sx
-        (subst (λ (r : Vertex). Sees r.map y.side up) (at-one C.vertices k t u (subst (λ (r : ℕ). IsAt C.vertices r t) (sym i) d) c) sy)
+        (subst (λ (r : Vertex). Sees r.map y.side up) (is-at_one C.vertices k t u (subst (λ (r : ℕ). IsAt C.vertices r t) (sym i) d) c) sy)
     same-above q z o (at_vertex k) (on_edge j) p r a b = absurd (no-vertex_on_edge k j q z o p r)
     same-above q z o (at_vertex k) (in_facet j) p r a (c, H, e, f) = absurd (off z c H k (inl (vertex-like q z k o p)))
     same-above q z o (on_edge k) (at_vertex j) p r a b = absurd (no-vertex_on_edge j k z q (same-point_sym q z o) r p)

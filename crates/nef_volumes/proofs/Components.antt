@@ -1,5 +1,5 @@
 -- Points at items are joined exactly where the items have one facet number, and points at sides where the sides have one volume number; so facets and volumes are the components of the points with two flat directions and with three.
-use Rattle.nef_volumes.proofs.Prelude.{◌≡◌, ◌↔◌, ℕ, ◌<◌, inr, List, length, arith, subst, length-map, FlatDim, Joined, SpacePoint, Set, Label, Item, items, is-at_within, is-at_some, at-from_get, at-some, side-has, at-within, Vertex, Complex as PlainComplex, Corner, IsCorner, VertexSide, HasSideLabel, Shows, same-itself, vertex_of, edge_of, complex_of, IsAtItem, IsAtSide, IsUpright, sides-have_points, sides-joined, HasComponents, IsFacetOf, IsVolumeOf, FacetNumbers, IsParts, Parts, FacetsAreComponents, VolumesAreComponents, AreCounted, HasItem}
+use Rattle.nef_volumes.proofs.Prelude.{◌≡◌, ◌↔◌, ℕ, ◌<◌, inr, List, length, arith, subst, length-map, FlatDim, Joined, SpacePoint, Set, Label, Item, items, is-at_within, is-at_some, side-has, Vertex, Complex as PlainComplex, Corner, IsCorner, VertexSide, HasSideLabel, Shows, same-itself, vertex_of, edge_of, complex_of, IsAtItem, IsAtSide, IsUpright, sides-have_points, sides-joined, HasComponents, IsFacetOf, IsVolumeOf, FacetNumbers, IsParts, Parts, FacetsAreComponents, VolumesAreComponents, AreCounted, HasItem}
 use Rattle.nef_complex.specs.declared.complex.Complex.{Complex}
 use Rattle.law_complex.proofs.links.ItemLinks.{items-joined}
 use Rattle.law_complex.proofs.links.ItemPoints.{items-have_points}
@@ -19,19 +19,19 @@ module _ (C : PlainComplex) (rows : List (List ℕ)) (N : FacetNumbers C rows) w
       let S = N.shape in
       let l = is-at_within rows k.vertex row e in
       let v = is-at_some C.vertices k.vertex (let a = S.as_many in omega (arith, l, a)) in
-      let a = at-from_get C.vertices k.vertex v.0 v.1 in
+      let a = v.1 in
       let c = S.row k.vertex v.0 row a e in
-      let x = at-some (items v.0.map) k.item (let w = is-at_within row k.item n h in omega (arith, w, c)) in
+      let x = is-at_some (items v.0.map) k.item (let w = is-at_within row k.item n h in omega (arith, w, c)) in
       (v.0, x.0, record { vertex = a; item = x.1 })
 
   -- each item has a number
   pub item-numbered : (k : Corner) (v : Vertex) (x : Item) → IsCorner C k v x → (n : ℕ) × IsFacetOf rows k n
   item-numbered k v x K =
       let S = N.shape in
-      let l = at-within C.vertices k.vertex v K.vertex in
+      let l = is-at_within C.vertices k.vertex v K.vertex in
       let r = is-at_some rows k.vertex (let a = S.as_many in omega (arith, l, a)) in
       let c = S.row k.vertex v r.0 K.vertex r.1 in
-      let w = at-within (items v.map) k.item x K.item in
+      let w = is-at_within (items v.map) k.item x K.item in
       let q = is-at_some r.0 k.item (omega (arith, w, c)) in
       (q.0, (r.0, r.1, q.1))
 

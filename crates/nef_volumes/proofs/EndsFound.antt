@@ -1,5 +1,5 @@
 -- The ends of the program's edges.
-use Rattle.nef_volumes.proofs.Prelude.{◌≡◌, ℕ, ◌<◌, length, map, Option, Some, None, slice_get, arith, ap, sym, ◌∙◌, subst, length-map, Label, Set, IsAt, MapVertex, at-one, SVertex, svertex_of, map-at, at-within, at-from_get, Vertex, Edge, edge_of, complex_of, ShowsSet, Cell, Tie, HasSvertex, IsAroundCell, IsTieOfEnds}
+use Rattle.nef_volumes.proofs.Prelude.{◌≡◌, ℕ, ◌<◌, length, map, Option, Some, None, slice_get, arith, ap, sym, ◌∙◌, subst, length-map, Label, Set, IsAt, MapVertex, is-at_one, SVertex, svertex_of, map-is_at, is-at_within, Vertex, Edge, edge_of, complex_of, ShowsSet, Cell, Tie, HasSvertex, IsAroundCell, IsTieOfEnds}
 use Rattle.nef_complex.specs.declared.complex.Complex.{Complex}
 use Rattle.nef_index.specs.declared.skeleton.Edge.{Edge as ProgramEdge}
 use Rattle.nef_complex.specs.declared.complex.Vertex.{Vertex as ProgramVertex}
@@ -28,14 +28,14 @@ module _ (s : Set) (c : Complex) (S : ShowsSet s c) (k : ℕ) (e : ProgramEdge) 
 module _ (c : Complex) (i : ℕ) (u : ProgramVertex) (a : slice_get c.vertices i ≡ Some u) (k : ℕ) where
   pub svertex-within : HasSvertex (complex_of c) i k → k < length u.map.svertices
   svertex-within (v, x, b, d) =
-      let l = at-within (map svertex_of u.map.svertices) k x (subst (λ (w : Vertex). IsAt w.map.svertices k x) (vertex-read c i u v a b) d) in
+      let l = is-at_within (map svertex_of u.map.svertices) k x (subst (λ (w : Vertex). IsAt w.map.svertices k x) (vertex-read c i u v a b) d) in
       let n = length-map u.map.svertices svertex_of in
       omega (arith, l, n)
 
   pub none-around : (sv : SVertex) → slice_get u.map.svertices k ≡ Some sv → sv.around ≡ None → (b : Cell) → IsAroundCell (complex_of c) i k b → ⊥
   none-around sv e n b (v, x, l, f, g, h, m) =
       let d = subst (λ (w : Vertex). IsAt w.map.svertices k x) (vertex-read c i u v a f) g in
-      let one = at-one (map svertex_of u.map.svertices) k x (svertex_of sv) d (map-at svertex_of u.map.svertices k sv (at-from_get u.map.svertices k sv e)) in
+      let one = is-at_one (map svertex_of u.map.svertices) k x (svertex_of sv) d (map-is_at svertex_of u.map.svertices k sv e) in
       some-none l (sym h ∙ ap (λ (r : MapVertex). r.around) one ∙ n)
     where
       some-none : (m : Label) → ◌≡◌ {A = Option Label} (Some m) None → ⊥

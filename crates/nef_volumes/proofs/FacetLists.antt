@@ -1,5 +1,5 @@
 -- Lists of facets, and the numbers of the volumes beside them.
-use Rattle.nef_volumes.proofs.Prelude.{◌≡◌, ℕ, ◌<◌, ⊎_elim, List, [], ◌∷◌, ◌++◌, length, length-append, Bool, true, false, Some, slice_get, arith, refl, ap, sym, ◌∙◌, subst, IsAt, Label, Plane, items, item_pos, item_neg, HasSide, map_of, sides_of, side_number, is-at_one, is-at_within, is-at_some, is-at_left, is-at_last, less-or-last, at-within, side-number, Vertex, Complex as PlainComplex, Corner as PlainCorner, vertex_of, complex_of, IsVolumeOf, VolumeNumbers, Cycle, Facet, side_at, HasItem, side_beside, HasVolumesBeside, AreFacetsOf}
+use Rattle.nef_volumes.proofs.Prelude.{◌≡◌, ℕ, ◌<◌, ⊎_elim, List, [], ◌∷◌, ◌++◌, length, length-append, Bool, true, false, Some, slice_get, arith, refl, ap, sym, ◌∙◌, subst, IsAt, Label, Plane, items, item_pos, item_neg, HasSide, map_of, sides_of, side_number, is-at_one, is-at_within, is-at_some, is-at_left, is-at_last, less-or-last, side-number, Vertex, Complex as PlainComplex, Corner as PlainCorner, vertex_of, complex_of, IsVolumeOf, VolumeNumbers, Cycle, Facet, side_at, HasItem, side_beside, HasVolumesBeside, AreFacetsOf}
 use Rattle.nef_complex.specs.declared.complex.Complex.{Complex}
 use Rattle.nef_complex.specs.declared.complex.Vertex.{Vertex as ProgramVertex}
 use Rattle.nef_volumes.proofs.ReadVertex.{vertex-there, vertex-read, vertex-within}
@@ -14,7 +14,7 @@ module _ (c : Complex) (k : PlainCorner) (h : HasItem (complex_of c) k) where
     there = let K = h.2 in subst (λ (v : Vertex). IsAt (items v.map) k.item h.1) (vertex-read c k.vertex u h.0 e K.vertex) K.item
 
     pub item-within : k.item < length (items (map_of u.map))
-    item-within = at-within (items (map_of u.map)) k.item h.1 there
+    item-within = is-at_within (items (map_of u.map)) k.item h.1 there
 
     side-has_label : (b : Bool) → (l : Label) × HasSide (map_of u.map) (side_at b k.item) l
     side-has_label true = (item_pos h.1, (h.1, there, refl))

@@ -1,14 +1,14 @@
 -- The ties of the sides of tied items, and of the sides round the ends of edges.
-use Rattle.nef_volumes.proofs.Prelude.{◌≡◌, ℕ, ◌⊎◌, inl, inr, List, [], map, Bool, true, false, cond, arith, refl, ap, sym, ◌∙◌, subst, Contains, IsAt, Label, Item, items, item_pos, item_neg, Side, around_svertex, pos_item, neg_item, HasSide, at-one, side_number, at-map, at-from_get, at-some, Vertex, Edge, Complex, Corner, VertexSide, HasSideLabel, IsCellIn, AreTied, AreTiedWithin, Cell, Tie, IsSideOf, count_items, cell_of, corner_at, Adds, Any, adds-both, side_cell, IsCellOf, AreTiedSides, AreTiesOf, side_at, IsItemSide, IsSideTie, IsTieOfItems, LinkOfItems, LinkOfEnds, IsAroundCell, IsTieOfEnds}
+use Rattle.nef_volumes.proofs.Prelude.{◌≡◌, ℕ, ◌⊎◌, inl, inr, List, [], map, Bool, true, false, cond, arith, refl, ap, sym, ◌∙◌, subst, Contains, IsAt, Label, Item, items, item_pos, item_neg, Side, around_svertex, pos_item, neg_item, HasSide, is-at_one, side_number, is-at_map, is-at_some, Vertex, Edge, Complex, Corner, VertexSide, HasSideLabel, IsCellIn, AreTied, AreTiedWithin, Cell, Tie, IsSideOf, count_items, cell_of, corner_at, Adds, Any, adds-both, side_cell, IsCellOf, AreTiedSides, AreTiesOf, side_at, IsItemSide, IsSideTie, IsTieOfItems, LinkOfItems, LinkOfEnds, IsAroundCell, IsTieOfEnds}
 use Rattle.nef_volumes.proofs.SideCells.{tie-chain, cell-is}
 use Rattle.nef_volumes.proofs.OutsideTies.{only-added}
 
 -- there is an item at each element of the table of items
 pub item-there : (C : Complex) (a : Cell) → IsCellIn (map count_items C.vertices) a → (v : Vertex) × (x : Item) × IsAt C.vertices a.row v × IsAt (items v.map) a.column x
 item-there C a w =
-    let r = at-map count_items C.vertices a.row w.count (at-from_get (map count_items C.vertices) a.row w.count w.is_row) in
+    let r = is-at_map count_items C.vertices a.row w.count w.is_row in
     let n = r.2 in let l = w.within in
-    let x = at-some (items r.0.map) a.column (omega (arith, n, l)) in
+    let x = is-at_some (items r.0.map) a.column (omega (arith, n, l)) in
     (r.0, x.0, r.1, x.1)
 
 has-side : (v : Vertex) (k : ℕ) (x : Item) (b : Bool) → IsAt (items v.map) k x → HasSide v.map (side_at b k) (cond b (item_pos x) (item_neg x))
@@ -19,7 +19,7 @@ one-tie : (a b c d : Cell) → a ≡ c → b ≡ d → ◌≡◌ {A = Tie} (reco
 one-tie a b c d e f = cc
 
 item_side-one : (C : Complex) (b : Bool) (i a c : Cell) → IsItemSide C b i a → IsItemSide C b i c → a ≡ c
-item_side-one C b i a c (v, f, e) (w, g, h) = e ∙ ap (λ (u : Vertex). side_cell i.row (side_number u.map (side_at b i.column))) (at-one C.vertices i.row v w f g) ∙ sym h
+item_side-one C b i a c (v, f, e) (w, g, h) = e ∙ ap (λ (u : Vertex). side_cell i.row (side_number u.map (side_at b i.column))) (is-at_one C.vertices i.row v w f g) ∙ sym h
 
 pub side_tie-one : (C : Complex) (b : Bool) (t u w : Tie) → IsSideTie C b t u → IsSideTie C b t w → u ≡ w
 side_tie-one C b t u w (f, g) (h, i) = one-tie u.first u.second w.first w.second (item_side-one C b t.first u.first w.first f h) (item_side-one C b t.second u.second w.second g i)
@@ -50,7 +50,7 @@ module _ (C : Complex) (items : List Tie) (W : AreTiedWithin (map count_items C.
     end-there =
         let h = side-there in
         let k = cell-is C (side_of b i) h.1.0 h.0 h.1.1 h.1.2 in
-        subst (IsCellOf C (side_of b i)) (ap (λ (u : Vertex). side_cell i.row (side_number u.map (side_at b i.column))) (at-one C.vertices i.row h.1.0 s.0 h.1.1 s.1) ∙ sym s.2) k
+        subst (IsCellOf C (side_of b i)) (ap (λ (u : Vertex). side_cell i.row (side_number u.map (side_at b i.column))) (is-at_one C.vertices i.row h.1.0 s.0 h.1.1 s.1) ∙ sym s.2) k
 
   of-sides : (b : Bool) (k : ℕ) (t u : Tie) → IsAt items k t → IsSideTie C b t u
       → ((x y : VertexSide) (j l : Corner) → x ≡ side_of b t.first → y ≡ side_of b t.second → j ≡ corner_at t.first → l ≡ corner_at t.second → (m : Label) × HasSideLabel C x m → (n : Label) × HasSideLabel C y n
@@ -106,11 +106,11 @@ module _ (C : Complex) (items : List Tie) (W : AreTiedWithin (map count_items C.
 
 -- ---- the sides round the ends of edges
 around-one : (C : Complex) (i k : ℕ) (a b : Cell) → IsAroundCell C i k a → IsAroundCell C i k b → a ≡ b
-around-one C i k a b (v, u, l, f, g, h, e) (w, x, m, p, q, r, s) = e ∙ ap (λ (z : Vertex). side_cell i (side_number z.map (around_svertex k))) (at-one C.vertices i v w f p) ∙ sym s
+around-one C i k a b (v, u, l, f, g, h, e) (w, x, m, p, q, r, s) = e ∙ ap (λ (z : Vertex). side_cell i (side_number z.map (around_svertex k))) (is-at_one C.vertices i v w f p) ∙ sym s
 
 pub ends-one : (C : Complex) (k : ℕ) (t u : Tie) → IsTieOfEnds C k t → IsTieOfEnds C k u → t ≡ u
 ends-one C k t u (e, a, f, g) (d, b, h, i) =
-    let one = at-one C.edges k d e b a in
+    let one = is-at_one C.edges k d e b a in
     let h' = subst (λ (r : Edge). IsAroundCell C r.low r.low_svertex u.first) one h in
     let i' = subst (λ (r : Edge). IsAroundCell C r.high r.high_svertex u.second) one i in
     one-tie t.first t.second u.first u.second (around-one C e.low e.low_svertex t.first u.first f h') (around-one C e.high e.high_svertex t.second u.second g i')

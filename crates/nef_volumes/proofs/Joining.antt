@@ -2,7 +2,8 @@
 use Rattle.nef_volumes.proofs.Prelude.{◌≡◌, ℕ, ◌<◌, ◌⊎◌, inl, inr, List, ◌++◌, arith, refl, ◌∙◌, subst, ◌↔◌, Result, Ok, Err, IfOk, Contains, Contains-append_left, Contains-append_right, Contains-append_cases, IsAt, Chained, NumbersClasses, AreLinked, LinksAreBelow, AreClasses, AreNumbered, IsCellIn, AreTiedWithin, AreTied, HasCounts, IsCellNumber, AreNumbers, Link, Cell, Tie, chain-here, chain-link, is-at_one, is-at_within, is-at_some, HasCellNumber, TableIsBelow, HaveNumbers, AreNumberLinks, AreRenumbered}
 use Rattle.nef_classes.proofs.ByAppearance.{numbers-classes}
 use Rattle.nef_volumes.proofs.Agree.{chains-agree}
-use Rattle.nef_volumes.proofs.SideCells.{contains-at, at-contained, tie-chain, more-tied}
+use Rattle.nef_volumes.proofs.SideCells.{tie-chain, more-tied}
+use Rattle.nef_smap.proofs.Lists.{at-contains, contains-at}
 
 pub cell-one_number : (rows : List (List ℕ)) (x : Cell) (m n : ℕ) → IsCellNumber rows x m → IsCellNumber rows x n → m ≡ n
 cell-one_number rows x m n (r, a, b) (t, c, d) = is-at_one t x.column m n (subst (λ (u : List ℕ). IsAt u x.column m) (is-at_one rows x.row r t a c) b) d
@@ -86,7 +87,7 @@ module _ (ns : List ℕ) (new rows : List (List ℕ)) (R : AreRenumbered ns new 
           tie.second,
           subst (λ (n : ℕ). IsCellNumber rows tie.first n) e r.0,
           subst (λ (n : ℕ). IsCellNumber rows tie.second n) f r.1,
-          tie-chain whole tie tie.first tie.second (Contains-append_right ts us tie (contains-at us k tie u.1)) refl refl,
+          tie-chain whole tie tie.first tie.second (Contains-append_right ts us tie (at-contains us k tie u.1)) refl refl,
         )
 
     -- ---- and the other way
@@ -94,18 +95,18 @@ module _ (ns : List ℕ) (new rows : List (List ℕ)) (R : AreRenumbered ns new 
     one-number y m n p q = subst (λ (k : ℕ). Chained (AreLinked ls) m k) (cell-one_number rows y m n p q) (chain-here (AreLinked ls) m)
 
     along-tie : (y z : Cell) → AreTied whole y z → (m : ℕ) × (n : ℕ) × IsCellNumber rows y m × IsCellNumber rows z n × Chained (AreLinked ls) m n
-    along-tie y z (k, t, a, e, f) = by (Contains-append_cases ts us t (contains-at whole k t a))
+    along-tie y z (k, t, a, e, f) = by (Contains-append_cases ts us t (at-contains whole k t a))
       where
         by : Contains ts t ⊎ Contains us t → (m : ℕ) × (n : ℕ) × IsCellNumber rows y m × IsCellNumber rows z n × Chained (AreLinked ls) m n
         by (inl c) =
-            let i = at-contained ts t c in
+            let i = contains-at ts t c in
             let w = W i.0 t i.1 in
             let p = cell-number_there counts rows H t.first w.0 in
             let q = cell-number_there counts rows H t.second w.1 in
             let g = (N.by_class t.first t.second p.0 q.0 p.1 q.1).1 (tie-chain ts t t.first t.second c refl refl) in
             (p.0, q.0, subst (λ (x : Cell). IsCellNumber rows x p.0) e p.1, subst (λ (x : Cell). IsCellNumber rows x q.0) f q.1, subst (λ (n : ℕ). Chained (AreLinked ls) p.0 n) g (chain-here (AreLinked ls) p.0))
         by (inr c) =
-            let i = at-contained us t c in
+            let i = contains-at us t c in
             let w = is-at_within us i.0 t i.1 in
             let m = L.as_many in
             let l = is-at_some ls i.0 (omega (arith, w, m)) in

@@ -1,5 +1,5 @@
 -- Some side of each of the program's complexes is outside: the one above a corner of the frame.
-use Rattle.nef_volumes.proofs.Prelude.{◌≡◌, ℕ, ◌+◌, ◌*◌, ◌<◌, ℤ, pos, negsuc, neg_ℤ, ◌+ℤ◌, ◌*ℤ◌, ◌<ℤ◌, nat_abs, [], ◌∷◌, arith, refl, sym, subst, ints, mul_pos, by_order, lt_by, at, num, neg, ◌⊕◌, ◌⊖◌, ◌⊗◌, half_side, SpacePoint, Ratio, Set, Germ, IsVertex, Vector, vector, up, Out, slide, FlatCone, FlatCone-from_flat, Germ-same, same-point_sym, IsAt, MapLabel, at_svertex, on_item, seen, SeenAs, on-level, SphereMap, map_of, IsSphereMap, at-map, get-from_at, map-ahead, Vertex, VertexSide, HasSideLabel, Shows, germ-label, vertex_of, complex_of, dir-self}
+use Rattle.nef_volumes.proofs.Prelude.{◌≡◌, ℕ, ◌+◌, ◌*◌, ◌<◌, ℤ, pos, negsuc, neg_ℤ, ◌+ℤ◌, ◌*ℤ◌, ◌<ℤ◌, nat_abs, [], ◌∷◌, arith, refl, sym, subst, ints, mul_pos, by_order, lt_by, at, num, neg, ◌⊕◌, ◌⊖◌, ◌⊗◌, half_side, SpacePoint, Ratio, Set, Germ, IsVertex, Vector, vector, up, Out, slide, FlatCone, FlatCone-from_flat, Germ-same, same-point_sym, IsAt, MapLabel, at_svertex, on_item, seen, SeenAs, on-level, SphereMap, map_of, IsSphereMap, is-at_map, map-ahead, Vertex, VertexSide, HasSideLabel, Shows, germ-label, vertex_of, complex_of, dir-self}
 use Rattle.nef_geo.proofs.InPlane.{up-direction}
 use Rattle.nef_complex.specs.declared.complex.Complex.{Complex}
 use Rattle.nef_locate.proofs.UpwardSides.{no-svertex}
@@ -77,9 +77,9 @@ upward-seen m S (seen h) = h
 pub out-side : (s : Set) (c : Complex) → Shows s (complex_of c) → HasLeastMaps c → (x : VertexSide) × HasSideLabel (complex_of c) x Out
 out-side s c S maps =
     let (i, v, a, e) = S.complete corner (corner-vertex s) in
-    let (u, b, f) = at-map vertex_of c.vertices i v a in
+    let (u, b, f) = is-at_map vertex_of c.vertices i v a in
     let g = Germ-same s corner v.point up up Out (same-point_sym v.point corner e) (dir-self up up-direction) (beyond-x s up (omega (arith, ints))) in
     let l = germ-label v.map s v.point (S.cones i v a) up Out up-direction g in
-    let M = maps i u (get-from_at c.vertices i u b) in
+    let M = maps i u b in
     let h = upward-seen u.map M.sphere_map (subst (λ (w : Vertex). MapLabel w.map up Out) (sym f) l) in
     (record { vertex = i; side = h.side }, (vertex_of u, subst (λ (w : Vertex). IsAt (complex_of c).vertices i w) (sym f) a, h.has))

@@ -1,5 +1,5 @@
 -- The numbers of the part in which a point lies are those of its place in the complex.
-use Rattle.nef_volumes.proofs.Prelude.{ℕ, arith, IsInTable, SpacePoint, InFrame, InClosedFrame, is-at_within, is-at_some, at-within, sides_of, Complex as PlainComplex, Corner, IsPlaceIn, IsPlaceAt, IsParts, IsFacetOf, Parts, IsPartAt, HasItem, Volume}
+use Rattle.nef_volumes.proofs.Prelude.{ℕ, arith, IsInTable, SpacePoint, InFrame, InClosedFrame, is-at_within, is-at_some, sides_of, Complex as PlainComplex, Corner, IsPlaceIn, IsPlaceAt, IsParts, IsFacetOf, Parts, IsPartAt, HasItem, Volume}
 use Rattle.nef_locate.specs.declared.point.Place.TheVariants as place
 use Rattle.nef_volumes.proofs.Components.{item-numbered}
 
@@ -15,7 +15,7 @@ module _ (C : PlainComplex) (p : Parts) (I : IsParts C p) where
   side-volume i j (o, l, (v, a, s)) =
       let N = I.volume_numbers in
       let S = N.shape in
-      let w = at-within C.vertices i v a in
+      let w = is-at_within C.vertices i v a in
       let r = is-at_some p.volume_of i (let e = S.as_many in omega (arith, w, e)) in
       let h = is-at_within (sides_of v.map) j (o, l) s in
       let e = S.row i v r.0 a r.1 in

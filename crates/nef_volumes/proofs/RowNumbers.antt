@@ -1,7 +1,8 @@
 -- The numbers of the table of sides, after the row of the outside, are those of the classes of sides.
-use Rattle.nef_volumes.proofs.Prelude.{◌≡◌, ℕ, zero, suc, ◌+◌, ◌<◌, ◌≤◌, pos, ◌⊎◌, inl, inr, List, [], ◌∷◌, ◌++◌, length, take, drop, map, arith, refl, ap, sym, ◌∙◌, subst, ◌↔◌, ints, length-map, IsAt, IsChain, Chained, NumbersClasses, IsInTable, IsBelow, Set, Label, Out, sides_of, map-at, side-has, at-from_get, get-from_at, number-one, is-at_within, is-at_some, Complex, Shows, VertexSide, HasSideLabel, AreTied, IsCellBelow, HasCounts, IsCellNumber, AreNumbers, Cell, Tie, VolumeLink, IsUpright, IsSideNumber, HasRows, count_sides, IsVolumeOf, IsSideBelow, VolumeNumbers, outside_cell, side_cell, row_counts, IsCellOf, IsEndOf, AreTiesWithOutside, AreTiedOutside}
-use Rattle.nef_volumes.proofs.SideCells.{contains-at, one-cell, not-outside, ends-in_volume, volume-chains}
+use Rattle.nef_volumes.proofs.Prelude.{◌≡◌, ℕ, zero, suc, ◌+◌, ◌<◌, ◌≤◌, pos, ◌⊎◌, inl, inr, List, [], ◌∷◌, ◌++◌, length, take, drop, map, arith, refl, ap, sym, ◌∙◌, subst, ◌↔◌, ints, length-map, IsAt, IsChain, Chained, NumbersClasses, IsInTable, IsBelow, Set, Label, Out, sides_of, map-is_at, side-has, number-one, is-at_within, is-at_some, Complex, Shows, VertexSide, HasSideLabel, AreTied, IsCellBelow, HasCounts, IsCellNumber, AreNumbers, Cell, Tie, VolumeLink, IsUpright, IsSideNumber, HasRows, count_sides, IsVolumeOf, IsSideBelow, VolumeNumbers, outside_cell, side_cell, row_counts, IsCellOf, IsEndOf, AreTiesWithOutside, AreTiedOutside}
+use Rattle.nef_volumes.proofs.SideCells.{one-cell, not-outside, ends-in_volume, volume-chains}
 use Rattle.nef_volumes.proofs.SideLabels.{chain-label}
+use Rattle.nef_smap.proofs.Lists.{at-contains}
 
 -- the element of the side with a number
 pub number-cell : (C : Complex) (x : VertexSide) (j : ℕ) → IsSideNumber C x j → IsCellOf C x (side_cell x.vertex j)
@@ -19,7 +20,7 @@ module _ (C : Complex) (Link : VertexSide → VertexSide → Type 0) (ts : List 
   pub shape : HasRows C count_sides rest
   shape = record {
     as_many = let e = H.as_many in let f = length-map C.vertices count_sides in omega (arith, e, f);
-    row = λ i v ns a b. H.row (suc i) (count_sides v) ns (get-from_at (map count_sides C.vertices) i (count_sides v) (map-at count_sides C.vertices i v a)) b;
+    row = λ i v ns a b. H.row (suc i) (count_sides v) ns (map-is_at count_sides C.vertices i v a) b;
   }
 
   -- the rows of the vertices, after the first
@@ -73,7 +74,7 @@ module _ (C : Complex) (Link : VertexSide → VertexSide → Type 0) (ts : List 
   side-at i k m (row, e, h) =
       let n = is-at_within rest i row e in
       let v = is-at_some C.vertices i (let a = shape.as_many in omega (arith, n, a)) in
-      let a = at-from_get C.vertices i v.0 v.1 in
+      let a = v.1 in
       let c = shape.row i v.0 row a e in
       let g = is-at_some (sides_of v.0.map) k (let l = is-at_within row k m h in omega (arith, l, c)) in
       (record { vertex = i; side = g.0.0 }, refl, record { vertex = v.0; is_vertex = a; label = g.0.1; is_side = g.1 })
@@ -111,8 +112,8 @@ module _ (s : Set) (C : Complex) (S : Shows s C) (up : IsUpright C) (ts : List T
       outside-end z d e (inr g) = (z, g.1)
 
       end : AreTied ts outside_cell b ⊎ AreTied ts b outside_cell → (y : VertexSide) × HasSideLabel C y Out
-      end (inl (k, t, i, e, g)) = let r = T.only t (contains-at ts k t i) in outside-end r.0 t.first e r.2
-      end (inr (k, t, i, e, g)) = let r = T.only t (contains-at ts k t i) in outside-end r.1 t.second g r.3
+      end (inl (k, t, i, e, g)) = let r = T.only t (at-contains ts k t i) in outside-end r.0 t.first e r.2
+      end (inr (k, t, i, e, g)) = let r = T.only t (at-contains ts k t i) in outside-end r.1 t.second g r.3
 
   outside : (x : VertexSide) (n : ℕ) (l : Label) → IsVolumeOf C rest x n → HasSideLabel C x l → (n ≡ 0) ↔ (l ≡ Out)
   outside x n l X h =

@@ -1,5 +1,5 @@
 -- The ties between sides of one sface.
-use Rattle.nef_volumes.proofs.Prelude.{◌≡◌, ◌≢◌, ℕ, zero, suc, ◌+◌, ◌<◌, ◌==◌, true, false, ◌⊎◌, inl, inr, ⊎_elim, arith, refl, ap, sym, ◌∙◌, subst, List, [], ◌∷◌, ◌++◌, length, length-append, take, Some, cases_order, eqb_tells, length-take, Contains, IsAt, IsChain, Chained, Vector, Label, Map, Side, HasSide, Sees, InOneSface, here, link, LabelledSide, sides_of, IsSide, SideSees, SeeOneWay, AreSfaces, side_number, side-has, side-number, number-one, Either, earlier, last, is-at_either, is-at_one, is-at_within, is-at_some, is-at_take, less-or-last, chain-here, chain-link, chain-trans, chain-turned, Vertex, Complex, VertexSide, AreTied, Cell, Tie, LinkInSface, Adds, Any, side_cell, IsCellOf, AreTiedSides, AreTiesOf, tie_within, IsFirstNumber, IsTieNumbered, AreInOneSface, IsTieInSface, AddsInSfaces, at-one, adds-one, adds-none}
+use Rattle.nef_volumes.proofs.Prelude.{◌≡◌, ◌≢◌, ℕ, zero, suc, ◌+◌, ◌<◌, ◌==◌, true, false, ◌⊎◌, inl, inr, ⊎_elim, arith, refl, ap, sym, ◌∙◌, subst, List, [], ◌∷◌, ◌++◌, length, length-append, take, Some, cases_order, eqb_tells, length-take, Contains, IsAt, IsChain, Chained, Vector, Label, Map, Side, HasSide, Sees, InOneSface, here, link, LabelledSide, sides_of, IsSide, SideSees, SeeOneWay, AreSfaces, side_number, side-has, side-number, number-one, Either, earlier, last, is-at_either, is-at_one, is-at_within, is-at_some, is-at_take, less-or-last, chain-here, chain-link, chain-trans, chain-turned, Vertex, Complex, VertexSide, AreTied, Cell, Tie, LinkInSface, Adds, Any, side_cell, IsCellOf, AreTiedSides, AreTiesOf, tie_within, IsFirstNumber, IsTieNumbered, AreInOneSface, IsTieInSface, AddsInSfaces, adds-one, adds-none}
 use Rattle.nef_classes.proofs.Cutting.{take-at}
 use Rattle.nef_volumes.proofs.SideCells.{tie-chain, more-tied, cell-is, cell-numbered}
 
@@ -171,7 +171,7 @@ module _ (C : Complex) (i : ℕ) (u : Vertex) (e : IsAt C.vertices i u) (ns : Li
 
   tied : (r s : ℕ) → AreInOneSface C i r s → Chained (AreTied ys) (side_cell i r) (side_cell i s)
   tied r s (v, a, l, m, ch) =
-      let one = at-one C.vertices i v u a e in
+      let one = is-at_one C.vertices i v u a e in
       let many = F.as_many in
       let l' = subst (λ (x : Vertex). r < length (sides_of x.map)) one l in
       let m' = subst (λ (x : Vertex). s < length (sides_of x.map)) one m in
@@ -207,4 +207,4 @@ sfaces-more C n rows v ns a F S = record {
     by i w ms b (earlier c) = S.row i w ms b c
     by i w ms b (last e f) =
         subst (λ (ks : List ℕ). AreSfaces w.map ks) (sym f)
-        (subst (λ (u : Vertex). AreSfaces u.map ns) (at-one C.vertices n v w a (subst (λ (k : ℕ). IsAt C.vertices k w) (e ∙ S.as_many) b)) F)
+        (subst (λ (u : Vertex). AreSfaces u.map ns) (is-at_one C.vertices n v w a (subst (λ (k : ℕ). IsAt C.vertices k w) (e ∙ S.as_many) b)) F)

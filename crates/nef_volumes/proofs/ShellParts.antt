@@ -1,5 +1,5 @@
 -- The gathered lists are the shells, and the rows those of each volume.
-use Rattle.nef_volumes.proofs.Prelude.{◌≡◌, ℕ, zero, suc, ◌+◌, ◌<◌, inl, inr, List, length, arith, refl, ap, sym, ◌∙◌, subst, ints, IsAt, Chained, IsInTable, Label, InOrder, Complex, VertexSide, VolumeLink, side-has, at-from_get, get-from_at, at-map, map-at, chain-link, chain-map, is-at_one, is-at_within, IsSideNumber, IsVolumeOf, VolumeNumbers, shell_sides, ShellLink, IsSideNamed, IsNameBelow, IsSideListed, IsShell, IsShellBelow, Shells, Shell, AreVolumeLabels, side_cell, AreShellRows, IsShellOf, AreGathered, AreShellsOf, HaveVolumes, Cell}
+use Rattle.nef_volumes.proofs.Prelude.{◌≡◌, ℕ, zero, suc, ◌+◌, ◌<◌, inl, inr, List, length, arith, refl, ap, sym, ◌∙◌, subst, ints, IsAt, Chained, IsInTable, Label, InOrder, Complex, VertexSide, VolumeLink, side-has, is-at_map, map-is_at, chain-link, chain-map, is-at_one, is-at_within, IsSideNumber, IsVolumeOf, VolumeNumbers, shell_sides, ShellLink, IsSideNamed, IsNameBelow, IsSideListed, IsShell, IsShellBelow, Shells, Shell, AreVolumeLabels, side_cell, AreShellRows, IsShellOf, AreGathered, AreShellsOf, HaveVolumes, Cell}
 use Rattle.nef_complex.specs.declared.parts.Side.{Side}
 use Rattle.nef_volumes.proofs.AllTies.{shell-volume}
 use Rattle.nef_volumes.proofs.RowNumbers.{number-cell}
@@ -27,22 +27,22 @@ module _ (C : Complex) (rows : List (List ℕ)) (R : AreShellRows C rows) (hs : 
   in-this : (m : ℕ) (h : List Side) (s : Side) → IsAt hs m h → IsShellOf rows s m → IsSideListed h s
   in-this m h s a n =
       let r = in-list s m n in
-      (r.1, at-from_get h r.1 s (subst (λ (g : List Side). IsAt g r.1 s) (is-at_one hs m r.0 h r.2 a) r.3))
+      (r.1, (subst (λ (g : List Side). IsAt g r.1 s) (is-at_one hs m r.0 h r.2 a) r.3))
 
   number-listed : (m : ℕ) (h : List Side) (s : Side) → IsAt hs m h → IsSideListed h s → IsShellOf rows s m
-  number-listed m h s a (k, b) = (G.held.each m k h s a (get-from_at h k s b)).0
+  number-listed m h s a (k, b) = (G.held.each m k h s a b).0
 
   -- EACH LIST IS A SHELL
   list-shell : (m : ℕ) (h : List Side) → IsAt hs m h → IsShell C h
   list-shell m h a = record {
-    some = let r = G.some m h a in (r.0, at-from_get h 0 r.0 r.1);
+    some = let r = G.some m h a in (r.0, r.1);
     sides = λ s l. shell-side C rows R s m (number-listed m h s a l);
     class = λ s t x y l X Y.
         let n = number-listed m h s a l in
         let o = shell-number C rows R t y Y in
         let f = shell-chain C rows R s t x y m o.0 n o.1 X Y in
         (λ k. (shell-chain C rows R s t x y m m n (number-listed m h t a k) X Y).0 refl, λ c. in-this m h t a (subst (IsShellOf rows t) (sym (f.1 c)) o.1));
-    ordered = λ i k s t l b c. G.held.ordered m i k h s t l a (get-from_at h i s b) (get-from_at h k t c);
+    ordered = λ i k s t l b c. G.held.ordered m i k h s t l a b c;
   }
 
   -- the lists stand in the order of their first sides
@@ -53,7 +53,7 @@ module _ (C : Complex) (rows : List (List ℕ)) (R : AreShellRows C rows) (hs : 
       let n = (G.held.each l 0 h t b d).0 in
       let r = (rows-named C rows R).by_appearance t k l n less in
       let p = in-this k g r.0 a r.2 in
-      (s, t, at-from_get g 0 s c, at-from_get h 0 t d, by s c r.0 r.1 p.0 (get-from_at g p.0 r.0 p.1))
+      (s, t, c, d, by s c r.0 r.1 p.0 p.1)
     where
       by : (s : Side) → IsAt g 0 s → (u : Side) → {t : Side} → IsNameBelow u t → (q : ℕ) → IsAt g q u → IsNameBelow s t
       by s c u {t} v zero e = subst (λ (w : Side). IsNameBelow w t) (is-at_one g 0 u s e c) v
@@ -88,7 +88,7 @@ module _ (C : Complex) (rows : List (List ℕ)) (R : AreShellRows C rows) (hs : 
       sides_in h = h.sides
 
       shell-at : (i : ℕ) (h : List Side) → IsAt (shell_sides row) i h → (g : Shell) × IsAt row i g × (g.sides ≡ h)
-      shell-at i h a = let r = at-map sides_in row i h a in (r.0, get-from_at row i r.0 r.1, r.2)
+      shell-at i h a = let r = is-at_map sides_in row i h a in (r.0, r.1, r.2)
 
       list-of : (i : ℕ) (h : List Side) → IsAt (shell_sides row) i h → (k : ℕ) × IsAt hs k h
       list-of i h a = let (g, b, e) = shell-at i h a in let o = (A.each n i row g at b).1 in (o.0, subst (λ (l : List Side). IsAt hs o.0 l) e o.1)
@@ -101,7 +101,7 @@ module _ (C : Complex) (rows : List (List ℕ)) (R : AreShellRows C rows) (hs : 
           let o = list-of i h a in
           let H = list-shell o.0 h o.1 in
           let (f, b, t) = first-volume i h a in
-          let k : IsSideListed h f = (0, at-from_get h 0 f b) in
+          let k : IsSideListed h f = (0, b) in
           let (y, Y) = H.sides f k in
           one-volume y x s.side n ((H.class f s y x k Y X).0 l) (volume-name f y n Y t) X.1
 
@@ -112,15 +112,15 @@ module _ (C : Complex) (rows : List (List ℕ)) (R : AreShellRows C rows) (hs : 
           let m = shell-number C rows R s x X in
           let (h, q, a, b) = in-list s m.0 m.1 in
           let H = list-shell m.0 h a in
-          let l : IsSideListed h s = (q, at-from_get h q s b) in
+          let l : IsSideListed h s = (q, b) in
           let (f, c) = G.some m.0 h a in
-          let k : IsSideListed h f = (0, at-from_get h 0 f c) in
+          let k : IsSideListed h f = (0, c) in
           let (y, Y) = H.sides f k in
           let v = one-volume x y f.side n ((H.class s f x y l X Y).0 k) (j, J, t) Y.1 in
           let g : Shell = record { sides = h } in
           let (r, i, d, e) = A.all g n (f, c, name-volume f y n Y v) (m.0, a) in
           let p = subst (λ (w : List Shell). IsAt w i g) (is-at_one srows n r row d at) e in
-          (i, h, s, map-at sides_in row i g (at-from_get row i g p), l, X)
+          (i, h, s, map-is_at sides_in row i g p, l, X)
 
       ordered : InOrder IsShellBelow (shell_sides row)
       ordered i k g h less a b =

@@ -3,7 +3,8 @@ use Rattle.nef_volumes.proofs.Prelude.{◌≡◌, ℕ, zero, suc, ◌+◌, ◌<�
 use Rattle.nef_complex.specs.declared.parts.Side.{Side}
 use Rattle.nef_volumes.proofs.Joining.{cell-number_there}
 use Rattle.nef_volumes.proofs.RowNumbers.{number-cell, in-first, side-at, outside-number}
-use Rattle.nef_volumes.proofs.SideCells.{contains-at, not-outside, end-within, shell-chains}
+use Rattle.nef_volumes.proofs.SideCells.{not-outside, end-within, shell-chains}
+use Rattle.nef_smap.proofs.Lists.{at-contains}
 
 -- the element of a named side
 name-cell : (C : Complex) (s : Side) (x : VertexSide) → IsSideNamed C s x → IsCellOf C x (side_cell s.vertex s.side)
@@ -23,8 +24,8 @@ module _ (C : Complex) (first : List ℕ) (rest : List (List ℕ)) (R : AreShell
   -- no tie leads to the outside
   no-chain : (us : List Cell) (i k : ℕ) → IsChain (AreTied R.ties) outside_cell us (side_cell i k) → ⊥
   no-chain [] i k e = let r : 0 ≡ i + 1 = ap (λ (a : Cell). a.row) e in omega (arith, r)
-  no-chain (b ∷ us) i k (inl (j, t, a, e, f), c) = let r = R.of_links.only t (contains-at R.ties j t a) in not-outside C r.0 t.first r.2 e
-  no-chain (b ∷ us) i k (inr (j, t, a, e, f), c) = let r = R.of_links.only t (contains-at R.ties j t a) in not-outside C r.1 t.second r.3 f
+  no-chain (b ∷ us) i k (inl (j, t, a, e, f), c) = let r = R.of_links.only t (at-contains R.ties j t a) in not-outside C r.0 t.first r.2 e
+  no-chain (b ∷ us) i k (inr (j, t, a, e, f), c) = let r = R.of_links.only t (at-contains R.ties j t a) in not-outside C r.1 t.second r.3 f
 
   zero-outside : IsCellNumber rows outside_cell 0
   zero-outside = outside-number C (ShellLink C) R.ties chains first rest R.counts R.numbers

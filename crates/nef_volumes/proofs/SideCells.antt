@@ -1,19 +1,14 @@
 -- Sides and their elements; lists of ties put together.
-use Rattle.nef_volumes.proofs.Prelude.{◌≡◌, ℕ, suc, ◌+◌, inl, inr, ⊎_elim, List, ◌++◌, map, arith, refl, ap, sym, ◌∙◌, subst, ◌↔◌, Contains, Contains-append_cases, IsAt, Chained, Label, Side, HasSide, at-one, LabelledSide, sides_of, IsSide, side_number, map-at, get-from_at, side-number, is-at_one, is-at_within, is-at_get, is-at_is, chain-here, chain-link, chain-map, Vertex, Complex, VertexSide, IsCellIn, AreTied, AreTiedWithin, Cell, Tie, VolumeLink, count_sides, ShellLink, outside_cell, side_cell, row_counts, IsCellOf, IsEndOf, AreLinks, AreTiedSides, AreTiesTo, AreTiesOf, AreTiesWithOutside}
+use Rattle.nef_volumes.proofs.Prelude.{◌≡◌, ℕ, suc, ◌+◌, inl, inr, ⊎_elim, List, ◌++◌, map, arith, refl, ap, sym, ◌∙◌, subst, ◌↔◌, Contains, Contains-append_cases, IsAt, Chained, Label, Side, HasSide, LabelledSide, sides_of, IsSide, side_number, map-is_at, side-number, is-at_one, is-at_within, is-at_get, is-at_is, chain-here, chain-link, chain-map, Vertex, Complex, VertexSide, IsCellIn, AreTied, AreTiedWithin, Cell, Tie, VolumeLink, count_sides, ShellLink, outside_cell, side_cell, row_counts, IsCellOf, IsEndOf, AreLinks, AreTiedSides, AreTiesTo, AreTiesOf, AreTiesWithOutside}
 use Rattle.nef_volumes.proofs.Agree.{chains-agree}
+use Rattle.nef_smap.proofs.Lists.{at-contains, contains-at}
 
 -- ---- ties of a list
-pub contains-at : {X : Type 0} (xs : List X) (k : ℕ) (x : X) → IsAt xs k x → Contains xs x
-contains-at xs k x a = (k, is-at_within xs k x a, is-at_is xs k x x a)
-
-pub at-contained : {X : Type 0} (xs : List X) (x : X) → Contains xs x → (k : ℕ) × IsAt xs k x
-at-contained {X} xs x (k, l, e) = (k, subst (λ (y : X). IsAt xs k y) e (is-at_get xs k x l))
-
 pub tie-chain : (ts : List Tie) (t : Tie) (a b : Cell) → Contains ts t → t.first ≡ a → t.second ≡ b → Chained (AreTied ts) a b
-tie-chain ts t a b c e f = let r = at-contained ts t c in chain-link (AreTied ts) a b (r.0, t, r.1, e, f)
+tie-chain ts t a b c e f = let r = contains-at ts t c in chain-link (AreTied ts) a b (r.0, t, r.1, e, f)
 
 pub more-tied : (ts us : List Tie) → ((t : Tie) → Contains ts t → Contains us t) → (a b : Cell) → Chained (AreTied ts) a b → Chained (AreTied us) a b
-more-tied ts us more a b = chain-map (AreTied ts) (AreTied us) (λ (s : Cell). s) (λ x y (k, t, i, e, f). tie-chain us t x y (more t (contains-at ts k t i)) e f) a b
+more-tied ts us more a b = chain-map (AreTied ts) (AreTied us) (λ (s : Cell). s) (λ x y (k, t, i, e, f). tie-chain us t x y (more t (at-contains ts k t i)) e f) a b
 
 module _ (C : Complex) where
   pub more-sides : (ts us : List Tie) → ((t : Tie) → Contains ts t → Contains us t) → (x y : VertexSide) → AreTiedSides C ts x y → AreTiedSides C us x y
@@ -35,7 +30,7 @@ module _ (C : Complex) where
   cell-numbered i s v o l a h e = record { vertex = v; is_vertex = a; label = l; has = h; is_cell = ap (side_cell i) e }
 
   pub one-cell : (x : VertexSide) (a b : Cell) → IsCellOf C x a → IsCellOf C x b → a ≡ b
-  one-cell x a b A B = A.is_cell ∙ ap (λ (v : Vertex). side_cell x.vertex (side_number v.map x.side)) (at-one C.vertices x.vertex A.vertex B.vertex A.is_vertex B.is_vertex) ∙ sym B.is_cell
+  one-cell x a b A B = A.is_cell ∙ ap (λ (v : Vertex). side_cell x.vertex (side_number v.map x.side)) (is-at_one C.vertices x.vertex A.vertex B.vertex A.is_vertex B.is_vertex) ∙ sym B.is_cell
 
   same-side : (i j : ℕ) (o p : Side) → i ≡ j → o ≡ p → ◌≡◌ {A = VertexSide} (record { vertex = i; side = o }) (record { vertex = j; side = p })
   same-side i j o p e f = cc
@@ -46,7 +41,7 @@ module _ (C : Complex) where
       let r : x.vertex + 1 ≡ y.vertex + 1 = ap (λ (s : Cell). s.row) e in
       let i : x.vertex ≡ y.vertex = omega (arith, r) in
       let n : side_number A.vertex.map x.side ≡ side_number B.vertex.map y.side = ap (λ (s : Cell). s.column) e in
-      let v = at-one C.vertices y.vertex A.vertex B.vertex (subst (λ (k : ℕ). IsAt C.vertices k A.vertex) i A.is_vertex) B.is_vertex in
+      let v = is-at_one C.vertices y.vertex A.vertex B.vertex (subst (λ (k : ℕ). IsAt C.vertices k A.vertex) i A.is_vertex) B.is_vertex in
       let g = side-number A.vertex.map x.side A.label A.has in
       let h = side-number A.vertex.map y.side B.label (subst (λ (w : Vertex). HasSide w.map y.side B.label) (sym v) B.has) in
       let m = ap (λ (w : Vertex). side_number w.map y.side) v ∙ sym n in
@@ -61,7 +56,7 @@ module _ (C : Complex) where
       (ts : List Tie) (T : AreTiesTo C End Link ts) where
     link-of : (a b : Cell) → AreTied ts a b → (x : VertexSide) × (y : VertexSide) × End x a × End y b × Chained Link x y
     link-of a b (k, t, i, e, f) =
-        let r = T.only t (contains-at ts k t i) in
+        let r = T.only t (at-contains ts k t i) in
         (r.0, r.1, subst (End r.0) e r.2, subst (End r.1) f r.3, chain-link Link r.0 r.1 r.4)
 
     pub ends-linked : (a b : Cell) (x y : VertexSide) → Chained (AreTied ts) a b → End x a → End y b → Chained Link x y
@@ -95,7 +90,7 @@ module _ (C : Complex) where
   -- ---- ties are within the table
   pub end-within : (x : VertexSide) (a : Cell) → IsEndOf C x a → IsCellIn (row_counts C) a
   end-within x a (inl f) =
-      let i = get-from_at (map count_sides C.vertices) x.vertex (count_sides f.vertex) (map-at count_sides C.vertices x.vertex f.vertex f.is_vertex) in
+      let i = (map-is_at count_sides C.vertices x.vertex f.vertex f.is_vertex) in
       let n = side-number f.vertex.map x.side f.label f.has in
       subst (IsCellIn (row_counts C)) (sym f.is_cell) (record { count = count_sides f.vertex; is_row = next x.vertex (count_sides f.vertex) i; within = is-at_within (sides_of f.vertex.map) (side_number f.vertex.map x.side) (x.side, f.label) n })
     where
@@ -104,7 +99,7 @@ module _ (C : Complex) where
   end-within x a (inr f) = subst (IsCellIn (row_counts C)) (sym f.0) (record { count = 1; is_row = refl; within = omega arith })
 
   pub ties-within : (Link : VertexSide → VertexSide → Type 0) (ts : List Tie) → AreLinks (IsEndOf C) Link ts → AreTiedWithin (row_counts C) ts
-  ties-within Link ts f k t i = let r = f t (contains-at ts k t i) in (end-within r.0 t.first r.2, end-within r.1 t.second r.3)
+  ties-within Link ts f k t i = let r = f t (at-contains ts k t i) in (end-within r.0 t.first r.2, end-within r.1 t.second r.3)
 
   pub cells-within : (Link : VertexSide → VertexSide → Type 0) (ts : List Tie) → AreLinks (IsCellOf C) Link ts → AreTiedWithin (row_counts C) ts
   cells-within Link ts f = ties-within Link ts (links-as (IsCellOf C) (IsEndOf C) Link Link ts (λ x a g. inl g) (λ x y l. l) f)

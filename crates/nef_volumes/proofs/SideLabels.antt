@@ -1,5 +1,5 @@
 -- The sides of a volume have one label.
-use Rattle.nef_volumes.proofs.Prelude.{◌≡◌, ℕ, refl, subst, Chained, IsAt, HasLabel, SpacePoint, Set, zero_vector, Label, ahead, near-ahead, label-one, Germ-zero, near-germ_zero, joined-germs, labels-by_germs, item_normal, seen, IsSmall, IsLeastMap, at-map, get-from_at, label-germ, Vertex, Complex, Shows, VertexSide, HasSideLabel, vertex_of, complex_of, ShowsSet, VolumeLink, IsAtSide, IsUpright, side-sees, at-side, sides-joined}
+use Rattle.nef_volumes.proofs.Prelude.{◌≡◌, ℕ, refl, subst, Chained, IsAt, HasLabel, SpacePoint, Set, zero_vector, Label, ahead, near-ahead, label-one, Germ-zero, near-germ_zero, joined-germs, labels-by_germs, item_normal, seen, IsSmall, IsLeastMap, is-at_map, label-germ, Vertex, Complex, Shows, VertexSide, HasSideLabel, vertex_of, complex_of, ShowsSet, VolumeLink, IsAtSide, IsUpright, side-sees, at-side, sides-joined}
 use Rattle.nef_complex.specs.declared.complex.Complex.{Complex as ProgramComplex}
 use Rattle.nef_complex.specs.declared.complex.Vertex.{Vertex as ProgramVertex}
 use Rattle.nef_smap.proofs.Upward.{normal-ahead}
@@ -16,8 +16,8 @@ upright-by_maps s c S maps k v x K =
   where
     small : (i : ℕ) (v : Vertex) → IsAt (complex_of c).vertices i v → IsSmall v.map
     small i v a =
-        let u = at-map vertex_of c.vertices i v a in
-        subst (λ (w : Vertex). IsSmall w.map) u.2 (maps i u.0 (get-from_at c.vertices i u.0 u.1)).sphere_map.small
+        let u = is-at_map vertex_of c.vertices i v a in
+        subst (λ (w : Vertex). IsSmall w.map) u.2 (maps i u.0 u.1).sphere_map.small
 
 pub upright : (s : Set) (c : ProgramComplex) → ShowsSet s c → IsUpright (complex_of c)
 upright s c S = upright-by_maps s c S.shows S.maps

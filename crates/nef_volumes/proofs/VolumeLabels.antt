@@ -1,5 +1,5 @@
 -- The labels of volumes: one for each number, that of all sides with the number.
-use Rattle.nef_volumes.proofs.Prelude.{◌≡◌, ℕ, zero, suc, ◌+◌, ◌<◌, ◌≤◌, pos, ◌⊎◌, inl, inr, ⊎_elim, List, [], ◌∷◌, ◌++◌, length, length-append, arith, refl, ap, sym, ◌∙◌, subst, cases_order, ints, IsAt, IsInTable, IsBelow, Set, Label, Out, Map, Side, at-one, sides_of, IsSide, side_number, at-within, side-has, side-number, number-one as number-is, is-at_one, is-at_within, is-at_some, is-at_left, is-at_last, less-or-last, Vertex, Complex, VertexSide, HasSideLabel, complex_of, ShowsSet, IsSideNumber, IsVolumeOf, VolumeNumbers, HasAppeared, AreLabelsTo, AreLabelsOf, AreVolumeLabels}
+use Rattle.nef_volumes.proofs.Prelude.{◌≡◌, ℕ, zero, suc, ◌+◌, ◌<◌, ◌≤◌, pos, ◌⊎◌, inl, inr, ⊎_elim, List, [], ◌∷◌, ◌++◌, length, length-append, arith, refl, ap, sym, ◌∙◌, subst, cases_order, ints, IsAt, IsInTable, IsBelow, Set, Label, Out, Map, Side, sides_of, IsSide, side_number, side-has, side-number, number-one as number-is, is-at_one, is-at_within, is-at_some, is-at_left, is-at_last, less-or-last, Vertex, Complex, VertexSide, HasSideLabel, complex_of, ShowsSet, IsSideNumber, IsVolumeOf, VolumeNumbers, HasAppeared, AreLabelsTo, AreLabelsOf, AreVolumeLabels}
 use Rattle.nef_complex.specs.declared.complex.Complex.{Complex as ProgramComplex}
 use Rattle.nef_volumes.proofs.SideLabels.{upright, chain-label}
 use Rattle.nef_volumes.proofs.OutsideSide.{out-side}
@@ -90,7 +90,7 @@ module _ (C : Complex) (rows : List (List ℕ)) (N : VolumeNumbers C rows) (n : 
     where
       number-same : (x : VertexSide) (i k : ℕ) → IsSideNumber C x i → IsSideNumber C x k → i ≡ k
       number-same x i k I K =
-          let one = at-one C.vertices x.vertex I.vertex K.vertex I.is_vertex K.is_vertex in
+          let one = is-at_one C.vertices x.vertex I.vertex K.vertex I.is_vertex K.is_vertex in
           number-is I.vertex.map i x.side I.label I.is_side ∙ ap (λ (w : Vertex). side_number w.map x.side) one ∙ sym (number-is K.vertex.map k x.side K.label K.is_side)
 
       by : (y x : VertexSide) (i k : ℕ) → IsSideNumber C y i → IsSideNumber C x k → IsSideNumber C x s → x.vertex ≡ n → IsBelow (pos y.vertex ∷ pos i ∷ []) (pos x.vertex ∷ pos k ∷ []) → IsVolumeOf C rows y j → (t : ℕ) × (t < s) × IsAt row t j
@@ -136,7 +136,7 @@ pub numbered-side : (C : Complex) (rows : List (List ℕ)) → VolumeNumbers C r
 numbered-side C rows N x l (v, a, g) =
     let S = N.shape in
     let j = side-number v.map x.side l g in
-    let w = at-within C.vertices x.vertex v a in
+    let w = is-at_within C.vertices x.vertex v a in
     let r = is-at_some rows x.vertex (let e = S.as_many in omega (arith, w, e)) in
     let i = is-at_within (sides_of v.map) (side_number v.map x.side) (x.side, l) j in
     let e = S.row x.vertex v r.0 a r.1 in

@@ -1,5 +1,5 @@
 -- Across a facet: a point of it is tied to the points close to the corner that a ray within its plane names.
-use Rattle.law_complex.proofs.links.Prelude.{◌≡◌, ℕ, pos, ◌<ℤ◌, arith, sym, ◌∙◌, ◌⊎◌, inl, inr, ⊎_elim, ◌∷◌, subst, [], ints, ring, at, num, ◌⊗◌, FlatDim, SpacePoint, Form, form_at, normal_of, slope, plane_through, SamePoint, toward, IsBetween, Set, Vector, opposite, dot, triple, IsDirection, SameDirection, plane_axis, plane_dir, carriers, Drop, ahead, same-point_sym, between-turned, even-until, start-close, reach_all, between-same, factor-same, IsAt, Item, arc_item, item_normal, dir_of, OnItem, same-plus, same-minus, normal-is, on-level, at-one, dir-at, turn-same, at-arc, level-same, Vertex, Edge, Complex, Corner, HasEnds, IsCorner, Shows, item_plane, IsVertexPoint, IsEdgePoint, PlaneMeet, meets_vertex, meets_edge, LiesIn, IsFirstInPlane, IsCornerAt, RayNames, HasCorner, IsFlatIn, between-way, between-start, between-outer, same-itself, near_point, near-between, way-near, dim-same, plane-ahead, end-meets, IsInFacetOf, beside-vertex, facet-point, ahead-back, ahead-same, through-level, axis-in, LinkAcross, SameDirection-turned, SameDirection-trans, dir-self, dot-opposite, level-way, direction-left, direction-right}
+use Rattle.law_complex.proofs.links.Prelude.{◌≡◌, ℕ, pos, ◌<ℤ◌, arith, sym, ◌∙◌, ◌⊎◌, inl, inr, ⊎_elim, ◌∷◌, subst, [], ints, ring, at, num, ◌⊗◌, FlatDim, SpacePoint, Form, form_at, normal_of, slope, plane_through, SamePoint, toward, IsBetween, Set, Vector, opposite, dot, triple, IsDirection, SameDirection, plane_axis, plane_dir, carriers, Drop, ahead, same-point_sym, between-turned, even-until, start-close, reach_all, between-same, factor-same, IsAt, Item, arc_item, item_normal, dir_of, OnItem, same-plus, same-minus, normal-is, on-level, is-at_one, dir-at, turn-same, at-arc, level-same, Vertex, Edge, Complex, Corner, HasEnds, IsCorner, Shows, item_plane, IsVertexPoint, IsEdgePoint, PlaneMeet, meets_vertex, meets_edge, LiesIn, IsFirstInPlane, IsCornerAt, RayNames, HasCorner, IsFlatIn, between-way, between-start, between-outer, same-itself, near_point, near-between, way-near, dim-same, plane-ahead, end-meets, IsInFacetOf, beside-vertex, facet-point, ahead-back, ahead-same, through-level, axis-in, LinkAcross, SameDirection-turned, SameDirection-trans, dir-self, dot-opposite, level-way, direction-left, direction-right}
 use Rattle.law_complex.proofs.FacetAngles.{through-at}
 use Rattle.law_complex.proofs.links.Ties.{beside-close, beside-ahead, beside-cell, IsTied, tied-cell, tied-both, tied-ahead, tied-ray}
 use Rattle.law_complex.proofs.links.EdgeEnds.{edge-ways, tied-low, EndsOnSide, close_way, on-close, tied-close_way, AreTiedItems}
@@ -46,7 +46,7 @@ module _ (s : Set) (C : Complex) (S : Shows s C) (h : Form) (y : SpacePoint) (on
 
     by-vertex : (i : ℕ) → IsVertexPoint C i z → IsCornerAt C h (opposite d) (meets_vertex i) k → IsAcross s C n y k
     by-vertex i (u, a, e) (v, x, f, c, r, o) =
-        let same = at-one C.vertices i u v a (subst (λ (j : ℕ). IsAt C.vertices j v) f c.vertex) in
+        let same = is-at_one C.vertices i u v a (subst (λ (j : ℕ). IsAt C.vertices j v) f c.vertex) in
         record {
           vertex = v;
           item = x;
@@ -59,9 +59,9 @@ module _ (s : Set) (C : Complex) (S : Shows s C) (h : Form) (y : SpacePoint) (on
 
     by-edge : (i : ℕ) → IsEdgePoint C i z × LiesIn C h i → IsCornerAt C h (opposite d) (meets_edge i) k → IsAcross s C n y k
     by-edge i ((g, u, w, b, G, t), lies) (e, v, c, a, f, l, o, r, side) =
-        let same = at-one C.edges i g e b a in
+        let same = is-at_one C.edges i g e b a in
         let G' = subst (λ (j : Edge). HasEnds C j u w) same G in
-        let one = at-one C.vertices e.low u v G'.low l in
+        let one = is-at_one C.vertices e.low u v G'.low l in
         along (subst (λ (j : Vertex). HasEnds C e j w) one G') (subst (λ (j : Vertex). IsBetween j.point z w.point) one t)
       where
         corner : IsCorner C k v (arc_item c)

@@ -1,5 +1,5 @@
 -- A ray down ties the points below a vertex to those above the point where it ends, and these to a side there.
-use Rattle.law_complex.proofs.links.Prelude.{◌≡◌, ℕ, ◌+◌, arith, sym, ◌∙◌, ⊎_elim, subst, nought, plus, sign-plus, FlatDim, SpacePoint, normal_of, SamePoint, toward, IsBetween, Set, Vector, opposite, blend, dot, SameDirection, up, Label, carriers, ahead, steep, signs-same, same-point_sym, between-turned, between-inner, IsAt, item_normal, item_pos, item_mark, item_neg, HasSide, Sees, normal-is, at-one, dir-at, Vertex, Edge, Complex, Corner, HasEnds, Shows, item_plane, IsVertexPoint, IsEdgePoint, Spot, at_vertex, on_edge, in_facet, IsSpot, IsSkeletonPoint, VertexSide, HasSideLabel, IsAbove, between-way, near_point, near-between, dim-same, facet-point, ahead-back, facet-of, LinkDown, IsUpright, self-pos, SameDirection-turned, SameDirection-trans, direction-left}
+use Rattle.law_complex.proofs.links.Prelude.{◌≡◌, ℕ, ◌+◌, arith, sym, ◌∙◌, ⊎_elim, subst, nought, plus, sign-plus, FlatDim, SpacePoint, normal_of, SamePoint, toward, IsBetween, Set, Vector, opposite, blend, dot, SameDirection, up, Label, carriers, ahead, steep, signs-same, same-point_sym, between-turned, between-inner, IsAt, item_normal, item_pos, item_mark, item_neg, HasSide, Sees, normal-is, is-at_one, dir-at, Vertex, Edge, Complex, Corner, HasEnds, Shows, item_plane, IsVertexPoint, IsEdgePoint, Spot, at_vertex, on_edge, in_facet, IsSpot, IsSkeletonPoint, VertexSide, HasSideLabel, IsAbove, between-way, near_point, near-between, dim-same, facet-point, ahead-back, facet-of, LinkDown, IsUpright, self-pos, SameDirection-turned, SameDirection-trans, direction-left}
 use Rattle.law_sphere.proofs.Sectors.{bounds-sees}
 use Rattle.law_complex.proofs.Skeletons.{FacetAt, skeleton-or_flat}
 use Rattle.law_complex.proofs.links.Ties.{ahead-way, ahead-cells, IsTied, tied-cell, tied-turned, tied-both, tied-ahead, tied-ray}
@@ -35,11 +35,11 @@ module _ (s : Set) (C : Complex) (S : Shows s C) where
   module _ (upright : IsUpright C) (y : VertexSide) (l : Label) (has : HasSideLabel C y l) (z : SpacePoint) where
     -- the vertex of the side
     here : (v : Vertex) → IsAt C.vertices y.vertex v → HasSide v.map y.side l
-    here v a = subst (λ (u : Vertex). HasSide u.map y.side l) (at-one C.vertices y.vertex has.0 v has.1 a) has.2
+    here v a = subst (λ (u : Vertex). HasSide u.map y.side l) (is-at_one C.vertices y.vertex has.0 v has.1 a) has.2
 
     by-vertex : (k : ℕ) → IsVertexPoint C k z → IsAbove C z (at_vertex k) y → PointTied s C y (ahead s z up)
     by-vertex k (u, a, e) (v, b, f, sight) =
-        let g = subst (λ (r : Vertex). SamePoint r.point z) (at-one C.vertices k u v a b) e in
+        let g = subst (λ (r : Vertex). SamePoint r.point z) (is-at_one C.vertices k u v a b) e in
         let c = subst (λ (i : ℕ). IsAt C.vertices i v) (sym f) b in (
           ahead s v.point up,
           at-side s C S y v l c (here v c) up sight,
@@ -48,9 +48,9 @@ module _ (s : Set) (C : Complex) (S : Shows s C) where
 
     by-edge : (k : ℕ) → IsEdgePoint C k z → IsAbove C z (on_edge k) y → PointTied s C y (ahead s z up)
     by-edge k (g, u, w, b, G, t) (e, v, a, c, f, bounds) =
-        let same = at-one C.edges k g e b a in
+        let same = is-at_one C.edges k g e b a in
         let G' = subst (λ (j : Edge). HasEnds C j u w) same G in
-        let one = at-one C.vertices e.low u v G'.low c in
+        let one = is-at_one C.vertices e.low u v G'.low c in
         let H = subst (λ (j : Vertex). HasEnds C e j w) one G' in
         let W = edge-ways s C S k e v w a H in
         let d = W.low.dir in

@@ -1,5 +1,5 @@
 -- Beside an edge: its points are tied to those close to both of its ends; and the arcs along it.
-use Rattle.law_complex.proofs.links.Prelude.{◌≡◌, ℕ, ◌+◌, ◌≤◌, ℤ, pos, ◌+ℤ◌, ◌*ℤ◌, neg_ℤ, ◌<ℤ◌, arith, ap, sym, ◌∙◌, ◌⊎◌, inl, inr, ⊎_elim, ◌∷◌, subst, [], ints, sign, ring, at, num, ◌⊕◌, ◌⊗◌, FlatDim, SpacePoint, SamePoint, toward, IsBetween, Set, Vector, opposite, blend, dot, cross, triple, IsZero, IsDirection, SameDirection, IsOpposite, carriers, ahead, steep, same-point_sym, between-turned, between-inner, forms, IsAt, MapVertex, Arc, Item, arc_item, item_normal, dir_of, OnItem, Shaped, dot-comb, normal-is, same-plus, same-minus, amount, at-one, dir-at, arc-at, turn-same, at-arc, ends-of, level-same, Vertex, Edge, Complex, Corner, HasEnds, IsCorner, Shows, between-way, near_point, near-between, edge-points, dim-same, ahead-back, AreAlong, self-pos, triple-dot, square-cross, nought-if, SameDirection-trans, dir-self, dot-opposite, opposite-way, direction-left, direction-right, right-turn, back-triple}
+use Rattle.law_complex.proofs.links.Prelude.{◌≡◌, ℕ, ◌+◌, ◌≤◌, ℤ, pos, ◌+ℤ◌, ◌*ℤ◌, neg_ℤ, ◌<ℤ◌, arith, ap, sym, ◌∙◌, ◌⊎◌, inl, inr, ⊎_elim, ◌∷◌, subst, [], ints, sign, ring, at, num, ◌⊕◌, ◌⊗◌, FlatDim, SpacePoint, SamePoint, toward, IsBetween, Set, Vector, opposite, blend, dot, cross, triple, IsZero, IsDirection, SameDirection, IsOpposite, carriers, ahead, steep, same-point_sym, between-turned, between-inner, forms, IsAt, MapVertex, Arc, Item, arc_item, item_normal, dir_of, OnItem, Shaped, dot-comb, normal-is, same-plus, same-minus, amount, is-at_one, dir-at, arc-at, turn-same, at-arc, ends-of, level-same, Vertex, Edge, Complex, Corner, HasEnds, IsCorner, Shows, between-way, near_point, near-between, edge-points, dim-same, ahead-back, AreAlong, self-pos, triple-dot, square-cross, nought-if, SameDirection-trans, dir-self, dot-opposite, opposite-way, direction-left, direction-right, right-turn, back-triple}
 use Rattle.law_complex.proofs.FacetArcs.{source-meets, target-meets}
 use Rattle.law_complex.proofs.links.Ties.{ahead-ahead, IsTied, tied-cell, tied-turned, tied-both, tied-ahead, tied-ray}
 
@@ -17,8 +17,8 @@ module _ (s : Set) (C : Complex) (S : Shows s C) (k : ℕ) (e : Edge) (v w : Ver
   pub edge-ways : EdgeWays e v w
   edge-ways =
       let E = S.edges.edges k e a in
-      let f = at-one C.vertices e.low E.low_vertex v E.is_low H.low in
-      let g = at-one C.vertices e.high E.high_vertex w E.is_high H.high in
+      let f = is-at_one C.vertices e.low E.low_vertex v E.is_low H.low in
+      let g = is-at_one C.vertices e.high E.high_vertex w E.is_high H.high in
       subst (λ (x : Vertex). EdgeWays e v x) g (subst (λ (x : Vertex). EdgeWays e x E.high_vertex) f
       (record { low = E.low_end; high = E.high_end; is_low = E.leaves; is_high = E.arrives; onward = E.ahead; back = E.back }))
 

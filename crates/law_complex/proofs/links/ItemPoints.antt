@@ -1,5 +1,5 @@
 -- Each item has points at it, and all points at one item are joined.
-use Rattle.law_complex.proofs.links.Prelude.{subst, SpacePoint, toward, Set, Vector, SameDirection, ahead, IsAt, Map, Item, items, OnItem, OnItem-by_signs, on-direction, at-one, item-point, Vertex, Complex, Corner, IsCorner, Shows, IsEvenAfter, IsAtItem, ItemsHavePoints, SameDirection-turned, dir-self, dir-signs}
+use Rattle.law_complex.proofs.links.Prelude.{subst, SpacePoint, toward, Set, Vector, SameDirection, ahead, IsAt, Map, Item, items, OnItem, OnItem-by_signs, on-direction, is-at_one, item-point, Vertex, Complex, Corner, IsCorner, Shows, IsEvenAfter, IsAtItem, ItemsHavePoints, SameDirection-turned, dir-self, dir-signs}
 use Rattle.law_complex.proofs.links.Ties.{ahead-toward, IsTied, tied-turned, tied-both, tied-ray, even-after}
 use Rattle.law_complex.proofs.links.NearVertex.{facet-near, item-tied}
 
@@ -28,8 +28,8 @@ module _ (s : Set) (C : Complex) (S : Shows s C) where
   one-item k p q a b =
       let v = a.vertex in
       let x = a.item in
-      let e = at-one C.vertices k.vertex b.vertex v b.corner.vertex a.corner.vertex in
-      let f = at-one (items v.map) k.item b.item x (subst (λ (u : Vertex). IsAt (items u.map) k.item b.item) e b.corner.item) a.corner.item in
+      let e = is-at_one C.vertices k.vertex b.vertex v b.corner.vertex a.corner.vertex in
+      let f = is-at_one (items v.map) k.item b.item x (subst (λ (u : Vertex). IsAt (items u.map) k.item b.item) e b.corner.item) a.corner.item in
       let o = subst (λ (r : Item). OnItem v.map r (toward v.point q)) f (subst (λ (u : Vertex). OnItem u.map b.item (toward u.point q)) e b.on_item) in
       let even = subst (λ (u : Vertex). IsEvenAfter s 2 u.point q) e b.even in
       let c = ahead s v.point (toward v.point p) in

@@ -1,7 +1,7 @@
 -- The names that most proofs cite, passed on from one place. Declares nothing.
 pub use Rattle.law_near.proofs.Prelude.{FlatCone, IsSettled, Joined, Ratio, SameSigns, SameSlopes, Within, by_lt_z, frame, le-mul_of_pos_right, mul-le-mul_left, side}
 pub use Rattle.law_sphere.proofs.Prelude.{HasArc, HasSide, InOneSface, IsClear, IsFree, Reaches, Sees, Side, Some, around_svertex, blend-turned, by_way_of, directly, here, is-at_none, level-blend, link, neg_item, opposite-turned, parallel-trans, plus-is, pos_item, seen, unsigned_abs-mul, whole}
-pub use Rattle.law_complex.proofs.Prelude.{Arc, Beside, Complex, Cone, Corner, Drop, Edge, Flat, FlatCone-from_flat, FlatDim, FlatDim-by_germs, Form, Germ, Germ-unique, Germ-zero, HasCorner, HasEnds, HasLabel, InClosedFrame, IsAt, IsBetween, IsCorner, IsCornerAt, IsDirection, IsEdgePoint, IsEven, IsFirstInPlane, IsFlatIn, IsOnCircle, IsOpposite, IsSkeletonPoint, IsSpot, IsStrictlyOn, IsVertexPoint, IsZero, Item, Keeps, Label, Lies, LiesIn, List, Map, MapVertex, NearGerm, OnItem, OnItem-by_signs, Out, PlaneMeet, RayNames, SameDirection, SameDirection-trans, SameDirection-turned, SameGerms, SamePoint, SameUpToFactor, Set, Shaped, Shows, Sign, SpacePoint, Spot, Vector, Vertex, [], amount, ap, arc-at, arc_item, arith, at, at-arc, at-one, at_vertex, beside, between-inner, between-same, between-turned, blend, by_side, carriers, circle-point, cross, cross-turned, dir-at, dir-self, dir-signs, dir_of, direction-left, direction-right, dot, dot-comb, dot-comm, dot-opposite, dot-zero, ends-of, even-until, factor-same, false, far-keeps, far-level, flat-germ, flat_dim-of, follows, form-sum, form_at, forms, germ_of, germs-by_cell, given, half_side, in_facet, inl, inr, ints, item_mark, item_neg, item_normal, item_plane, item_pos, items, label-exists, level-same, level-way, level_cross_second, meets_edge, meets_vertex, minus, mixed-of, mul-pos, mul_pos, nat_abs, near-free, near-item, neg, neg_ℤ, negsuc, none, normal-is, normal_of, nought, nought-if, nought-is, num, of_direction, of_point, on-direction, on-level, on_edge, opposite, opposite-same, other_way, plane_axis, plane_through, plus, pos, ray-cell, reach_all, refl, ring, same-minus, same-nought, same-plus, same-point_sym, same_way, self-pos, sign, sign-minus, sign-plus, sign-scaled, sign_at, signs-same, slide, sloop_item, slope, slope-same, slope-slide, span-3, square-cross, start-close, subst, sym, toward, toward-point, triple, triple-dot, turn-same, up, vector, vector-same, zero-decided, zero_vector, ℕ, ℤ, ⊎_elim, ◌*ℤ◌, ◌*◌, ◌+ℤ◌, ◌+◌, ◌-ℤ◌, ◌<ℤ◌, ◌<◌, ◌∙◌, ◌∷◌, ◌≡◌, ◌≤ℤ◌, ◌≤◌, ◌⊎◌, ◌⊕◌, ◌⊖◌, ◌⊗◌}
+pub use Rattle.law_complex.proofs.Prelude.{Arc, Beside, Complex, Cone, Corner, Drop, Edge, Flat, FlatCone-from_flat, FlatDim, FlatDim-by_germs, Form, Germ, Germ-unique, Germ-zero, HasCorner, HasEnds, HasLabel, InClosedFrame, IsAt, IsBetween, IsCorner, IsCornerAt, IsDirection, IsEdgePoint, IsEven, IsFirstInPlane, IsFlatIn, IsOnCircle, IsOpposite, IsSkeletonPoint, IsSpot, IsStrictlyOn, IsVertexPoint, IsZero, Item, Keeps, Label, Lies, LiesIn, List, Map, MapVertex, NearGerm, OnItem, OnItem-by_signs, Out, PlaneMeet, RayNames, SameDirection, SameDirection-trans, SameDirection-turned, SameGerms, SamePoint, SameUpToFactor, Set, Shaped, Shows, Sign, SpacePoint, Spot, Vector, Vertex, [], amount, ap, arc-at, arc_item, arith, at, at-arc, is-at_one, at_vertex, beside, between-inner, between-same, between-turned, blend, by_side, carriers, circle-point, cross, cross-turned, dir-at, dir-self, dir-signs, dir_of, direction-left, direction-right, dot, dot-comb, dot-comm, dot-opposite, dot-zero, ends-of, even-until, factor-same, false, far-keeps, far-level, flat-germ, flat_dim-of, follows, form-sum, form_at, forms, germ_of, germs-by_cell, given, half_side, in_facet, inl, inr, ints, item_mark, item_neg, item_normal, item_plane, item_pos, items, label-exists, level-same, level-way, level_cross_second, meets_edge, meets_vertex, minus, mixed-of, mul-pos, mul_pos, nat_abs, near-free, near-item, neg, neg_ℤ, negsuc, none, normal-is, normal_of, nought, nought-if, nought-is, num, of_direction, of_point, on-direction, on-level, on_edge, opposite, opposite-same, other_way, plane_axis, plane_through, plus, pos, ray-cell, reach_all, refl, ring, same-minus, same-nought, same-plus, same-point_sym, same_way, self-pos, sign, sign-minus, sign-plus, sign-scaled, sign_at, signs-same, slide, sloop_item, slope, slope-same, slope-slide, span-3, square-cross, start-close, subst, sym, toward, toward-point, triple, triple-dot, turn-same, up, vector, vector-same, zero-decided, zero_vector, ℕ, ℤ, ⊎_elim, ◌*ℤ◌, ◌*◌, ◌+ℤ◌, ◌+◌, ◌-ℤ◌, ◌<ℤ◌, ◌<◌, ◌∙◌, ◌∷◌, ◌≡◌, ◌≤ℤ◌, ◌≤◌, ◌⊎◌, ◌⊕◌, ◌⊖◌, ◌⊗◌}
 pub use Rattle.nef_space.proofs.Vectors.{back-triple, cross-blend, opposite-way, right-turn}
 pub use Rattle.nef_space.specs.Vectors.{plane_dir}
 pub use Rattle.law_near.proofs.Cells.{Cells, is_nought, keeps-all, reach-some, same-sym}

@@ -1,5 +1,5 @@
 -- Links of sides in one sface, along an edge and across a facet join points at both.
-use Rattle.law_complex.proofs.links.Prelude.{◌≡◌, ℕ, ◌+◌, pos, ◌<ℤ◌, arith, refl, sym, ◌∙◌, ⊎_elim, subst, Some, ints, SpacePoint, toward, Set, Vector, opposite, blend, dot, cross, IsDirection, SameDirection, Label, carriers, ahead, steep, forms, IsAt, MapVertex, Item, item_normal, item_pos, item_neg, OnItem, Side, around_svertex, pos_item, neg_item, HasSide, Sees, Shaped, amount, normal-is, at-one, cross-direction_right, sees-around, Vertex, Edge, Complex, Corner, HasEnds, IsCorner, Shows, VertexSide, IsSideOf, LinkInSface, AreSidesAlong, pos_arcs, neg_arcs, around_ends, LinkAlongEdge, LinkAcrossFacet, VolumeLink, IsAtSide, dot-comm, self-pos, nought-if, opposite-same, dot-opposite, direction-right}
+use Rattle.law_complex.proofs.links.Prelude.{◌≡◌, ℕ, ◌+◌, pos, ◌<ℤ◌, arith, refl, sym, ◌∙◌, ⊎_elim, subst, Some, ints, SpacePoint, toward, Set, Vector, opposite, blend, dot, cross, IsDirection, SameDirection, Label, carriers, ahead, steep, forms, IsAt, MapVertex, Item, item_normal, item_pos, item_neg, OnItem, Side, around_svertex, pos_item, neg_item, HasSide, Sees, Shaped, amount, normal-is, is-at_one, cross-direction_right, sees-around, Vertex, Edge, Complex, Corner, HasEnds, IsCorner, Shows, VertexSide, IsSideOf, LinkInSface, AreSidesAlong, pos_arcs, neg_arcs, around_ends, LinkAlongEdge, LinkAcrossFacet, VolumeLink, IsAtSide, dot-comm, self-pos, nought-if, opposite-same, dot-opposite, direction-right}
 use Rattle.law_complex.proofs.links.Ties.{ahead-way, IsTied, tied-cell, tied-turned, tied-both, tied-ahead}
 use Rattle.law_complex.proofs.links.EdgeEnds.{edge-ways, ends-tied, tied-turn, AreTiedItems, along-tied}
 use Rattle.law_complex.proofs.links.Across.{across-tied}
@@ -103,7 +103,7 @@ module _ (s : Set) (C : Complex) (S : Shows s C) where
       let V = (S.cones y.vertex v a).valid.shaped in
       let K = amount (forms v.map) f + steep (carriers s) f in
       let own : HasSide v.map (around_svertex j) l = subst (λ (r : Side). HasSide v.map r l) e h in
-      let same = at-one v.map.svertices j own.0 u own.1 b in
+      let same = is-at_one v.map.svertices j own.0 u own.1 b in
       let lone = lone-of v.map V j u l b (subst (λ (r : MapVertex). r.around ≡ Some l) same own.2) in
       let sight = sees-around v.map V j u b lone f K (omega arith) apart in (
         ahead s v.point (blend K u.dir 1 f),

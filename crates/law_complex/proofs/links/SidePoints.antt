@@ -1,5 +1,5 @@
 -- Each side has points at it, and all points at one side are joined.
-use Rattle.law_complex.proofs.links.Prelude.{◌≡◌, ℕ, ◌+◌, ◌*◌, ◌<◌, ℤ, pos, ◌+ℤ◌, ◌*ℤ◌, ◌<ℤ◌, arith, sym, ◌∙◌, ⊎_elim, ◌∷◌, subst, Some, [], ints, mul-pos, minus, nought, plus, sign, ring, at, num, ◌⊕◌, ◌⊗◌, sign-plus, sign-minus, FlatDim, SpacePoint, toward, Set, Vector, opposite, blend, dot, cross, IsDirection, SameDirection, IsOpposite, Label, carriers, ahead, same-sym, steep, forms, Cone, IsAt, MapVertex, Map, Item, items, item_normal, item_pos, item_mark, item_neg, OnItem, IsFree, Side, around_svertex, pos_item, neg_item, whole, HasSide, IsClear, Reaches, Sees, directly, by_way_of, InOneSface, here, link, HasArc, Shaped, amount, at-one, normal-is, same-minus, IsOpposite-decided, Beside, same_way, other_way, beside, cross-direction_right, free-close, Vertex, Complex, IsCorner, Shows, VertexSide, IsEvenAfter, IsAtSide, SidesHavePoints, dot-comm, self-pos, vector-same, cross-turned, square-cross, nought-if, SameDirection-turned, dir-self, dir-signs, parallel-trans, dot-opposite, level-way, opposite-way, blend-turned, cross-blend, level_cross_second}
+use Rattle.law_complex.proofs.links.Prelude.{◌≡◌, ℕ, ◌+◌, ◌*◌, ◌<◌, ℤ, pos, ◌+ℤ◌, ◌*ℤ◌, ◌<ℤ◌, arith, sym, ◌∙◌, ⊎_elim, ◌∷◌, subst, Some, [], ints, mul-pos, minus, nought, plus, sign, ring, at, num, ◌⊕◌, ◌⊗◌, sign-plus, sign-minus, FlatDim, SpacePoint, toward, Set, Vector, opposite, blend, dot, cross, IsDirection, SameDirection, IsOpposite, Label, carriers, ahead, same-sym, steep, forms, Cone, IsAt, MapVertex, Map, Item, items, item_normal, item_pos, item_mark, item_neg, OnItem, IsFree, Side, around_svertex, pos_item, neg_item, whole, HasSide, IsClear, Reaches, Sees, directly, by_way_of, InOneSface, here, link, HasArc, Shaped, amount, is-at_one, normal-is, same-minus, IsOpposite-decided, Beside, same_way, other_way, beside, cross-direction_right, free-close, Vertex, Complex, IsCorner, Shows, VertexSide, IsEvenAfter, IsAtSide, SidesHavePoints, dot-comm, self-pos, vector-same, cross-turned, square-cross, nought-if, SameDirection-turned, dir-self, dir-signs, parallel-trans, dot-opposite, level-way, opposite-way, blend-turned, cross-blend, level_cross_second}
 use Rattle.law_complex.proofs.links.Ties.{ahead-toward, ahead-way, ahead-cells, ahead-ahead, dim-cell, even-fan, IsTied, tied-even, tied-cell, tied-turned, tied-both, tied-itself, tied-ahead, tied-ray, even-after}
 use Rattle.law_complex.proofs.links.NearVertex.{free-dim, tied-off, facet-near, item-tied}
 use Rattle.law_complex.proofs.links.EdgeEnds.{tied-turn, corner_of_numbers}
@@ -163,16 +163,16 @@ module _ (s : Set) (C : Complex) (S : Shows s C) (i : ℕ) (v : Vertex) (listed 
 
   arrivals : (o : Side) (l : Label) → HasSide v.map o l → (d y e t : Vector) → IsClear v.map d y → Reaches v.map o d y → IsClear v.map e t → Reaches v.map o e t → IsTied s (ahead s v.point d) (ahead s v.point e)
   arrivals (around_svertex k) l (u, a, f) d y e t c (w, b, m) g (r, h, n) =
-      let one = λ (q : MapVertex) (j : IsAt v.map.svertices k q). at-one v.map.svertices k q u j a in
+      let one = λ (q : MapVertex) (j : IsAt v.map.svertices k q). is-at_one v.map.svertices k q u j a in
       lone-tied v.map s v.point K k u a (lone-of v.map K.valid.shaped k u l a f) d e y t c (subst (λ (q : MapVertex). SameDirection q.dir y) (one w b) m) g (subst (λ (q : MapVertex). SameDirection q.dir t) (one r h) n)
   arrivals (pos_item k) l has d y e t c (x, a, o, h) g (z, b, q, m) =
-      let same = at-one (items v.map) k z x b a in
+      let same = is-at_one (items v.map) k z x b a in
       let n = item_normal x in
       let up = sign-plus (dot n n) (self-pos n (normal-is K.valid.shaped k x a)) in
       item-arrivals k x a d y e t n c o g (subst (λ (r : Item). OnItem v.map r t) same q) (λ w. let j : plus ≡ nought = sym up ∙ w in cc) (sign-plus (dot n d) h ∙ sym up)
       (sign-plus (dot n e) (subst (λ (r : Item). pos 0 <ℤ dot (item_normal r) e) same m) ∙ sym up)
   arrivals (neg_item k) l has d y e t c (x, a, o, h) g (z, b, q, m) =
-      let same = at-one (items v.map) k z x b a in
+      let same = is-at_one (items v.map) k z x b a in
       let n = item_normal x in
       let up = self-pos n (normal-is K.valid.shaped k x a) in
       let r = dot-opposite n n in
@@ -204,7 +204,7 @@ module _ (s : Set) (C : Complex) (S : Shows s C) where
   pub one-side : (x : VertexSide) (p q : SpacePoint) → IsAtSide s C x p → IsAtSide s C x q → IsTied s p q
   one-side x p q a b =
       let v = a.vertex in
-      let e = at-one C.vertices x.vertex b.vertex v b.is_vertex a.is_vertex in
+      let e = is-at_one C.vertices x.vertex b.vertex v b.is_vertex a.is_vertex in
       let o = subst (λ (u : Vertex). Sees u.map x.side (toward u.point q)) e b.sees in
       let even = subst (λ (u : Vertex). IsEvenAfter s 3 u.point q) e b.even in
       let c = ahead s v.point (toward v.point p) in

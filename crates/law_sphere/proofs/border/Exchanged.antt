@@ -1,5 +1,5 @@
 -- A map with In and Not exchanged everywhere: its parts are those of the map.
-use Rattle.law_sphere.proofs.border.Prelude.{◌≡◌, ℕ, zero, suc, refl, ap, sym, ◌⊎◌, List, ◌∷◌, subst, map, Option, Some, None, [], option_map, Vector, IsDirection, SameDirection, IsNormal, Label, IsPrimitive, VectorBelow, IsStrictlyOn, IsAt, MapVertex, Arc, MapSloop, Map, Item, arc_item, sloop_item, items, items_then, item_normal, item_pos, item_mark, item_neg, dir_of, OnItem, IsFree, HasArc, ArcBetween, Shaped, ArcBelow, Ordered, exchanged, exchanged_svertex, exchanged_arc, exchanged_sloop, exchanged_map, at-map, map-at, map-empty, is-at_none, is-at_first}
+use Rattle.law_sphere.proofs.border.Prelude.{◌≡◌, ℕ, zero, suc, refl, ap, sym, ◌⊎◌, List, ◌∷◌, subst, map, Option, Some, None, [], option_map, Vector, IsDirection, SameDirection, IsNormal, Label, IsPrimitive, VectorBelow, IsStrictlyOn, IsAt, MapVertex, Arc, MapSloop, Map, Item, arc_item, sloop_item, items, items_then, item_normal, item_pos, item_mark, item_neg, dir_of, OnItem, IsFree, HasArc, ArcBetween, Shaped, ArcBelow, Ordered, exchanged, exchanged_svertex, exchanged_arc, exchanged_sloop, exchanged_map, is-at_map, map-is_at, map-empty, is-at_none, is-at_first}
 use Rattle.law_sphere.proofs.border.Listed.{option-was, none-was}
 
 pub twice : (l : Label) → exchanged (exchanged l) ≡ l
@@ -40,10 +40,10 @@ module _ (M : Map) where
   N = exchanged_map M
 
   pub svertex-was : (k : ℕ) (u : MapVertex) → IsAt N.svertices k u → (v : MapVertex) × IsAt M.svertices k v × (exchanged_svertex v ≡ u)
-  svertex-was k u a = at-map exchanged_svertex M.svertices k u a
+  svertex-was k u a = is-at_map exchanged_svertex M.svertices k u a
 
   pub arc-was : (k : ℕ) (b : Arc) → IsAt N.arcs k b → (a : Arc) × IsAt M.arcs k a × (exchanged_arc a ≡ b)
-  arc-was k b h = at-map exchanged_arc M.arcs k b h
+  arc-was k b h = is-at_map exchanged_arc M.arcs k b h
 
   pub item-was : (i : ℕ) (y : Item) → IsAt (items N) i y → (x : Item) × IsAt (items M) i x × (exchanged_item x ≡ y)
   item-was i y a = items-was M.arcs M.sloop i y a
@@ -70,7 +70,7 @@ module _ (M : Map) where
   pub free-was : (d : Vector) → IsFree N d → IsFree M d
   free-was d F = record {
     direction = F.direction;
-    off_svertices = λ k v a w. F.off_svertices k (exchanged_svertex v) (map-at exchanged_svertex M.svertices k v a) w;
+    off_svertices = λ k v a w. F.off_svertices k (exchanged_svertex v) (map-is_at exchanged_svertex M.svertices k v a) w;
     off_items = λ i x a o. F.off_items i (exchanged_item x) (item-is i x a) (on-is x d o);
   }
 
@@ -78,7 +78,7 @@ module _ (M : Map) where
   has-arc_was k (i, b, h, e) = let a = arc-was i b h in (i, a.0, a.1, subst (λ (r : Arc). (r.source ≡ k) ⊎ (r.target ≡ k)) (sym a.2) e)
 
   has-arc_is : (k : ℕ) → HasArc M k → HasArc N k
-  has-arc_is k (i, a, h, e) = (i, exchanged_arc a, map-at exchanged_arc M.arcs i a h, e)
+  has-arc_is k (i, a, h, e) = (i, exchanged_arc a, map-is_at exchanged_arc M.arcs i a h, e)
 
   module _ (V : Shaped M) where
     svertex-of : (P : MapVertex → Type 0) (k : ℕ) (u : MapVertex) → IsAt N.svertices k u → ((v : MapVertex) → IsAt M.svertices k v → P (exchanged_svertex v)) → P u
@@ -91,8 +91,8 @@ module _ (M : Map) where
     between k a h = let b = V.arcs_between k a h in record {
       source = exchanged_svertex b.source;
       target = exchanged_svertex b.target;
-      has_source = map-at exchanged_svertex M.svertices a.source b.source b.has_source;
-      has_target = map-at exchanged_svertex M.svertices a.target b.target b.has_target;
+      has_source = map-is_at exchanged_svertex M.svertices a.source b.source b.has_source;
+      has_target = map-is_at exchanged_svertex M.svertices a.target b.target b.has_target;
       level_source = b.level_source;
       level_target = b.level_target;
     }

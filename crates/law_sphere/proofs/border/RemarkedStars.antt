@@ -1,5 +1,5 @@
 -- A star with the marks that it gets shows the labels that directions get.
-use Rattle.law_sphere.proofs.border.Prelude.{◌≡◌, ℕ, zero, suc, ◌+◌, ◌≤◌, arith, refl, ap, sym, ◌∙◌, inl, inr, ◌∷◌, subst, [], Vector, IsDirection, cross, blend, Label, IsPrimitive, IsAt, Map, Valid, forms, Ray, Star, OnRay, PastRay, NextRay, StarLabel, on_ray, in_sector, in_only_sector, LeavesAxis, StarShows, Near, amount, at-one, axes-forms, far_directed-by, Of, RayBelow, IsWellFormed, ShowsLabels, Topology, TopologyLabel, label_from, face_label, marked, IsRemarked, at-other, none-left}
+use Rattle.law_sphere.proofs.border.Prelude.{◌≡◌, ℕ, zero, suc, ◌+◌, ◌≤◌, arith, refl, ap, sym, ◌∙◌, inl, inr, ◌∷◌, subst, [], Vector, IsDirection, cross, blend, Label, IsPrimitive, IsAt, Map, Valid, forms, Ray, Star, OnRay, PastRay, NextRay, StarLabel, on_ray, in_sector, in_only_sector, LeavesAxis, StarShows, Near, amount, is-at_one, axes-forms, far_directed-by, Of, RayBelow, IsWellFormed, ShowsLabels, Topology, TopologyLabel, label_from, face_label, marked, IsRemarked, at-other, none-left}
 use Rattle.law_sphere.proofs.border.Listed.{count-same, sector-one}
 use Rattle.law_sphere.proofs.border.PlaceLabels.{topology-one}
 use Rattle.law_sphere.proofs.border.StarMade.{Sides, sides-of, ray-made, sector-made, only-made, axis-made}
@@ -45,7 +45,7 @@ module _ (K : Topology) (M : Map) (V : Valid M) (L : Vector → Label) (top : (d
           ray = x.0;
           has_ray = x.1;
           sides = D;
-          same = at-one u.rays j r (marked x.0 (label_from K x.0.mark (D.before ∷ D.after ∷ []))) a (R.rays D.last_number j x.0 D.before D.after x.1 D.follows D.has_before D.has_after);
+          same = is-at_one u.rays j r (marked x.0 (label_from K x.0.mark (D.before ∷ D.after ∷ []))) a (R.rays D.last_number j x.0 D.before D.after x.1 D.follows D.has_before D.has_after);
         }
 
     -- and what a ray of t is now
@@ -73,12 +73,12 @@ module _ (K : Topology) (M : Map) (V : Valid M) (L : Vector → Label) (top : (d
         let x = next-was j r n in
         let D = w.sides in
         let p : PastRay t w.ray x.0 e = subst (λ (z : Ray). PastRay v w.ray z e) x.2.1 (subst (λ (z : Ray). PastRay v z r e) w.same o) in
-        subst (Near (Of L) d e) (at-one u.sectors j (face_label K D.after) l (R.sectors j D.after D.has_after) s)
+        subst (Near (Of L) d e) (is-at_one u.sectors j (face_label K D.after) l (R.sectors j D.after D.has_after) s)
         (near-by d e (face_label K D.after) W.axis (λ i h. sector-made t M V W S K j w.ray x.0 D.after e w.has_ray x.1 p D.has_after f i h))
     star-labels e l f (in_only_sector z s) =
         let y = none-left u.rays t.rays R.as_many_rays z in
         let b = sector-one t.rays t.sectors y W.as_many in
-        subst (Near (Of L) d e) (at-one u.sectors zero (face_label K b.0) l (R.sectors zero b.0 b.1) s)
+        subst (Near (Of L) d e) (is-at_one u.sectors zero (face_label K b.0) l (R.sectors zero b.0 b.1) s)
         (near-by d e (face_label K b.0) W.axis (λ i h. only-made t M V W S K b.0 e y b.1 f i h))
 
     -- ---- the star

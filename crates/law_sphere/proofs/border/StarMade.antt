@@ -1,5 +1,5 @@
 -- The labels that directions close to the axis of a star get: on the axis by all rays and sectors, on a ray by the two sectors beside it, in a sector by the sector alone.
-use Rattle.law_sphere.proofs.border.Prelude.{◌≡◌, ℕ, zero, suc, ◌+◌, ◌≤◌, ℤ, pos, ◌<ℤ◌, arith, refl, ap, sym, ◌∙◌, ◌⊎◌, inl, inr, ⊎_elim, List, ◌∷◌, subst, length, map, [], ints, Lies, lies-left, lies-right, lies-append, Sign, minus, nought, plus, sign, sign-plus, sign-minus, sign-scaled, nought-or, Vector, IsDirection, triple, cross, dot, IsZero, blend, opposite, Label, IsAt, Map, NearLabel, Valid, SameSigns, axes, forms, arc_forms, by_side, Ray, Star, ray_dir, across, OnRay, PastRay, NextRay, StarLabel, on_ray, in_sector, in_only_sector, StarShows, Follows, axes-forms, across-side, across-same, next-ray, previous, ray-level, amount, far-keeps, far-level, IsStrictlyOn-stays, past_source, arc-point, circle-point, label-by_signs, near-from_far, far-from_near, IsStrictlyOn-same, far_directed-by, sector_count, IsWellFormed, at-other, at-map, map-at, Topology, TopologyLabel, label_from, face_label, ray_mark, star_labels, zero-decided, self-pos, triple-dot, dir-self, dir-signs, in-span, dot-opposite, cross-blend, lies-at, at-lies, is-at_none}
+use Rattle.law_sphere.proofs.border.Prelude.{◌≡◌, ℕ, zero, suc, ◌+◌, ◌≤◌, ℤ, pos, ◌<ℤ◌, arith, refl, ap, sym, ◌∙◌, ◌⊎◌, inl, inr, ⊎_elim, List, ◌∷◌, subst, length, map, [], ints, Lies, lies-left, lies-right, lies-append, Sign, minus, nought, plus, sign, sign-plus, sign-minus, sign-scaled, nought-or, Vector, IsDirection, triple, cross, dot, IsZero, blend, opposite, Label, IsAt, Map, NearLabel, Valid, SameSigns, axes, forms, arc_forms, by_side, Ray, Star, ray_dir, across, OnRay, PastRay, NextRay, StarLabel, on_ray, in_sector, in_only_sector, StarShows, Follows, axes-forms, across-side, across-same, next-ray, previous, ray-level, amount, far-keeps, far-level, IsStrictlyOn-stays, past_source, arc-point, circle-point, label-by_signs, near-from_far, far-from_near, IsStrictlyOn-same, far_directed-by, sector_count, IsWellFormed, at-other, is-at_map, map-is_at, Topology, TopologyLabel, label_from, face_label, ray_mark, star_labels, zero-decided, self-pos, triple-dot, dir-self, dir-signs, in-span, dot-opposite, cross-blend, lies-at, at-lies, is-at_none}
 use Rattle.law_sphere.proofs.building.BuiltAround.{sector-there}
 use Rattle.law_sphere.proofs.building.RayStraight.{off-axis}
 use Rattle.law_sphere.proofs.building.RayClose.{across-level, ray-close}
@@ -117,7 +117,7 @@ module _ (t : Star) (M : Map) (V : Valid M) (W : IsWellFormed t) (S : StarShows 
           (λ f. far-keeps (forms M) d e k l g i f) (nought-or (dot g d))
 
   label-listed : (e : Vector) (l : Label) → StarLabel t e l → Lies (star_labels t) l
-  label-listed e l (on_ray k r a o q) = lies-left (map ray_mark t.rays) t.sectors l (subst (Lies (map ray_mark t.rays)) q (at-lies (map ray_mark t.rays) k r.mark (map-at ray_mark t.rays k r a)))
+  label-listed e l (on_ray k r a o q) = lies-left (map ray_mark t.rays) t.sectors l (subst (Lies (map ray_mark t.rays)) q (at-lies (map ray_mark t.rays) k r.mark (map-is_at ray_mark t.rays k r a)))
   label-listed e l (in_sector k q r a n o s) = lies-right (map ray_mark t.rays) t.sectors l (at-lies t.sectors k l s)
   label-listed e l (in_only_sector z s) = lies-right (map ray_mark t.rays) t.sectors l (at-lies t.sectors zero l s)
 
@@ -164,6 +164,6 @@ module _ (t : Star) (M : Map) (V : Valid M) (W : IsWellFormed t) (S : StarShows 
 
       found : (l : Label) → Lies (star_labels t) l → (e : Vector) × NearLabel M d e l
       found l x = ⊎_elim
-          (λ y. let k = lies-at (map ray_mark t.rays) l y in let r = at-map ray_mark t.rays k.0 l k.1 in (ray_dir t r.0, subst (NearLabel M d (ray_dir t r.0)) r.2 (ray-found k.0 r.0 r.1)))
+          (λ y. let k = lies-at (map ray_mark t.rays) l y in let r = is-at_map ray_mark t.rays k.0 l k.1 in (ray_dir t r.0, subst (NearLabel M d (ray_dir t r.0)) r.2 (ray-found k.0 r.0 r.1)))
           (λ y. let k = lies-at t.sectors l y in sectors-found k.0 l k.1)
           (lies-append (map ray_mark t.rays) t.sectors l x)

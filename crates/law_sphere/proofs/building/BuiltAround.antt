@@ -1,13 +1,14 @@
 -- A ray that goes back is the end of an arc; so a svertex without arcs has no ray, and one label round it.
-use Rattle.law_sphere.proofs.building.Prelude.{◌≡◌, ℕ, zero, ◌+◌, pos, arith, refl, ap, sym, ◌∙◌, inl, inr, ⊎_elim, List, ◌∷◌, map, length, subst, Some, None, Bool, true, false, cond, [], ints, Vector, IsDirection, cross, dot, IsZero, SameDirection, IsNormal, opposite, Label, IsStrictlyOn, IsAt, MapVertex, Arc, Map, HasArc, Near, StraightAt, IsSmooth, StraightAfter, Proper, Ray, Star, ray_dir, in_only_sector, normal-direction, amount, at-one, past_source, arc-point, IsStrictlyOn-same, ends-together, level-same, reversed, flipped, unflipped, directed-by, far_directed-by, previous, RawMap, Of, sector_count, ShowsLabels, around_of, IsArcFrom, nought-if, SameDirection-turned, dir-self, direction-opposite, level-opposite, opposite-dot, opposite-twice, is-at_none}
+use Rattle.law_sphere.proofs.building.Prelude.{◌≡◌, ℕ, zero, ◌+◌, pos, arith, refl, ap, sym, ◌∙◌, inl, inr, ⊎_elim, List, ◌∷◌, map, length, subst, Some, None, Bool, true, false, cond, [], ints, Vector, IsDirection, cross, dot, IsZero, SameDirection, IsNormal, opposite, Label, IsStrictlyOn, IsAt, MapVertex, Arc, Map, HasArc, Near, StraightAt, IsSmooth, StraightAfter, Proper, Ray, Star, ray_dir, in_only_sector, normal-direction, amount, is-at_one, past_source, arc-point, IsStrictlyOn-same, ends-together, level-same, reversed, flipped, unflipped, directed-by, far_directed-by, previous, RawMap, Of, sector_count, ShowsLabels, around_of, IsArcFrom, nought-if, SameDirection-turned, dir-self, direction-opposite, level-opposite, opposite-dot, opposite-twice, is-at_none}
 use Rattle.law_sphere.proofs.ArcLabels.{arc-along}
 use Rattle.law_sphere.proofs.Firsts.{First, first-after}
 use Rattle.law_sphere.proofs.building.BuiltLabels.{with_axes, labelling, axial}
 use Rattle.law_sphere.proofs.building.KeptStars.{at-other}
 use Rattle.law_sphere.proofs.building.RayStraight.{ray-after, ray-there}
 use Rattle.law_sphere.proofs.building.StarSmooth.{cross-away}
-use Rattle.law_sphere.proofs.building.BuiltAxes.{IsMadeOfStars, at-map, map-at, kept-shows, kept-simple, kept-axis, kept-apart, svertex-star, smooth-off}
+use Rattle.law_sphere.proofs.building.BuiltAxes.{IsMadeOfStars, kept-shows, kept-simple, kept-axis, kept-apart, svertex-star, smooth-off}
 use Rattle.law_sphere.proofs.building.BuiltArcs.{arc-from, arc-direction, arc-level, arc-proper, arc-after, kept-arc}
+use Rattle.nef_space.proofs.Lists.{is-at_map, map-is_at}
 
 abbrev axis_of : Star → Vector
 axis_of t = t.axis
@@ -103,7 +104,7 @@ module _ (gs : List Vector) (L : Vector → Label) (R : RawMap) (M : Map) (C : I
               lf = level-same c.normal n A.target.first.axis A.target.first.axis (SameDirection-turned n c.normal w) (dir-self A.target.first.axis hf) A.target.level
 
               star-is : SameDirection v.axis A.star.axis
-              star-is = subst (λ (r : Star). SameDirection v.axis r.axis) (at-one kept j v A.star g (subst (λ (q : ℕ). IsAt kept q A.star) src A.has_star)) (dir-self v.axis hv)
+              star-is = subst (λ (r : Star). SameDirection v.axis r.axis) (is-at_one kept j v A.star g (subst (λ (q : ℕ). IsAt kept q A.star) src A.has_star)) (dir-self v.axis hv)
 
     -- an arc ends at t
     pub back-arc : (i : ℕ) × (c : Arc) × IsAt M.arcs i c × (c.target ≡ k)
@@ -113,11 +114,11 @@ module _ (gs : List Vector) (L : Vector → Label) (R : RawMap) (M : Map) (C : I
         back-level u z = let e = opposite-dot n u in omega (arith, ints)
 
         by : First (opposite n) s (map axis_of kept) → (i : ℕ) × (c : Arc) × IsAt M.arcs i c × (c.target ≡ k)
-        by f = ⊎_elim (λ e. at-star k t h (sym e)) (λ x. let y = at-map axis_of kept x.0 f.target x.1 in at-star x.0 y.0 y.1 (sym y.2)) f.listed
+        by f = ⊎_elim (λ e. at-star k t h (sym e)) (λ x. let y = is-at_map axis_of kept x.0 f.target x.1 in at-star x.0 y.0 y.1 (sym y.2)) f.listed
           where
             at-star : (j : ℕ) (v : Star) → IsAt kept j v → f.target ≡ v.axis → (i : ℕ) × (c : Arc) × IsAt M.arcs i c × (c.target ≡ k)
             at-star j v g e = back-to j v g (subst (λ (r : Vector). dot n r ≡ pos 0) e (back-level f.target f.level))
-                (λ i u q o. f.none_before i u.axis (map-at axis_of kept i u q) (subst (λ (r : Vector). IsStrictlyOn (opposite n) s r u.axis) (sym e) o))
+                (λ i u q o. f.none_before i u.axis (map-is_at axis_of kept i u q) (subst (λ (r : Vector). IsStrictlyOn (opposite n) s r u.axis) (sym e) o))
 
   -- ---- arcs and rays
   -- each ray of a kept star is on an arc from it or to it
@@ -151,10 +152,10 @@ module _ (gs : List Vector) (L : Vector → Label) (R : RawMap) (M : Map) (C : I
       A = arc-from gs L R M C i c ic
 
       from-source : c.source ≡ k → (j : ℕ) × (r : Ray) × IsAt t.rays j r
-      from-source q = subst (λ (u : Star). (j : ℕ) × (r : Ray) × IsAt u.rays j r) (at-one kept k A.star t (subst (λ (l : ℕ). IsAt kept l A.star) q A.has_star) h) (A.number, A.ray, A.has_ray)
+      from-source q = subst (λ (u : Star). (j : ℕ) × (r : Ray) × IsAt u.rays j r) (is-at_one kept k A.star t (subst (λ (l : ℕ). IsAt kept l A.star) q A.has_star) h) (A.number, A.ray, A.has_ray)
 
       from-target : c.target ≡ k → (j : ℕ) × (r : Ray) × IsAt t.rays j r
-      from-target q = subst (λ (u : Star). (j : ℕ) × (r : Ray) × IsAt u.rays j r) (at-one kept k A.target.first t (subst (λ (l : ℕ). IsAt kept l A.target.first) q A.target.listed) h) (let x = end in (x.0, x.1, x.2))
+      from-target q = subst (λ (u : Star). (j : ℕ) × (r : Ray) × IsAt u.rays j r) (is-at_one kept k A.target.first t (subst (λ (l : ℕ). IsAt kept l A.target.first) q A.target.listed) h) (let x = end in (x.0, x.1, x.2))
         where
           n : Vector
           n = c.normal

@@ -2,6 +2,7 @@
 use Rattle.law_sphere.proofs.building.Prelude.{◌≡◌, ℕ, zero, suc, ◌<◌, pos, arith, refl, ap, sym, ◌⊎◌, inl, inr, List, ◌∷◌, map, subst, [], ints, by_order, Vector, IsDirection, SameDirection, Label, VectorBelow, IsAt, MapVertex, Map, dir_of, IsSmooth, plain, straight, Star, IsPlain, IsStraight, IsSimplified, normal-direction, below-itself, Found, search_list, SameDirection-decided, dir-at, lowest-same, RawMap, Of, IsLabelling, ShowsLabels, IsRawOf, AreSimplified, svertex_at, IsBuiltFrom, is-at_none, is-at_first, Some}
 use Rattle.law_sphere.proofs.building.BuiltLabels.{smooth-same_way}
 use Rattle.law_sphere.proofs.building.StarSmooth.{star-plain, star-straight, star-normal}
+use Rattle.nef_space.proofs.Lists.{is-at_map, map-is_at}
 
 -- M is made of the simplified stars of R, which show the labels L
 pub record IsMadeOfStars (gs : List Vector) (L : Vector → Label) (R : RawMap) (M : Map) : Type 0 where
@@ -9,16 +10,6 @@ pub record IsMadeOfStars (gs : List Vector) (L : Vector → Label) (R : RawMap) 
   pub raw : IsRawOf R L
   pub simple : AreSimplified R.stars
   pub built : IsBuiltFrom R M
-
-pub at-map : {A B : Type 0} (f : A → B) (xs : List A) (k : ℕ) (y : B) → IsAt (map f xs) k y → (x : A) × IsAt xs k x × (f x ≡ y)
-at-map f [] k y a = absurd (is-at_none a)
-at-map f (x ∷ xs) zero y e = (x, refl, is-at_first e)
-at-map f (x ∷ xs) (suc k) y a = at-map f xs k y a
-
-pub map-at : {A B : Type 0} (f : A → B) (xs : List A) (k : ℕ) (x : A) → IsAt xs k x → IsAt (map f xs) k (f x)
-map-at f [] k x a = absurd (is-at_none a)
-map-at f (z ∷ xs) zero x e = ap Some (ap f (is-at_first e))
-map-at f (z ∷ xs) (suc k) x a = map-at f xs k x a
 
 pub map-empty : {A B : Type 0} (f : A → B) (xs : List A) → map f xs ≡ [] → xs ≡ []
 map-empty f [] e = refl
@@ -55,10 +46,10 @@ module _ (gs : List Vector) (L : Vector → Label) (R : RawMap) (M : Map) (C : I
 
   -- ---- svertices
   pub svertex-star : (k : ℕ) (v : MapVertex) → IsAt M.svertices k v → (t : Star) × IsAt kept k t × (svertex_at t ≡ v)
-  svertex-star k v a = at-map svertex_at kept k v (subst (λ (vs : List MapVertex). IsAt vs k v) C.built.svertices a)
+  svertex-star k v a = is-at_map svertex_at kept k v (subst (λ (vs : List MapVertex). IsAt vs k v) C.built.svertices a)
 
   pub star-svertex : (k : ℕ) (t : Star) → IsAt kept k t → IsAt M.svertices k (svertex_at t)
-  star-svertex k t a = subst (λ (vs : List MapVertex). IsAt vs k (svertex_at t)) (sym C.built.svertices) (map-at svertex_at kept k t a)
+  star-svertex k t a = subst (λ (vs : List MapVertex). IsAt vs k (svertex_at t)) (sym C.built.svertices) (map-is_at svertex_at kept k t a)
 
   pub axis-at : (k : ℕ) (t : Star) → IsAt kept k t → dir_of M.svertices k ≡ t.axis
   axis-at k t a = dir-at M.svertices k (svertex_at t) (star-svertex k t a)

@@ -6,9 +6,7 @@ use Rattle.law_sphere.proofs.building.BuiltLabels.{with_axes, labelling}
 use Rattle.law_sphere.proofs.building.BuiltAxes.{IsMadeOfStars, map-empty, smooth-off}
 use Rattle.law_sphere.proofs.building.BuiltSloops.{sloop-all}
 use Rattle.law_near.proofs.Decisions.{same-label_or}
-
-none-some : {A : Type 0} (o : Option A) (x : A) → o ≡ None → o ≡ Some x → ⊥
-none-some o x e f = cc
+use Rattle.law_sphere.proofs.building.RawGround.{not-both}
 
 module _ (gs : List Vector) (L : Vector → Label) (R : RawMap) (M : Map) (C : IsMadeOfStars gs L R M) where
   abbrev F : Vector → Label → Type 0
@@ -34,7 +32,7 @@ module _ (gs : List Vector) (L : Vector → Label) (R : RawMap) (M : Map) (C : I
         (λ x. found (sloop-all gs L R M C (opposite n) d b m a x hd (λ k v c z. no-svertex k v c) (λ u v. q v u) (flipped F n a m b d p))) (normal-either n hn)
       where
         found : {P : MapSloop → Type 0} → (l : MapSloop) × (M.sloop ≡ Some l) × P l → ⊥
-        found x = none-some M.sloop x.0 no_sloop x.1
+        found x = not-both M.sloop x.0 no_sloop x.1
 
     plain-everywhere : (d : Vector) → IsDirection d → Plain F d
     plain-everywhere d hd m f e h = by (smooth-off gs L R M C d hd (λ k t a w. nothing k t a))

@@ -9,7 +9,7 @@ across-level d y =
     let cx = dy ⊗ yz ⊖ dz ⊗ yy in let cy = dz ⊗ yx ⊖ dx ⊗ yz in let cz = dx ⊗ yy ⊖ dy ⊗ yx in
     ring (d.x ∷ d.y ∷ d.z ∷ y.x ∷ y.y ∷ y.z ∷ []) (dx ⊗ (cy ⊗ dz ⊖ cz ⊗ dy) ⊕ dy ⊗ (cz ⊗ dx ⊖ cx ⊗ dz) ⊕ dz ⊗ (cx ⊗ dy ⊖ cy ⊗ dx)) (num (pos 0)) tt
 
-cross-last : (v d : Vector) → dot (cross v d) d ≡ pos 0
+pub cross-last : (v d : Vector) → dot (cross v d) d ≡ pos 0
 cross-last v d = dot-comm (cross v d) d ∙ level_cross_second v d
 
 across-away : (d y : Vector) → across (opposite d) y ≡ across d y

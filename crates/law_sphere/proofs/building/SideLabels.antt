@@ -1,5 +1,5 @@
 -- The labels of a map about a plane through a direction that lies on no svertex and on no item of another plane.
-use Rattle.law_sphere.proofs.building.Prelude.{◌≡◌, ℕ, ◌+◌, pos, arith, refl, ap, sym, ◌∙◌, subst, sign, Vector, IsDirection, cross, dot, IsZero, SameDirection, IsNormal, Label, IsOnCircle, IsAt, MapVertex, MapSloop, Map, Item, sloop_item, items, item_normal, item_pos, item_mark, item_neg, OnItem, IsFree, MapLabel, on_item, NearLabel, Shaped, Valid, by_side, Near, StraightAt, ByOp, at-one, PlaceOf, svertex_place, item_place, free_place, place_of, label-exists, normals-same, at-sloop, dot-comm, dir-signs, direction-left, even-side, op-side}
+use Rattle.law_sphere.proofs.building.Prelude.{◌≡◌, ℕ, ◌+◌, pos, arith, refl, ap, sym, ◌∙◌, subst, sign, Vector, IsDirection, cross, dot, IsZero, SameDirection, IsNormal, Label, IsOnCircle, IsAt, MapVertex, MapSloop, Map, Item, sloop_item, items, item_normal, item_pos, item_mark, item_neg, OnItem, IsFree, MapLabel, on_item, NearLabel, Shaped, Valid, by_side, Near, StraightAt, ByOp, is-at_one, PlaceOf, svertex_place, item_place, free_place, place_of, label-exists, normals-same, at-sloop, dot-comm, dir-signs, direction-left, even-side, op-side}
 use Rattle.std.specs.Prelude.{Some}
 use Rattle.law_sphere.proofs.NearItems.{near-free, near-item}
 
@@ -48,7 +48,7 @@ pub own-item : (M : Map) → Shaped M → (l : MapSloop) → M.sloop ≡ Some l 
 own-item M V l e d c i x a o =
     let j = at-sloop M.arcs M.sloop l e in
     let q = V.no_items_meet i j.0 x (sloop_item l) d a j.1 o c in
-    at-one (items M) j.0 x (sloop_item l) (subst (λ (r : ℕ). IsAt (items M) r x) q a) j.1
+    is-at_one (items M) j.0 x (sloop_item l) (subst (λ (r : ℕ). IsAt (items M) r x) q a) j.1
 
 -- the sides of two maps make those of op
 pub joined-sides : (A B : Map) (op : Label → Label → Label) (n d : Vector) → dot n d ≡ pos 0 → (p : SidesAt A n d) (q : SidesAt B n d)

@@ -4,9 +4,7 @@ use Rattle.law_sphere.proofs.cones.Signs.{leading, leading-nought, far-leading, 
 use Rattle.law_sphere.proofs.cones.Smooth.{FormOf, proper-form, parallel-by, straight-if}
 use lib.IntN.{*ℤ-zero}
 use Rattle.law_sphere.proofs.StarKinds.{turn-ahead}
-
-pub cross-some : (n d : Vector) → IsDirection n → IsDirection d → dot n d ≡ pos 0 → IsDirection (cross n d)
-cross-some n d hn hd q z = hd (nought-if n d hn z q)
+use Rattle.law_sphere.proofs.building.RayStraight.{off-axis}
 
 -- (n x d) x (u x d) = d (d.(n x u)), and (n x d).(u x d) = (n.u)(d.d) - (n.d)(u.d)
 pub cross-same : (n u d : Vector) → SameDirection n u → IsDirection d → dot n d ≡ pos 0 → SameDirection (cross n d) (cross u d)

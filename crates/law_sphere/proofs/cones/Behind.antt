@@ -1,5 +1,5 @@
 -- A circle that is needed close before a svertex has an arc to it; so a svertex without arcs has one label all around it.
-use Rattle.law_sphere.proofs.cones.Prelude.{◌≡◌, ℕ, ◌+◌, pos, arith, sym, ◌⊎◌, inl, inr, ⊎_elim, List, ◌∷◌, subst, [], ints, Vector, IsDirection, cross, dot, SameDirection, IsNormal, opposite, Label, IsStrictlyOn, IsAt, Arc, Labelling, Near, StraightAt, IsSmooth, StraightAfter, Proper, normal-direction, at-one, amount, past_source, arc-point, level-same, First, first-after, reversed, unflipped, Axial, directed-by, far_directed-by, SameDirection-turned, dir-self, direction-opposite, level-opposite, level-opposite-back, opposite-dot, opposite-twice, normal-either}
+use Rattle.law_sphere.proofs.cones.Prelude.{◌≡◌, ℕ, ◌+◌, pos, arith, sym, ◌⊎◌, inl, inr, ⊎_elim, List, ◌∷◌, subst, [], ints, Vector, IsDirection, cross, dot, SameDirection, IsNormal, opposite, Label, IsStrictlyOn, IsAt, Arc, Labelling, Near, StraightAt, IsSmooth, StraightAfter, Proper, normal-direction, is-at_one, amount, past_source, arc-point, level-same, First, first-after, reversed, unflipped, Axial, directed-by, far_directed-by, SameDirection-turned, dir-self, direction-opposite, level-opposite, level-opposite-back, opposite-dot, opposite-twice, normal-either}
 use Rattle.law_sphere.proofs.Turn.{IsStrictlyOn-same, ends-together}
 use Rattle.law_sphere.proofs.ArcLabels.{arc-along}
 use Rattle.law_sphere.proofs.cones.Smooth.{even-or}
@@ -61,7 +61,7 @@ module _ (gs : List Vector) (F : Vector → Label → Type 0) (L : Labelling gs 
               e = A.each i c ic
 
               source-is : e.source ≡ s
-              source-is = at-one W.list j e.source s (subst (λ (r : ℕ). IsAt W.list r e.source) src e.has_source) g
+              source-is = is-at_one W.list j e.source s (subst (λ (r : ℕ). IsAt W.list r e.source) src e.has_source) g
 
               qt : SameDirection c.normal n
               qt = SameDirection-turned n c.normal q

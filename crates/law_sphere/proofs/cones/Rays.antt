@@ -1,5 +1,5 @@
 -- The arcs of a labelling: one from each svertex along each circle that is needed close after it, to the first svertex; in order.
-use Rattle.law_sphere.proofs.cones.Prelude.{◌≡◌, ℕ, pos, arith, refl, sym, ◌∙◌, ◌⊎◌, inl, inr, ⊎_elim, List, subst, cases_lt, pairs, lies-pairs, Vector, dot, SameDirection, IsNormal, Label, Decided, IsStrictlyOn, IsPrimitive, VectorBelow, IsAt, Arc, ArcBelow, InOrder, Labelling, StraightAfter, Proper, normal-direction, below-itself, at-one, lies-at, at-lies, level-same, First, first-after, Axial, nought-or, dir-self}
+use Rattle.law_sphere.proofs.cones.Prelude.{◌≡◌, ℕ, pos, arith, refl, sym, ◌∙◌, ◌⊎◌, inl, inr, ⊎_elim, List, subst, cases_lt, pairs, lies-pairs, Vector, dot, SameDirection, IsNormal, Label, Decided, IsStrictlyOn, IsPrimitive, VectorBelow, IsAt, Arc, ArcBelow, InOrder, Labelling, StraightAfter, Proper, normal-direction, below-itself, is-at_one, lies-at, at-lies, level-same, First, first-after, Axial, nought-or, dir-self}
 use Rattle.law_sphere.proofs.cones.Listing.{at-or, numbers, at-number, Collected, collect, Sorted, sort, chain-order}
 use Rattle.law_sphere.proofs.cones.Lowest.{below-trans, below-either}
 use Rattle.law_sphere.proofs.cones.Smooth.{proper-decided}
@@ -115,7 +115,7 @@ module _ (gs : List Vector) (F : Vector → Label → Type 0) (L : Labelling gs 
       on w h q r = ⊎_elim
           (λ x. inl (record { dir = w; listed = h; level = q; pos = r.pos; mark = r.mark; neg = r.neg; labels = r.labels; proper = x }))
           (λ f. inr (λ e.
-          let c = subst (StraightAfter F p.normal e.pos e.mark e.neg) (at-one W.list k e.dir w e.listed h) e.labels in
+          let c = subst (StraightAfter F p.normal e.pos e.mark e.neg) (is-at_one W.list k e.dir w e.listed h) e.labels in
           let s = after-one gs F L axial p.normal r.pos r.mark r.neg w e.pos e.mark e.neg (plane-direction p) (W.direction k w h) r.labels c in
           f (λ x y. e.proper (sym s.0 ∙ x ∙ s.1) (sym s.2 ∙ y ∙ s.1))))
           (proper-decided r.pos r.mark r.neg)
@@ -124,7 +124,7 @@ module _ (gs : List Vector) (F : Vector → Label → Type 0) (L : Labelling gs 
       by (inr f) = inr (λ e. f e.dir e.listed)
       by (inl (w, h)) = ⊎_elim
           (λ q. on w h q (after-of gs F L axial p.normal w (plane-direction p) (W.direction k w h) q))
-          (λ f. inr (λ e. f (subst (λ (v : Vector). dot p.normal v ≡ pos 0) (at-one W.list k e.dir w e.listed h) e.level)))
+          (λ f. inr (λ e. f (subst (λ (v : Vector). dot p.normal v ≡ pos 0) (is-at_one W.list k e.dir w e.listed h) e.level)))
           (nought-or (dot p.normal w))
 
   -- the arcs in any order

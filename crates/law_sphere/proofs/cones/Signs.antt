@@ -1,5 +1,6 @@
 -- Near labels of a labelling: each direction has one toward each vector, which the signs of the forms determine.
 use Rattle.law_sphere.proofs.cones.Prelude.{◌≡◌, ℕ, ◌+◌, ◌≤◌, ℤ, pos, ◌<ℤ◌, arith, refl, ap, sym, ◌∙◌, ⊎_elim, List, subst, Sign, minus, nought, plus, sign, sign_times, sign-plus, sign-minus, sign-scaled, sign_of_product, by_order, nought-is, nought-or, Lies, Vector, IsDirection, cross, dot, IsZero, SameDirection, blend, Label, SameSigns, by_side, Labelling, Near, StraightAt, amount, far-keeps, far-level, Axial, far_directed-by, dot-comm, self-pos, dir-signs, direction-left, dot-scaled}
+use Rattle.law_sphere.proofs.building.SideLabels.{side-same_way}
 
 -- ---- signs
 -- the first of two signs that isn't nought
@@ -51,10 +52,6 @@ parallel-signs g h d e hg p s = one d ∙ ap (sign_times (sign (dot g h))) s ∙
     one : (v : Vector) → sign (dot h v) ≡ sign_times (sign (dot g h)) (sign (dot g v))
     one v = ap sign (dot-comm h v) ∙ sym (sign-scaled (dot g g) (dot v h) (self-pos g hg)) ∙ ap sign (dot-scaled v g h p) ∙ sign_of_product (dot g h) (dot v g) ∙ ap (λ r. sign_times (sign (dot g h)) (sign r)) (dot-comm v g)
 
--- the same plane from its two normals
-pub plane-signs : (n u d : Vector) → SameDirection n u → sign (dot u d) ≡ sign (dot n d)
-plane-signs n u d w = ap sign (dot-comm u d) ∙ dir-signs n u d (direction-left n u w) w ∙ ap sign (dot-comm d n)
-
 -- ---- near labels
 module _ (gs : List Vector) (F : Vector → Label → Type 0) (L : Labelling gs F) (axial : Axial gs) where
   pub far-direction : (d e : Vector) (k : ℕ) → amount gs e ≤ k → IsDirection d → IsDirection (blend k d 1 e)
@@ -94,7 +91,7 @@ module _ (gs : List Vector) (F : Vector → Label → Type 0) (L : Labelling gs 
   straight-carried n u a m b z c hz hc w q s p = record {
     level = q;
     at_d = L.cells z c m hz hc s p.at_d;
-    near = λ e. subst (Near F c e) (ap (by_side a m b) (sym (plane-signs n u e w)))
+    near = λ e. subst (Near F c e) (ap (by_side a m b) (sym (side-same_way n u e w)))
         (near-by_signs z e c e (by_side a m b (sign (dot n e))) hz hc (λ g l. ap (λ r. leading r (sign (dot g e))) (s g l)) (p.near e));
   }
 

@@ -2,7 +2,8 @@
 use Rattle.law_text.proofs.existence.Prelude.{◌≡◌, ℕ, ℤ, ◌*ℤ◌, refl, sym, List, ◌∷◌, subst, map, [], ring, at, ◌⊗◌, Lies, SpacePoint, Form, normal_of, SamePoint, IsPointBelow, Set, IsVertex, IsDirection, carriers, point_below-trans, same-point_sym, all-vertices, InOrder, Least, Ordered, Cone, IsAt, Mapped, map-list, Sorted, sort, chain-order, same-itself, same-point_trans, Vertex, Edge, Edges, SamePlane, Carriers, Shows, AreVertices, EverySetHasVertices, VerticesHaveEdges, HasPlanes, EverySetIsShown, lies-at, at-lies}
 use Rattle.law_sphere.proofs.cones.Cones.{point-map}
 use Rattle.nef_edges.proofs.Existing.{edges-exist}
-use Rattle.law_text.proofs.existence.Orders.{FormBelow, form-trans, form-either, point-either}
+use Rattle.law_text.proofs.existence.Orders.{FormBelow, form-trans, form-either}
+use Rattle.law_turns.proofs.ListsExist.{place-either}
 
 -- ---- vertices
 pub record IsVertexAt (s : Set) (p : SpacePoint) (v : Vertex) : Type 0 where
@@ -27,7 +28,7 @@ pub record VerticesAt (s : Set) (ps : List SpacePoint) : Type 0 where
   pub point : (k : ℕ) (v : Vertex) → IsAt list k v → Lies ps v.point
 
 pub vertices-at : (s : Set) (ps : List SpacePoint) → AreAllVertices s ps → Complete s ps → VerticesAt s ps
-vertices-at s ps sound all = then (sort IsPointBelow SamePoint (λ p q r. point_below-trans p q r) same-itself point-either ps)
+vertices-at s ps sound all = then (sort IsPointBelow SamePoint (λ p q r. point_below-trans p q r) same-itself place-either ps)
   where
     then : Sorted IsPointBelow SamePoint ps → VerticesAt s ps
     then r = last (map-list r.list (λ k p v. IsVertexAt s p v) (λ k p l. vertex-at s p))

@@ -1,6 +1,6 @@
 -- Whether two points of a set are joined is decided, and their components are finitely many: points on the same sides of all carriers are joined, and so are points of which one lies on the sides of the other, or on the carriers
 -- between, where both have as many flat directions. Along an even segment nothing else happens.
-use Rattle.law_text.proofs.existence.Prelude.{◌≡◌, ℕ, zero, suc, ◌<◌, false, refl, sym, ap, ◌∙◌, ◌⊎◌, inl, inr, ⊎_elim, ◌↔◌, List, ◌∷◌, length, subst, [], Sign, minus, nought, plus, Lies, IsChain, Chained, SpacePoint, Form, Within, IsBetween, Set, FlatDim, IsEven, IsEvenPath, Joined, sign_at, carriers, SameSigns, of_point, OnPoints, FlatDim-one, mixed-of, reach-some, keeps-all, is_nought, Decided, decided-both, decided-to, decided-not, every, joined-turned, joined-both, joined-itself, flat_dim-of, reach_all, dim-cell, joined-cell, joined-even, IsAt, at-one, lies-at, at-or, even-by, chain-here, chain-link, chain-trans, chain-turned, HasComponents, at-within, JoinedIsDecided, ComponentsAreCounted, eq-decided, is-at_none, is-at_first}
+use Rattle.law_text.proofs.existence.Prelude.{◌≡◌, ℕ, zero, suc, ◌<◌, false, refl, sym, ap, ◌∙◌, ◌⊎◌, inl, inr, ⊎_elim, ◌↔◌, List, ◌∷◌, length, subst, [], Sign, minus, nought, plus, Lies, IsChain, Chained, SpacePoint, Form, Within, IsBetween, Set, FlatDim, IsEven, IsEvenPath, Joined, sign_at, carriers, SameSigns, of_point, OnPoints, FlatDim-one, mixed-of, reach-some, keeps-all, is_nought, Decided, decided-both, decided-to, decided-not, every, joined-turned, joined-both, joined-itself, flat_dim-of, reach_all, dim-cell, joined-cell, joined-even, IsAt, is-at_one, lies-at, at-or, even-by, chain-here, chain-link, chain-trans, chain-turned, HasComponents, is-at_within, JoinedIsDecided, ComponentsAreCounted, eq-decided, is-at_none, is-at_first}
 use Rattle.law_near.proofs.Cells.{KeepsPointSigns}
 use Rattle.law_near.proofs.Crossings.{opposite_signs, joint, sign-mixed}
 use Rattle.law_near.proofs.FlatDecided.{flat_dim-decided}
@@ -78,21 +78,21 @@ module _ (s : Set) where
     where
       by : ((p : SpacePoint) × IsAt (representative_points (carriers s)) i p) ⊎ ((p : SpacePoint) → IsAt (representative_points (carriers s)) i p → ⊥)
           → ((q : SpacePoint) × IsAt (representative_points (carriers s)) j q) ⊎ ((q : SpacePoint) → IsAt (representative_points (carriers s)) j q → ⊥) → Decided (Link k i j)
-      by (inl (p, a)) (inl (q, b)) = ⊎_elim (λ x. inl (p, q, a, b, x)) (λ f. inr (λ x. f (subst (λ y. Adjacent k y q) (at-one (representative_points (carriers s)) i x.0 p x.2 a) (subst (λ y. Adjacent k x.0 y) (at-one (representative_points (carriers s)) j x.1 q x.3 b) x.4)))) (adjacent-decided k p q)
+      by (inl (p, a)) (inl (q, b)) = ⊎_elim (λ x. inl (p, q, a, b, x)) (λ f. inr (λ x. f (subst (λ y. Adjacent k y q) (is-at_one (representative_points (carriers s)) i x.0 p x.2 a) (subst (λ y. Adjacent k x.0 y) (is-at_one (representative_points (carriers s)) j x.1 q x.3 b) x.4)))) (adjacent-decided k p q)
       by (inr f) b = inr (λ x. f x.0 x.2)
       by (inl a) (inr f) = inr (λ x. f x.1 x.3)
 
   link-within : (k i j : ℕ) → Link k i j → (i < length (representative_points (carriers s))) × (j < length (representative_points (carriers s)))
-  link-within k i j x = (at-within (representative_points (carriers s)) i x.0 x.2, at-within (representative_points (carriers s)) j x.1 x.3)
+  link-within k i j x = (is-at_within (representative_points (carriers s)) i x.0 x.2, is-at_within (representative_points (carriers s)) j x.1 x.3)
 
   chain-joined : (k i j : ℕ) (p q : SpacePoint) → IsAt (representative_points (carriers s)) i p → IsAt (representative_points (carriers s)) j q → Chained (Link k) i j → Joined s p q
   chain-joined k i j p q a b (ns, c) = go i p a ns c
     where
       step : (i j : ℕ) (p q : SpacePoint) → IsAt (representative_points (carriers s)) i p → IsAt (representative_points (carriers s)) j q → Link k i j → Joined s p q
-      step i j p q a b x = subst (λ y. Joined s y q) (at-one (representative_points (carriers s)) i x.0 p x.2 a) (subst (λ y. Joined s x.0 y) (at-one (representative_points (carriers s)) j x.1 q x.3 b) (adjacent-joined k x.0 x.1 x.4))
+      step i j p q a b x = subst (λ y. Joined s y q) (is-at_one (representative_points (carriers s)) i x.0 p x.2 a) (subst (λ y. Joined s x.0 y) (is-at_one (representative_points (carriers s)) j x.1 q x.3 b) (adjacent-joined k x.0 x.1 x.4))
 
       go : (i : ℕ) (p : SpacePoint) → IsAt (representative_points (carriers s)) i p → (ns : List ℕ) → IsChain (Link k) i ns j → Joined s p q
-      go i p a [] e = subst (λ y. Joined s p y) (at-one (representative_points (carriers s)) j p q (subst (λ n. IsAt (representative_points (carriers s)) n p) e a) b) (joined-itself s p)
+      go i p a [] e = subst (λ y. Joined s p y) (is-at_one (representative_points (carriers s)) j p q (subst (λ n. IsAt (representative_points (carriers s)) n p) e a) b) (joined-itself s p)
       go i p a (n ∷ ns) (inl x, c) = joined-both s p x.1 q (step i n p x.1 a x.3 x) (go n x.1 x.3 ns c)
       go i p a (n ∷ ns) (inr x, c) = joined-both s p x.0 q (joined-turned s x.0 p (step n i x.0 p x.2 a x)) (go n x.0 x.2 ns c)
 

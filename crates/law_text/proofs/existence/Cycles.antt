@@ -1,5 +1,5 @@
 -- The cycles of the facets of a complex that shows a set exist: the orbits of its next corners.
-use Rattle.law_text.proofs.existence.Prelude.{◌≡◌, ℕ, zero, suc, ◌+◌, ◌<◌, ◌≤◌, arith, refl, sym, ◌∙◌, inl, inr, ⊎_elim, List, ◌∷◌, ◌++◌, length, Bool, true, false, subst, replicate, set, [], length-set, IsAt, Set, Item, arc_item, sloop_item, items, Arc, at-one, arc-at, at-arc, ends-of, Vertex, Edge, Complex, Corner as PlainCorner, IsCorner, Shows, svertex-edge, is-at_one, is-at_some, corner_of, Leads, NextCorner, Cycles, IsFacetOf, FacetNumbers, cycle_corners, Cycle, corners_at, corner_from, HasItem, AreCorners, AreFirsts, AreNext, IsStep, AreOrbits, AreCornersOf, AreNumberedOrbits, IsCycleOf, AreCycleRows, at-within, at-some, eq-decided}
+use Rattle.law_text.proofs.existence.Prelude.{◌≡◌, ℕ, zero, suc, ◌+◌, ◌<◌, ◌≤◌, arith, refl, sym, ◌∙◌, inl, inr, ⊎_elim, List, ◌∷◌, ◌++◌, length, Bool, true, false, subst, replicate, set, [], length-set, IsAt, Set, Item, arc_item, sloop_item, items, Arc, arc-at, at-arc, ends-of, Vertex, Edge, Complex, Corner as PlainCorner, IsCorner, Shows, svertex-edge, is-at_one, is-at_some, corner_of, Leads, NextCorner, Cycles, IsFacetOf, FacetNumbers, cycle_corners, Cycle, corners_at, corner_from, HasItem, AreCorners, AreFirsts, AreNext, IsStep, AreOrbits, AreCornersOf, AreNumberedOrbits, IsCycleOf, AreCycleRows, is-at_within, eq-decided}
 use Rattle.nef_complex.specs.declared.complex.Corner.{Corner}
 use Rattle.nef_facets.proofs.CornerLists.{AreCornersTo, no-corners, corners-next, all-corners}
 use Rattle.nef_facets.proofs.CyclesOf.{next-step, are-numbered, facet-cycles}
@@ -15,12 +15,12 @@ corners-to : (C : Complex) (n : ℕ) → n ≤ length C.vertices → (ks : List 
 corners-to C zero l = ([], no-corners C)
 corners-to C (suc n) l =
     let (ks, A) = corners-to C n (omega (arith, l)) in
-    let v = at-some C.vertices n (omega (arith, l)) in
+    let v = is-at_some C.vertices n (omega (arith, l)) in
     let e : n + 1 ≡ suc n = omega arith in
     (ks ++ corners_at n (length (items v.0.map)), subst (λ m. AreCornersTo C m (ks ++ corners_at n (length (items v.0.map)))) e (corners-next C n ks A v.0 (length (items v.0.map)) v.1 refl))
 
 pub corners : (C : Complex) → (ks : List Corner) × AreCorners C ks
-corners C = let (ks, A) = corners-to C (length C.vertices) (omega arith) in (ks, all-corners C (length C.vertices) ks A (λ k v a. at-within C.vertices k v a))
+corners C = let (ks, A) = corners-to C (length C.vertices) (omega arith) in (ks, all-corners C (length C.vertices) ks A (λ k v a. is-at_within C.vertices k v a))
 
 -- ---- the next corner
 plain : ℕ → ℕ → PlainCorner
@@ -30,7 +30,7 @@ module _ (s : Set) (C : Complex) (S : Shows s C) where
   next-along : (k : PlainCorner) (v : Vertex) (r : Arc) → IsAt C.vertices k.vertex v → IsAt v.map.arcs k.item r → (n : ℕ) (e : Edge) → IsAt C.edges n e → (j b : ℕ) → Leads e k.vertex r.source j b → (l : PlainCorner) × HasItem C l × NextCorner C k l
   next-along k v r a h n e at j b leads =
       let V = edge-from s C S n e at k.vertex r.source j b leads in
-      let f = at-one C.vertices k.vertex v V.from a V.is_from in
+      let f = is-at_one C.vertices k.vertex v V.from a V.is_from in
       let A = next-arc s C S k.vertex r.source j b V k.item r (subst (λ (w : Vertex). IsAt w.map.arcs k.item r) f h) refl in (
         record { vertex = j; item = A.number },
         (V.to, arc_item A.arc, record { vertex = V.is_to; item = at-arc V.to.map.arcs V.to.map.sloop A.number A.arc A.listed }),

@@ -1,5 +1,5 @@
 -- The items of a complex that shows a set have facet numbers: items whose points are joined have one.
-use Rattle.law_text.proofs.existence.Prelude.{◌≡◌, ℕ, ◌<◌, ◌≤◌, refl, inr, ◌↔◌, List, subst, IsAt, Chained, FlatDim, SpacePoint, Set, Item, items, Vertex, Complex, Corner, IsCorner, Shows, same-itself, FacetLink, IsAtItem, joined-items_linked, at-within, at-some, at-from_get, count_items, IsFacetOf, FacetNumbers}
+use Rattle.law_text.proofs.existence.Prelude.{◌≡◌, ℕ, ◌<◌, ◌≤◌, refl, inr, ◌↔◌, List, subst, IsAt, Chained, FlatDim, SpacePoint, Set, Item, items, Vertex, Complex, Corner, IsCorner, Shows, same-itself, FacetLink, IsAtItem, joined-items_linked, is-at_within, is-at_some, count_items, IsFacetOf, FacetNumbers}
 use Rattle.law_complex.proofs.links.ItemLinks.{items-joined}
 use Rattle.law_complex.proofs.links.ItemPoints.{items-have_points}
 use Rattle.law_text.proofs.existence.Connected.{class-number, class-same}
@@ -21,10 +21,10 @@ col-of C x = x.corner.item
 
 module _ (C : Complex) where
   item-make : (i k : ℕ) (v : Vertex) → IsAt C.vertices i v → k < count_items v → (x : ItemAt C) × (row-of C x ≡ i) × (col-of C x ≡ k)
-  item-make i k v a l = let x = at-some (items v.map) k l in (record { corner = record { vertex = i; item = k }; vertex = v; item = x.0; is = record { vertex = a; item = x.1 } }, refl, refl)
+  item-make i k v a l = let x = is-at_some (items v.map) k l in (record { corner = record { vertex = i; item = k }; vertex = v; item = x.0; is = record { vertex = a; item = x.1 } }, refl, refl)
 
   item-sound : (xs : List (ItemAt C)) (p : ℕ) (x : ItemAt C) → IsAt xs p x → (v : Vertex) × IsAt C.vertices (row-of C x) v × (col-of C x < count_items v)
-  item-sound xs p x a = (x.vertex, x.is.vertex, at-within (items x.vertex.map) x.corner.item x.item x.is.item)
+  item-sound xs p x a = (x.vertex, x.is.vertex, is-at_within (items x.vertex.map) x.corner.item x.item x.is.item)
 
   all-items : Elements (row-of C) (col-of C) C.vertices count_items item-make
   all-items = elements (row-of C) (col-of C) C.vertices count_items item-make
@@ -58,7 +58,7 @@ module _ (s : Set) (C : Complex) (S : Shows s C) where
           then N = (
             T.rows,
             record {
-              shape = record { as_many = T.as_many; row = λ i v ns a b. T.long i v ns a (at-from_get T.rows i ns b) };
+              shape = record { as_many = T.as_many; row = λ i v ns a b. T.long i v ns a b };
               numbered = record { by_class = by-class; by_appearance = by-appearance };
             },
           )

@@ -1,5 +1,5 @@
 -- The classes of finitely many things in order, each class in order, and the classes in the order of their first things.
-use Rattle.law_text.proofs.existence.Prelude.{◌≡◌, ℕ, zero, suc, arith, refl, ap, sym, ◌⊎◌, inl, inr, ⊎_elim, Some, List, ◌∷◌, length, subst, [], IsChain, Chained, Lies, Decided, decided-both, decided-to, decided-not, every, IsAt, InOrder, at-one, lies-at, at-or, Chain, chain-here, chain-link, chain-trans, chain-turned, at-within, eq-decided}
+use Rattle.law_text.proofs.existence.Prelude.{◌≡◌, ℕ, zero, suc, arith, refl, ap, sym, ◌⊎◌, inl, inr, ⊎_elim, Some, List, ◌∷◌, length, subst, [], IsChain, Chained, Lies, Decided, decided-both, decided-to, decided-not, every, IsAt, InOrder, is-at_one, lies-at, at-or, Chain, chain-here, chain-link, chain-trans, chain-turned, is-at_within, eq-decided}
 use Rattle.law_text.proofs.existence.Classes.{decided-classes}
 
 -- ---- classes of the images of listed things
@@ -12,7 +12,7 @@ module _ {X Y : Type 0} (xs : List X) (f : X → Y) (R : Y → Y → Type 0) (li
   link-decided i j = by (at-or xs i) (at-or xs j)
     where
       by : ((x : X) × IsAt xs i x) ⊎ ((x : X) → IsAt xs i x → ⊥) → ((w : X) × IsAt xs j w) ⊎ ((w : X) → IsAt xs j w → ⊥) → Decided (Link i j)
-      by (inl (x, a)) (inl (w, b)) = ⊎_elim (λ r. inl (x, w, a, b, r)) (λ n. inr (λ l. n (subst (λ (z : X). R (f z) (f w)) (at-one xs i l.0 x l.2 a) (subst (λ (z : X). R (f l.0) (f z)) (at-one xs j l.1 w l.3 b) l.4)))) (D i j x w a b)
+      by (inl (x, a)) (inl (w, b)) = ⊎_elim (λ r. inl (x, w, a, b, r)) (λ n. inr (λ l. n (subst (λ (z : X). R (f z) (f w)) (is-at_one xs i l.0 x l.2 a) (subst (λ (z : X). R (f l.0) (f z)) (is-at_one xs j l.1 w l.3 b) l.4)))) (D i j x w a b)
       by (inr n) o = inr (λ l. n l.0 l.2)
       by (inl a) (inr n) = inr (λ l. n l.1 l.3)
 
@@ -20,10 +20,10 @@ module _ {X Y : Type 0} (xs : List X) (f : X → Y) (R : Y → Y → Type 0) (li
   to-images i j x w a b (ns, c) = go i x a ns c
     where
       step : (i j : ℕ) (x w : X) → IsAt xs i x → IsAt xs j w → Link i j → R (f x) (f w)
-      step i j x w a b l = subst (λ (z : X). R (f z) (f w)) (at-one xs i l.0 x l.2 a) (subst (λ (z : X). R (f l.0) (f z)) (at-one xs j l.1 w l.3 b) l.4)
+      step i j x w a b l = subst (λ (z : X). R (f z) (f w)) (is-at_one xs i l.0 x l.2 a) (subst (λ (z : X). R (f l.0) (f z)) (is-at_one xs j l.1 w l.3 b) l.4)
 
       go : (i : ℕ) (x : X) → IsAt xs i x → (ns : List ℕ) → IsChain Link i ns j → Chained R (f x) (f w)
-      go i x a [] e = subst (λ (z : X). Chained R (f x) (f z)) (at-one xs j x w (subst (λ n. IsAt xs n x) e a) b) (chain-here R (f x))
+      go i x a [] e = subst (λ (z : X). Chained R (f x) (f z)) (is-at_one xs j x w (subst (λ n. IsAt xs n x) e a) b) (chain-here R (f x))
       go i x a (n ∷ ns) (inl l, c) = chain-trans R (f x) (f l.1) (f w) (chain-link R (f x) (f l.1) (step i n x l.1 a l.3 l)) (go n l.1 l.3 ns c)
       go i x a (n ∷ ns) (inr l, c) = chain-trans R (f x) (f l.0) (f w) (chain-turned R (f l.0) (f x) (chain-link R (f l.0) (f x) (step n i l.0 x l.2 a l))) (go n l.0 l.2 ns c)
 
@@ -42,7 +42,7 @@ module _ {X Y : Type 0} (xs : List X) (f : X → Y) (R : Y → Y → Type 0) (li
   -- whether chains join them is decided
   pub chained-decided : (i j : ℕ) (x w : X) → IsAt xs i x → IsAt xs j w → Decided (Chained R (f x) (f w))
   chained-decided i j x w a b =
-      let c = decided-classes (length xs) Link link-decided (λ s t l. (at-within xs s l.0 l.2, at-within xs t l.1 l.3)) in
+      let c = decided-classes (length xs) Link link-decided (λ s t l. (is-at_within xs s l.0 l.2, is-at_within xs t l.1 l.3)) in
       let r = c.1 i j in
       ⊎_elim (λ e. inl (to-images i j x w a b (r.0 e))) (λ n. inr (λ h. n (r.1 (from-images i j x w a b h)))) (eq-decided (c.0 i) (c.0 j))
 

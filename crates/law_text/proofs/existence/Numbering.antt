@@ -1,5 +1,5 @@
 -- Numbers by first appearance, and tables of numbers.
-use Rattle.law_text.proofs.existence.Prelude.{◌≡◌, ◌≢◌, ℕ, zero, suc, ◌+◌, ◌<◌, ◌≤◌, pos, arith, refl, sym, ap, ◌∙◌, ◌⊎◌, inl, inr, ◌↔◌, List, ◌∷◌, ◌++◌, length, map, take, get_or, Option, Some, None, subst, [], ints, cases_order, length-map, take_all, IsAt, IsInTable, IsBelow, Decided, InOrder, is-at_one, is-at_within, is-at_some, take-more, IsNumberedTo, numbered-earlier, numbered-new, at-map, map-at, at-within, at-from_get, get-from_at, eq-decided, is-at_none, is-at_first}
+use Rattle.law_text.proofs.existence.Prelude.{◌≡◌, ◌≢◌, ℕ, zero, suc, ◌+◌, ◌<◌, ◌≤◌, pos, arith, refl, sym, ap, ◌∙◌, ◌⊎◌, inl, inr, ◌↔◌, List, ◌∷◌, ◌++◌, length, map, take, get_or, Option, Some, None, subst, [], ints, cases_order, length-map, take_all, IsAt, IsInTable, IsBelow, Decided, InOrder, is-at_one, is-at_within, is-at_some, take-more, IsNumberedTo, numbered-earlier, numbered-new, is-at_map, map-is_at, eq-decided, is-at_none, is-at_first}
 use Rattle.nef_classes.specs.Classes.{AreNumbered}
 
 -- ---- by first appearance
@@ -9,12 +9,12 @@ find-number (c ∷ cs) x = by (eq-decided c x) (find-number cs x)
   where
     by : Decided (c ≡ x) → ((e : ℕ) × IsAt cs e x) ⊎ ((k d : ℕ) → IsAt cs k d → d ≢ x) → ((e : ℕ) × IsAt (c ∷ cs) e x) ⊎ ((k d : ℕ) → IsAt (c ∷ cs) k d → d ≢ x)
     by (inl e) o = inl (zero, ap Some e)
-    by (inr n) (inl (e, a)) = inl (suc e, get-from_at (c ∷ cs) (suc e) x (at-from_get cs e x a))
-    by (inr n) (inr f) = inr (λ k d a. none k d (at-from_get (c ∷ cs) k d a))
+    by (inr n) (inl (e, a)) = inl (suc e, a)
+    by (inr n) (inr f) = inr (λ k d a. none k d a)
       where
         none : (k d : ℕ) → IsAt (c ∷ cs) k d → d ≢ x
         none zero d e g = n (is-at_first e ∙ g)
-        none (suc k) d a g = f k d (get-from_at cs k d a) g
+        none (suc k) d a g = f k d a g
 
 record NumberedTo (cs : List ℕ) : Type 0 where
   list : List ℕ
@@ -68,12 +68,12 @@ number-all {X} xs id = by (numbered-exist (map id xs))
     by (ns, N) = record {
       list = ns;
       as_many = N.as_many ∙ length-map xs id;
-      same = λ p q x y m n a b c d. N.same p q (id x) (id y) m n (get-from_at (map id xs) p (id x) (map-at id xs p x a)) (get-from_at (map id xs) q (id y) (map-at id xs q y b)) c d;
+      same = λ p q x y m n a b c d. N.same p q (id x) (id y) m n (map-is_at id xs p x a) (map-is_at id xs q y b) c d;
       by_appearance = λ p x m n a c l.
           let r = N.by_appearance p m n c l in
           let w = is-at_within ns r.0 m r.2 in
           let z = is-at_some (map id xs) r.0 (let e = N.as_many in omega (arith, w, e)) in
-          let y = at-map id xs r.0 z.0 (at-from_get (map id xs) r.0 z.0 z.1) in
+          let y = is-at_map id xs r.0 z.0 z.1 in
           (r.0, y.0, r.1, y.1, r.2);
     }
 
@@ -164,11 +164,11 @@ module _ {X V : Type 0} (row col : X → ℕ) (xs : List X) (ordered : InOrder (
   pub table : NumberTable vs count Placed
   table = table-of vs count Placed (λ i k v a l.
       let (p, x, b, e, f) = complete i k v a l in
-      let n = is-at_some ns p (let w = at-within xs p x b in let m = as_many in omega (arith, w, m)) in
+      let n = is-at_some ns p (let w = is-at_within xs p x b in let m = as_many in omega (arith, w, m)) in
       (n.0, (p, x, b, e, f, n.1)))
 
   pub placed : (i k n : ℕ) → IsInTable table.rows i k n → Placed i k n
-  placed i k n (r, a, b) = table.each i k n r (at-from_get table.rows i r a) (at-from_get r k n b)
+  placed i k n (r, a, b) = table.each i k n r a b
 
   pub has-place : (p : ℕ) (x : X) (n : ℕ) → IsAt xs p x → IsAt ns p n → IsInTable table.rows (row x) (col x) n
   has-place p x n a b = in-row (sound p x a)
@@ -178,9 +178,9 @@ module _ {X V : Type 0} (row col : X → ℕ) (xs : List X) (ordered : InOrder (
 
       in-row : ((v : V) × IsAt vs (row x) v × (col x < count v)) → IsInTable table.rows (row x) (col x) n
       in-row (v, c, l) =
-          let (r, f) = is-at_some table.rows (row x) (let w = at-within vs (row x) v c in let m = table.as_many in omega (arith, w, m)) in
-          let (m, g) = is-at_some r (col x) (let long = table.long (row x) v r c (at-from_get table.rows (row x) r f) in omega (arith, long, l)) in
-          number r f m g (table.each (row x) (col x) m r (at-from_get table.rows (row x) r f) (at-from_get r (col x) m g))
+          let (r, f) = is-at_some table.rows (row x) (let w = is-at_within vs (row x) v c in let m = table.as_many in omega (arith, w, m)) in
+          let (m, g) = is-at_some r (col x) (let long = table.long (row x) v r c f in omega (arith, long, l)) in
+          number r f m g (table.each (row x) (col x) m r f g)
 
 -- ---- classes after one that comes first, whose number is 0
 pub record NumberedAfter {X : Type 0} (xs : List X) (id : X → ℕ) : Type 0 where
@@ -205,7 +205,7 @@ number-after {X} xs id = by (number-all (None ∷ map (λ (x : X). Some x) xs) (
         some = map (λ (x : X). Some x) xs
 
         at-more : (p : ℕ) (x : X) → IsAt xs p x → IsAt (None ∷ map (λ (x : X). Some x) xs) (suc p) (Some x)
-        at-more p x a = map-at (λ (x : X). Some x) xs p x a
+        at-more p x a = map-is_at (λ (x : X). Some x) xs p x a
 
         cases : (ns : List ℕ) → N.list ≡ ns → NumberedAfter xs id
         cases [] e = absurd (let l = N.as_many in let f = ap length e in omega (arith, l, f))
@@ -221,7 +221,7 @@ number-after {X} xs id = by (number-all (None ∷ map (λ (x : X). Some x) xs) (
             here = subst (λ (r : List ℕ). IsAt r 0 z) (sym e) refl
 
             later : (p m : ℕ) → IsAt ns p m → IsAt N.list (suc p) m
-            later p m a = subst (λ (r : List ℕ). IsAt r (suc p) m) (sym e) (get-from_at (z ∷ ns) (suc p) m (at-from_get ns p m a))
+            later p m a = subst (λ (r : List ℕ). IsAt r (suc p) m) (sym e) a
 
             zero-first : z ≡ 0
             zero-first = by-size z refl
@@ -239,5 +239,5 @@ number-after {X} xs id = by (number-all (None ∷ map (λ (x : X). Some x) xs) (
             found : (p m : ℕ) → 1 ≤ m → ((q : ℕ) × (y : Option X) × (q < suc p) × IsAt (None ∷ map (λ (x : X). Some x) xs) q y × IsAt N.list q m) → (q : ℕ) × (y : X) × (q < p) × IsAt xs q y × IsAt ns q m
             found p m low (zero, y, l, a, b) = absurd (let f = is-at_one N.list 0 z m here b in let g = zero-first in omega (arith, low, f, g))
             found p m low (suc q, y, l, a, b) =
-                let x = at-map (λ (x : X). Some x) xs q y a in
-                (q, x.0, omega (arith, l), x.1, get-from_at ns q m (at-from_get (z ∷ ns) (suc q) m (subst (λ (r : List ℕ). IsAt r (suc q) m) e b)))
+                let x = is-at_map (λ (x : X). Some x) xs q y a in
+                (q, x.0, omega (arith, l), x.1, (subst (λ (r : List ℕ). IsAt r (suc q) m) e b))

@@ -1,6 +1,7 @@
 -- Orders of lists of numbers, of forms and of points: they go on, and of two one is below the other or they are the same.
 use Rattle.law_text.proofs.existence.Prelude.{◌≡◌, ℤ, pos, ◌*ℤ◌, arith, refl, sym, ap, ◌∙◌, ◌⊎◌, inl, inr, ⊎_elim, List, ◌∷◌, length, [], by_order, IsBelow, SpacePoint, Form, form, form_numbers, SamePoint, IsPointBelow}
 use Rattle.nef_geo.proofs.Orders.{below-trans}
+use Rattle.law_turns.proofs.ListsExist.{place-either}
 
 pub numbers-either : (xs ys : List ℤ) → length xs ≡ length ys → IsBelow xs ys ⊎ (xs ≡ ys) ⊎ IsBelow ys xs
 numbers-either [] [] l = inr (inl refl)
@@ -26,14 +27,3 @@ of_numbers xs = form (pos 0) (pos 0) (pos 0) (pos 0)
 
 pub form-either : (g h : Form) → FormBelow g h ⊎ (g ≡ h) ⊎ FormBelow h g
 form-either g h = ⊎_elim (λ b. inl b) (λ o. ⊎_elim (λ e. inr (inl (ap of_numbers e))) (λ b. inr (inr b)) o) (numbers-either (form_numbers g) (form_numbers h) refl)
-
--- ---- points
-pub point-either : (p q : SpacePoint) → IsPointBelow p q ⊎ SamePoint p q ⊎ IsPointBelow q p
-point-either p q =
-    by_order (p.x *ℤ pos q.w) (q.x *ℤ pos p.w) (λ h. inl (inl h))
-    (λ e. by_order (p.y *ℤ pos q.w) (q.y *ℤ pos p.w) (λ h. inl (inr (e, inl h)))
-    (λ f. by_order (p.z *ℤ pos q.w) (q.z *ℤ pos p.w) (λ h. inl (inr (e, inr (f, inl h))))
-    (λ g. inr (inl (record { along_x = e; along_y = f; along_z = g })))
-    (λ h. inr (inr (inr (sym e, inr (sym f, inl h))))))
-    (λ h. inr (inr (inr (sym e, inl h)))))
-    (λ h. inr (inr (inl h)))

@@ -1,5 +1,5 @@
 -- Every complex of the program that shows a set has parts.
-use Rattle.law_text.proofs.existence.Prelude.{◌≡◌, ℕ, zero, suc, ◌<◌, ◌≤◌, pos, arith, refl, sym, ap, ◌⊎◌, inl, inr, ⊎_elim, List, length, subst, cases_order, IsAt, IsInTable, Form, form_at, normal_of, Set, IsNormal, SameDirection, Label, Out, form_of, Plane, Item, items, item_normal, item_mark, item_pos, item_neg, at-one, Vertex, Corner, Complex as PlainComplex, VertexSide, HasSideLabel, Shows, IsUpright, is-at_one, is-at_within, is-at_some, AreSfaces, at-map, at-some, get-from_at, vertex_of, complex_of, corner_of, Cycles, IsSideNumber, cycle_corners, IsFacetOf, IsVolumeOf, FacetNumbers, VolumeNumbers, pos_of, neg_of, shell_sides, IsParts, SfaceNumbers, Shells, Cycle, Facet, Parts, Shell, carried, HasItem, AreCorners, IsPlaneAt, IsMarkAt, AreFirsts, IsFacetParts, AreVolumeLabels, HasVolumesBeside, AreFacetsOf, HasLeastMaps, upright-by_maps, chain-label, numbered-side, neg}
+use Rattle.law_text.proofs.existence.Prelude.{◌≡◌, ℕ, zero, suc, ◌<◌, ◌≤◌, pos, arith, refl, sym, ap, ◌⊎◌, inl, inr, ⊎_elim, List, length, subst, cases_order, IsAt, IsInTable, Form, form_at, normal_of, Set, IsNormal, SameDirection, Label, Out, form_of, Plane, Item, items, item_normal, item_mark, item_pos, item_neg, Vertex, Corner, Complex as PlainComplex, VertexSide, HasSideLabel, Shows, IsUpright, is-at_one, is-at_within, is-at_some, AreSfaces, is-at_map, vertex_of, complex_of, corner_of, Cycles, IsSideNumber, cycle_corners, IsFacetOf, IsVolumeOf, FacetNumbers, VolumeNumbers, pos_of, neg_of, shell_sides, IsParts, SfaceNumbers, Shells, Cycle, Facet, Parts, Shell, carried, HasItem, AreCorners, IsPlaneAt, IsMarkAt, AreFirsts, IsFacetParts, AreVolumeLabels, HasVolumesBeside, AreFacetsOf, HasLeastMaps, upright-by_maps, chain-label, numbered-side, neg}
 use Rattle.nef_complex.specs.declared.complex.Corner.{Corner as ProgramCorner}
 use Rattle.nef_complex.specs.declared.complex.Complex.{Complex}
 use Rattle.nef_facets.specs.Carriers.{IsPlaneThrough}
@@ -21,12 +21,12 @@ module _ (s : Set) (c : Complex) (S : Shows s (complex_of c)) where
   plane-of : (k : Corner) → HasItem (complex_of c) k → (h : Plane) × IsPlaneAt (complex_of c) h k
   plane-of k (v, x, K) =
       let P = carried s (complex_of c) k v x S K in
-      let (h, a, e) = at-map form_of c.carriers P.number P.plane P.listed in
+      let (h, a, e) = is-at_map form_of c.carriers P.number P.plane P.listed in
       let n = P.normal (subst (λ (f : Form). IsNormal (normal_of f)) e h.normal) in (
         h,
         λ w y L.
-            let f = at-one (complex_of c).vertices k.vertex v w K.vertex L.vertex in
-            let g = at-one (items w.map) k.item x y (subst (λ (u : Vertex). IsAt (items u.map) k.item x) f K.item) L.item in
+            let f = is-at_one (complex_of c).vertices k.vertex v w K.vertex L.vertex in
+            let g = is-at_one (items w.map) k.item x y (subst (λ (u : Vertex). IsAt (items u.map) k.item x) f K.item) L.item in
             alike h v w x y f g (subst (λ (q : Form). through-of q v) (sym e) P.through, subst (λ (q : Form). normal-as q x) (sym e) n),
       )
     where
@@ -43,8 +43,8 @@ module _ (s : Set) (c : Complex) (S : Shows s (complex_of c)) where
   mark-of k (v, x, K) = (
     item_mark x,
     λ w y L.
-        let f = at-one (complex_of c).vertices k.vertex v w K.vertex L.vertex in
-        ap item_mark (at-one (items w.map) k.item x y (subst (λ (u : Vertex). IsAt (items u.map) k.item x) f K.item) L.item),
+        let f = is-at_one (complex_of c).vertices k.vertex v w K.vertex L.vertex in
+        ap item_mark (is-at_one (items w.map) k.item x y (subst (λ (u : Vertex). IsAt (items u.map) k.item x) f K.item) L.item),
   )
 
   pub facets-exist : (p : FacetParts) × IsFacetParts (complex_of c) p
@@ -75,7 +75,7 @@ module _ (s : Set) (c : Complex) (S : Shows s (complex_of c)) where
 module _ (s : Set) (C : PlainComplex) (S : Shows s C) (U : IsUpright C) (out : (x : VertexSide) × HasSideLabel C x Out) (rows : List (List ℕ)) (N : VolumeNumbers C rows) where
   -- what stands in the table is the number of a side
   in-table : (i k n : ℕ) → IsInTable rows i k n → (x : VertexSide) × (l : Label) × IsVolumeOf C rows x n × HasSideLabel C x l
-  in-table i k n (row, a, b) = by (at-some C.vertices i (let l = is-at_within rows i row a in let e = (N.shape).as_many in omega (arith, l, e)))
+  in-table i k n (row, a, b) = by (is-at_some C.vertices i (let l = is-at_within rows i row a in let e = (N.shape).as_many in omega (arith, l, e)))
     where
       made : ((x : SideAt C) × (side-row C x ≡ i) × (side-col C x ≡ k)) → (x : VertexSide) × (l : Label) × IsVolumeOf C rows x n × HasSideLabel C x l
       made (x, e, g) = (x.side, x.is.label, (k, subst (IsSideNumber C x.side) g x.is, subst (λ j. IsInTable rows j k n) (sym e) (row, a, b)), number-label C x.side x.number x.is)
@@ -177,16 +177,16 @@ parts-exist s c S = by (facets-exist s c S) (volume-numbers s (complex_of c) S u
 
     faces : (i : ℕ) (v : Vertex) → IsAt (complex_of c).vertices i v → (ns : List ℕ) × AreSfaces v.map ns
     faces i v a =
-        let (u, b, e) = at-map vertex_of c.vertices i v a in
-        let M = maps i u (get-from_at c.vertices i u b) in
+        let (u, b, e) = is-at_map vertex_of c.vertices i v a in
+        let M = maps i u b in
         let (ns, F) = sfaces-exist u.map M.sphere_map in
         (ns, subst (λ (w : Vertex). AreSfaces w.map ns) e F)
 
     sfaces : (rows : List (List ℕ)) × SfaceNumbers (complex_of c) rows
-    sfaces = got (make-list (length (complex_of c).vertices) (λ (i : ℕ) (ns : List ℕ). (v : Vertex) × IsAt (complex_of c).vertices i v × AreSfaces v.map ns) (λ i l. let (v, a) = at-some (complex_of c).vertices i l in let (ns, F) = faces i v a in (ns, (v, a, F))))
+    sfaces = got (make-list (length (complex_of c).vertices) (λ (i : ℕ) (ns : List ℕ). (v : Vertex) × IsAt (complex_of c).vertices i v × AreSfaces v.map ns) (λ i l. let (v, a) = is-at_some (complex_of c).vertices i l in let (ns, F) = faces i v a in (ns, (v, a, F))))
       where
         got : Made (length (complex_of c).vertices) (λ (i : ℕ) (ns : List ℕ). (v : Vertex) × IsAt (complex_of c).vertices i v × AreSfaces v.map ns) → (rows : List (List ℕ)) × SfaceNumbers (complex_of c) rows
-        got M = (M.list, record { as_many = M.as_many; row = λ i v ns a b. let (w, d, F) = M.each i ns b in subst (λ (u : Vertex). AreSfaces u.map ns) (at-one (complex_of c).vertices i w v d a) F })
+        got M = (M.list, record { as_many = M.as_many; row = λ i v ns a b. let (w, d, F) = M.each i ns b in subst (λ (u : Vertex). AreSfaces u.map ns) (is-at_one (complex_of c).vertices i w v d a) F })
 
     by : ((p : FacetParts) × IsFacetParts (complex_of c) p) → ((rows : List (List ℕ)) × VolumeNumbers (complex_of c) rows) → (p : Parts) × IsParts (complex_of c) p
     by (p, F) (rows, N) = then (labels-exist s (complex_of c) S upright (out-side s c S maps) rows N) (with-volumes (complex_of c) rows N p F) sfaces

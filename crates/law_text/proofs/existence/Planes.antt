@@ -1,5 +1,5 @@
 -- A set whose carriers are planes of the program has a sorted list of these; its vertices are points of the program.
-use Rattle.law_text.proofs.existence.Prelude.{◌≡◌, ℕ, pos, negsuc, refl, sym, ap, ◌∙◌, ◌⊎◌, inl, inr, ⊎_elim, List, ◌∷◌, map, subst, [], nought-is, each, lies-each, at, num, ◌⊖◌, ◌⊗◌, follows, given, none, nought, Lies, SpacePoint, Form, form_at, normal_of, SamePoint, Set, IsVertex, Vector, cross, triple, IsZero, IsDirection, sign_at, carriers, IsMeet, signs-same, same-point_sym, FlatDim-by_germs, germs-by_cell, all-vertices, IsAt, InOrder, Mapped, map-list, Sorted, sort, chain-order, SamePlane, Carriers, plane-turned, plane-point, same-point_trans, form_of, point_of, Plane, Point, at-map, map-at, AreCarried, triple-cycle, cross-turned, dot-comm, in-span, lies-at, at-lies}
+use Rattle.law_text.proofs.existence.Prelude.{◌≡◌, ℕ, pos, negsuc, refl, sym, ap, ◌∙◌, ◌⊎◌, inl, inr, ⊎_elim, List, ◌∷◌, map, subst, [], nought-is, each, lies-each, at, num, ◌⊖◌, ◌⊗◌, follows, given, none, nought, Lies, SpacePoint, Form, form_at, normal_of, SamePoint, Set, IsVertex, Vector, cross, triple, IsZero, IsDirection, sign_at, carriers, IsMeet, signs-same, same-point_sym, FlatDim-by_germs, germs-by_cell, all-vertices, IsAt, InOrder, Mapped, map-list, Sorted, sort, chain-order, SamePlane, Carriers, plane-turned, plane-point, same-point_trans, form_of, point_of, Plane, Point, is-at_map, map-is_at, AreCarried, triple-cycle, cross-turned, dot-comm, in-span, lies-at, at-lies}
 use Rattle.law_near.proofs.Meets.{vertex-meets}
 use Rattle.nef_geo.proofs.Unique.{plane_equal}
 use Rattle.law_text.proofs.existence.Orders.{FormBelow, form-trans, form-either}
@@ -67,7 +67,7 @@ module _ (s : Set) (hs : List Plane) (C : AreCarried s hs) where
 
               each-one : (k : ℕ) (h : Form) → IsAt (map form_of r.list) k h → (f : Form) × Lies (carriers s) f × SamePlane h f
               each-one k h a =
-                  let g = at-map form_of r.list k h a in
+                  let g = is-at_map form_of r.list k h a in
                   let f = from g.0 (at-lies r.list k g.0 g.1) in
                   (f.0, f.1, subst (λ (x : Form). SamePlane x f.0) g.2 f.2.1)
 
@@ -77,12 +77,12 @@ module _ (s : Set) (hs : List Plane) (C : AreCarried s hs) where
                   let h = m.all i.0 f i.1 in
                   let g = r.all h.0 (at-lies m.list i.0 h.0 h.1) in
                   let k = lies-at r.list g.0 g.1 in
-                  (k.0, form_of g.0, map-at form_of r.list k.0 g.0 k.1, subst (λ (x : Plane). SamePlane (form_of x) f) g.2 h.2.1)
+                  (k.0, form_of g.0, map-is_at form_of r.list k.0 g.0 k.1, subst (λ (x : Plane). SamePlane (form_of x) f) g.2 h.2.1)
 
               ordered : InOrder (λ g h. FormBelow g h) (map form_of r.list)
               ordered i k x y l a b =
-                  let g = at-map form_of r.list i x a in
-                  let h = at-map form_of r.list k y b in
+                  let g = is-at_map form_of r.list i x a in
+                  let h = is-at_map form_of r.list k y b in
                   subst (λ (z : Form). FormBelow z y) g.2 (subst (λ (z : Form). FormBelow (form_of g.0) z) h.2 (chain-order PlaneBelow (λ g h. g ≡ h) r.list r.chain i k g.0 h.0 l g.1 h.1))
 
   -- ---- the points

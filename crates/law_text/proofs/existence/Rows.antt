@@ -1,5 +1,5 @@
 -- Lists of things that are said place by place.
-use Rattle.law_text.proofs.existence.Prelude.{◌≡◌, ℕ, zero, suc, ◌<◌, ◌≤◌, arith, refl, ap, ◌⊎◌, inl, inr, ⊎_elim, List, ◌∷◌, length, subst, [], cases_order, IsAt, IsInTable, is-at_one, is-at_some, is-at_within, at-from_get, get-from_at, is-at_first}
+use Rattle.law_text.proofs.existence.Prelude.{◌≡◌, ℕ, zero, suc, ◌<◌, ◌≤◌, arith, refl, ap, ◌⊎◌, inl, inr, ⊎_elim, List, ◌∷◌, length, subst, [], cases_order, IsAt, IsInTable, is-at_one, is-at_some, is-at_within, is-at_first}
 
 -- a list with a thing at each place that R says
 pub record Made {Y : Type 0} (c : ℕ) (R : ℕ → Y → Type 0) : Type 0 where
@@ -12,11 +12,11 @@ make-list zero R f = record { list = []; as_many = refl; each = λ k y a. absurd
 make-list {Y} (suc c) R f = by (f zero (omega arith)) (make-list c (λ k y. R (suc k) y) (λ k l. f (suc k) (omega (arith, l))))
   where
     by : ((y : Y) × R zero y) → Made c (λ k y. R (suc k) y) → Made (suc c) R
-    by (y, r) m = record { list = y ∷ m.list; as_many = ap suc m.as_many; each = λ k z a. each k z (at-from_get (y ∷ m.list) k z a) }
+    by (y, r) m = record { list = y ∷ m.list; as_many = ap suc m.as_many; each = λ k z a. each k z a }
       where
         each : (k : ℕ) (z : Y) → IsAt (y ∷ m.list) k z → R k z
         each zero z e = subst (R zero) (is-at_first e) r
-        each (suc k) z a = m.each k z (get-from_at m.list k z a)
+        each (suc k) z a = m.each k z a
 
 -- one for each thing of a list
 pub make-each : {X Y : Type 0} (xs : List X) (R : X → Y → Type 0) → ((k : ℕ) (x : X) → IsAt xs k x → (y : Y) × R x y) → Made (length xs) (λ k y. (x : X) × IsAt xs k x × R x y)
@@ -29,15 +29,15 @@ most (x ∷ xs) = by (most xs)
   where
     by : ((m : ℕ) × ((k n : ℕ) → IsAt xs k n → n ≤ m) × ((m ≡ 0) ⊎ ((k : ℕ) × IsAt xs k m))) → (m : ℕ) × ((k n : ℕ) → IsAt (x ∷ xs) k n → n ≤ m) × ((m ≡ 0) ⊎ ((k : ℕ) × IsAt (x ∷ xs) k m))
     by (m, below, got) = ⊎_elim
-        (λ e. (x, λ k n a. each x k n (omega (arith, e)) (omega arith) (at-from_get (x ∷ xs) k n a), inr (0, get-from_at (x ∷ xs) 0 x refl)))
+        (λ e. (x, λ k n a. each x k n (omega (arith, e)) (omega arith) a, inr (0, refl)))
         (λ o. ⊎_elim
-        (λ l. (x, λ k n a. each x k n (omega (arith, l)) (omega arith) (at-from_get (x ∷ xs) k n a), inr (0, get-from_at (x ∷ xs) 0 x refl)))
-        (λ l. (m, λ k n a. each m k n (omega arith) (omega (arith, l)) (at-from_get (x ∷ xs) k n a), ⊎_elim (λ e. inl e) (λ g. inr (suc g.0, get-from_at (x ∷ xs) (suc g.0) m (at-from_get xs g.0 m g.1))) got)) o)
+        (λ l. (x, λ k n a. each x k n (omega (arith, l)) (omega arith) a, inr (0, refl)))
+        (λ l. (m, λ k n a. each m k n (omega arith) (omega (arith, l)) a, ⊎_elim (λ e. inl e) (λ g. inr (suc g.0, g.1)) got)) o)
         (cases_order m x)
       where
         each : (z k n : ℕ) → m ≤ z → x ≤ z → IsAt (x ∷ xs) k n → n ≤ z
         each z zero n l j e = omega (arith, j, is-at_first e)
-        each z (suc k) n l j a = let h = below k n (get-from_at xs k n a) in omega (arith, h, l)
+        each z (suc k) n l j a = let h = below k n a in omega (arith, h, l)
 
 -- the greatest number of a table, or 0
 pub most-in : (rows : List (List ℕ)) → (m : ℕ) × ((i k n : ℕ) → IsInTable rows i k n → n ≤ m) × ((m ≡ 0) ⊎ ((i : ℕ) × (k : ℕ) × IsInTable rows i k m))

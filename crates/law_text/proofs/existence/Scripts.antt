@@ -1,5 +1,5 @@
 -- Sets whose halves are turns of few forms within the limits have complexes of the program.
-use Rattle.law_text.proofs.existence.Prelude.{◌≡◌, ℕ, ◌*◌, ◌^◌, ◌<◌, ◌≤◌, arith, refl, sym, ap, ◌∙◌, inl, inr, ⊎_elim, List, ◌∷◌, ◌++◌, length, length-append, Bool, false, subst, of_z, [], normal_limit, Form, form, normal_of, Set, halves, Lies, lies-left, lies-right, lies-append, frame, form_of, Plane, SamePlane, Triple, turned_plane, turned_set, at_most-turned, is-at_some, at-from_get, AreCarried, IsSmallForm, AreSmallForms, IsTurnOf, AreTurnsOf, EveryTurnedSetIsShown, at-lies}
+use Rattle.law_text.proofs.existence.Prelude.{◌≡◌, ℕ, ◌*◌, ◌^◌, ◌<◌, ◌≤◌, arith, refl, sym, ap, ◌∙◌, inl, inr, ⊎_elim, List, ◌∷◌, ◌++◌, length, length-append, Bool, false, subst, of_z, [], normal_limit, Form, form, normal_of, Set, halves, Lies, lies-left, lies-right, lies-append, frame, form_of, Plane, SamePlane, Triple, turned_plane, turned_set, at_most-turned, is-at_some, AreCarried, IsSmallForm, AreSmallForms, IsTurnOf, AreTurnsOf, EveryTurnedSetIsShown, at-lies}
 use Rattle.nef_case.proofs.TurnLemmas.{composition-turns, composed-by_numbers}
 use Rattle.law_turns.proofs.Carriers.{halves-from}
 use Rattle.law_turns.proofs.Vectors.{direction-turned}
@@ -59,7 +59,7 @@ planes-of (b ∷ bs) S = by (make-list 48 (λ (k : ℕ) (h : Plane). SamePlane (
         all : (c : Form) (k : ℕ) → Lies (b ∷ bs) c → k < 48 → (h : Plane) × Lies (M.list ++ P.list) h × SamePlane (form_of h) (turned_plane k c)
         all c k (inl e) l =
             let (h, a) = is-at_some M.list k (let f = M.as_many in omega (arith, f, l)) in
-            (h, lies-left M.list P.list h (at-lies M.list k h (at-from_get M.list k h a)), subst (λ (d : Form). SamePlane (form_of h) (turned_plane k d)) e (M.each k h a))
+            (h, lies-left M.list P.list h (at-lies M.list k h a), subst (λ (d : Form). SamePlane (form_of h) (turned_plane k d)) e (M.each k h a))
         all c k (inr m) l = let (h, a, e) = P.all c k m l in (h, lies-right M.list P.list h a, e)
 
 -- the sides of the frame

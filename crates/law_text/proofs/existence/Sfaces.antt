@@ -1,5 +1,5 @@
 -- The sides of each map of the program have numbers of sfaces.
-use Rattle.law_text.proofs.existence.Prelude.{◌≡◌, ℕ, zero, suc, ◌+◌, ◌<◌, ◌≤◌, ℤ, pos, ◌<ℤ◌, ◌≤ℤ◌, arith, refl, sym, ap, ◌∙◌, inl, inr, ⊎_elim, ◌↔◌, List, ◌∷◌, ◌++◌, length, take, Option, Some, None, subst, [], ints, lies-left, lies-right, by_order, Chained, Vector, opposite, dot, cross, up, IsDirection, Label, Decided, decided-both, forms, IsAt, MapVertex, MapSloop, Map, Item, arc_item, sloop_item, items, item_normal, dir_of, around_svertex, pos_item, whole, Shaped, at-sloop, at-arc, item-forms, normal-form, OnItem-decided, circle-point, dir-at, normal-direction, Link, AreLinked, LinksAreBelow, AreClasses, is-at_within, map_of, IsSphereMap, sides_of, AreSfaces, side_number, rise, IsOver, IsFirst, IsFirstOf, meridians, over_forms, FirstNear, JoinsBelow, JoinsArc, AreEach, AreArounds, AreSloops, AreGrounds, met_number, AreJoins, SphereMap, at-some, at-from_get, get-from_at, map-ahead, map-across, self-pos, dir-self, apart, eq-decided, is-at_none, is-at_first}
+use Rattle.law_text.proofs.existence.Prelude.{◌≡◌, ℕ, zero, suc, ◌+◌, ◌<◌, ◌≤◌, ℤ, pos, ◌<ℤ◌, ◌≤ℤ◌, arith, refl, sym, ap, ◌∙◌, inl, inr, ⊎_elim, ◌↔◌, List, ◌∷◌, ◌++◌, length, take, Option, Some, None, subst, [], ints, lies-left, lies-right, by_order, Chained, Vector, opposite, dot, cross, up, IsDirection, Label, Decided, decided-both, forms, IsAt, MapVertex, MapSloop, Map, Item, arc_item, sloop_item, items, item_normal, dir_of, around_svertex, pos_item, whole, Shaped, at-sloop, at-arc, item-forms, normal-form, OnItem-decided, circle-point, dir-at, normal-direction, Link, AreLinked, LinksAreBelow, AreClasses, is-at_within, map_of, IsSphereMap, sides_of, AreSfaces, side_number, rise, IsOver, IsFirst, IsFirstOf, meridians, over_forms, FirstNear, JoinsBelow, JoinsArc, AreEach, AreArounds, AreSloops, AreGrounds, met_number, AreJoins, SphereMap, is-at_some, map-ahead, map-across, self-pos, dir-self, apart, eq-decided, is-at_none, is-at_first}
 use Rattle.law_sphere.specs.Forms.{SameSigns}
 use Rattle.nef_geo.proofs.InPlane.{up-direction}
 use Rattle.nef_smap.proofs.FirstOf.{all-first, pass-first, only-first, lower-first, higher-first}
@@ -19,7 +19,7 @@ module _ (M : Map) (ahead : (k : ℕ) (x : Item) → IsAt (items M) k x → pos 
 
   first-to : (d : Vector) (n : ℕ) → n ≤ length (items M) → (r : Option ℕ) × IsFirstOf M up d n r
   first-to d zero l = (None, λ k x h. absurd (omega (arith, h)))
-  first-to d (suc n) l = by (at-some (items M) n (omega (arith, l))) (first-to d n (omega (arith, l)))
+  first-to d (suc n) l = by (is-at_some (items M) n (omega (arith, l))) (first-to d n (omega (arith, l)))
     where
       next : n + 1 ≡ suc n
       next = omega arith
@@ -68,7 +68,7 @@ each-list n P f = by (links n P f)
             each (suc k) m a = all k m a
 
     by : ((ls : List Link) × (length ls ≡ n) × ((k : ℕ) (l : Link) → IsAt ls k l → P k l)) → (ls : List Link) × AreEach P n ls
-    by (ls, e, all) = (ls, record { as_many = e; each = λ k l a. all k l (at-from_get ls k l a) })
+    by (ls, e, all) = (ls, record { as_many = e; each = λ k l a. all k l a })
 
 module _ (M : Map) (V : Shaped M) (ahead : (k : ℕ) (x : Item) → IsAt (items M) k x → pos 0 <ℤ dot (item_normal x) up) (across : (k : ℕ) (v : MapVertex) → IsAt M.svertices k v → IsDirection (cross up v.dir)) where
   near : (a b c : Vector) → (r : Option ℕ) × FirstNear M up a b c r
@@ -79,7 +79,7 @@ module _ (M : Map) (V : Shaped M) (ahead : (k : ℕ) (x : Item) → IsAt (items 
 
   joins-below : (k : ℕ) → k < length M.svertices → (l : Link) × JoinsBelow M k l
   joins-below k h =
-      let v = at-some M.svertices k h in
+      let v = is-at_some M.svertices k h in
       let c = cross up v.0.dir in
       let f = near v.0.dir (opposite up) c in
       let g = near v.0.dir (opposite up) (opposite c) in
@@ -87,7 +87,7 @@ module _ (M : Map) (V : Shaped M) (ahead : (k : ℕ) (x : Item) → IsAt (items 
 
   arounds-to : (n : ℕ) → n ≤ length M.svertices → (ls : List Link) × AreArounds M n ls
   arounds-to zero l = ([], arounds-none M)
-  arounds-to (suc n) l = by (at-some M.svertices n (omega (arith, l))) (arounds-to n (omega (arith, l)))
+  arounds-to (suc n) l = by (is-at_some M.svertices n (omega (arith, l))) (arounds-to n (omega (arith, l)))
     where
       next : n + 1 ≡ suc n
       next = omega arith
@@ -105,7 +105,7 @@ module _ (M : Map) (V : Shaped M) (ahead : (k : ℕ) (x : Item) → IsAt (items 
 
   joins-arc : (k : ℕ) → k < length M.arcs → (l : Link) × JoinsArc M k l
   joins-arc k h =
-      let a = at-some M.arcs k h in
+      let a = is-at_some M.arcs k h in
       let x = at-arc M.arcs M.sloop k a.0 a.1 in
       let n = a.0.normal in
       let hn = normal-direction n (V.normals k (arc_item a.0) x) in
@@ -153,17 +153,17 @@ link-decided (l ∷ ls) s t = by (eq-decided l.first s) (eq-decided l.second t) 
   where
     by : Decided (l.first ≡ s) → Decided (l.second ≡ t) → Decided (AreLinked ls s t) → Decided (AreLinked (l ∷ ls) s t)
     by (inl e) (inl f) o = inl (zero, l, refl, e, f)
-    by e f (inl x) = inl (suc x.0, x.1, get-from_at (l ∷ ls) (suc x.0) x.1 (at-from_get ls x.0 x.1 x.2), x.3, x.4)
-    by (inr n) f (inr g) = inr (λ x. none x.0 x.1 (at-from_get (l ∷ ls) x.0 x.1 x.2) x.3 x.4)
+    by e f (inl x) = inl (suc x.0, x.1, x.2, x.3, x.4)
+    by (inr n) f (inr g) = inr (λ x. none x.0 x.1 x.2 x.3 x.4)
       where
         none : (k : ℕ) (m : Link) → IsAt (l ∷ ls) k m → m.first ≡ s → m.second ≡ t → ⊥
         none zero m e h i = n (ap (λ (r : Link). r.first) (is-at_first e) ∙ h)
-        none (suc k) m a h i = g (k, m, get-from_at ls k m a, h, i)
-    by (inl e) (inr n) (inr g) = inr (λ x. none x.0 x.1 (at-from_get (l ∷ ls) x.0 x.1 x.2) x.3 x.4)
+        none (suc k) m a h i = g (k, m, a, h, i)
+    by (inl e) (inr n) (inr g) = inr (λ x. none x.0 x.1 x.2 x.3 x.4)
       where
         none : (k : ℕ) (m : Link) → IsAt (l ∷ ls) k m → m.first ≡ s → m.second ≡ t → ⊥
         none zero m e h i = n (ap (λ (r : Link). r.second) (is-at_first e) ∙ i)
-        none (suc k) m a h i = g (k, m, get-from_at ls k m a, h, i)
+        none (suc k) m a h i = g (k, m, a, h, i)
 
 pub classes-exist : (n : ℕ) (ls : List Link) → LinksAreBelow n ls → (cs : List ℕ) × AreClasses n ls cs
 classes-exist n ls W = by (decided-classes n (AreLinked ls) (link-decided ls) within)
@@ -178,8 +178,8 @@ classes-exist n ls W = by (decided-classes n (AreLinked ls) (link-decided ls) wi
           record {
             as_many = r.1;
             same = λ s t c d a b.
-                let e = r.2 s c (at-from_get r.0 s c a) in
-                let g = r.2 t d (at-from_get r.0 t d b) in
+                let e = r.2 s c a in
+                let g = r.2 t d b in
                 (λ q. (F s t).0 (sym e ∙ q ∙ g), λ q. e ∙ (F s t).1 q ∙ sym g);
           },
         )

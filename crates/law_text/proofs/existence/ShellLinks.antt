@@ -1,5 +1,5 @@
 -- Whether two sides are linked in a shell is decided.
-use Rattle.law_text.proofs.existence.Prelude.{◌≡◌, ℕ, arith, refl, sym, ap, ◌∙◌, ◌⊎◌, inl, inr, ⊎_elim, List, subst, Set, SameDirection, opposite, plane_dir, Label, Decided, decided-both, decided-or, IsAt, Arc, Item, item_normal, OnItem, Side as MapSide, around_svertex, pos_item, neg_item, whole, HasSide, InOneSface, OnItem-decided, search_list, at-one, SameDirection-decided, at-or, Vertex, Edge, Complex as PlainComplex, Corner, IsCorner, Shows, VertexSide, HasSideLabel, LinkAcross, LinkInSface, AreAlong, AreSidesAlong, pos_arcs, neg_arcs, around_ends, LinkAlongEdge, LinkAcrossFacet, sides_of, AreSfaces, side_number, side-number, is-at_some, is-at_within, ShellLink, eq-decided}
+use Rattle.law_text.proofs.existence.Prelude.{◌≡◌, ℕ, arith, refl, sym, ap, ◌∙◌, ◌⊎◌, inl, inr, ⊎_elim, List, subst, Set, SameDirection, opposite, plane_dir, Label, Decided, decided-both, decided-or, IsAt, Arc, Item, item_normal, OnItem, Side as MapSide, around_svertex, pos_item, neg_item, whole, HasSide, InOneSface, OnItem-decided, search_list, is-at_one, SameDirection-decided, at-or, Vertex, Edge, Complex as PlainComplex, Corner, IsCorner, Shows, VertexSide, HasSideLabel, LinkAcross, LinkInSface, AreAlong, AreSidesAlong, pos_arcs, neg_arcs, around_ends, LinkAlongEdge, LinkAcrossFacet, sides_of, AreSfaces, side_number, side-number, is-at_some, is-at_within, ShellLink, eq-decided}
 use Rattle.nef_conn.proofs.Named.{found, from-vertex}
 use Rattle.nef_facets.proofs.AcrossLinks.{link-is, link-one}
 use Rattle.nef_volumes.proofs.SfaceTies.{sface-from_numbers, numbers-from_sface}
@@ -100,13 +100,13 @@ module _ (C : PlainComplex) where
   along-decided e i j = vertices (at-or C.vertices e.low) (at-or C.vertices e.high)
     where
       arcs : (v w : Vertex) → IsAt C.vertices e.low v → IsAt C.vertices e.high w → ((a : Arc) × IsAt v.map.arcs i a) ⊎ ((a : Arc) → IsAt v.map.arcs i a → ⊥) → ((b : Arc) × IsAt w.map.arcs j b) ⊎ ((b : Arc) → IsAt w.map.arcs j b → ⊥) → Decided (AreAlong C e i j)
-      arcs v w p q (inr n) o = inr (λ A. n A.low_arc (subst (λ (u : Vertex). IsAt u.map.arcs i A.low_arc) (at-one C.vertices e.low A.low_vertex v A.ends.low p) A.is_low))
-      arcs v w p q (inl a) (inr n) = inr (λ A. n A.high_arc (subst (λ (u : Vertex). IsAt u.map.arcs j A.high_arc) (at-one C.vertices e.high A.high_vertex w A.ends.high q) A.is_high))
+      arcs v w p q (inr n) o = inr (λ A. n A.low_arc (subst (λ (u : Vertex). IsAt u.map.arcs i A.low_arc) (is-at_one C.vertices e.low A.low_vertex v A.ends.low p) A.is_low))
+      arcs v w p q (inl a) (inr n) = inr (λ A. n A.high_arc (subst (λ (u : Vertex). IsAt u.map.arcs j A.high_arc) (is-at_one C.vertices e.high A.high_vertex w A.ends.high q) A.is_high))
       arcs v w p q (inl (a, r)) (inl (b, t)) = ⊎_elim
           (λ h. inl (record { low_vertex = v; high_vertex = w; ends = record { low = p; high = q }; low_arc = a; high_arc = b; is_low = r; is_high = t; one_normal = h.0; one_way = h.1 }))
           (λ n. inr (λ A.
-          let f = at-one v.map.arcs i A.low_arc a (subst (λ (u : Vertex). IsAt u.map.arcs i A.low_arc) (at-one C.vertices e.low A.low_vertex v A.ends.low p) A.is_low) r in
-          let g = at-one w.map.arcs j A.high_arc b (subst (λ (u : Vertex). IsAt u.map.arcs j A.high_arc) (at-one C.vertices e.high A.high_vertex w A.ends.high q) A.is_high) t in
+          let f = is-at_one v.map.arcs i A.low_arc a (subst (λ (u : Vertex). IsAt u.map.arcs i A.low_arc) (is-at_one C.vertices e.low A.low_vertex v A.ends.low p) A.is_low) r in
+          let g = is-at_one w.map.arcs j A.high_arc b (subst (λ (u : Vertex). IsAt u.map.arcs j A.high_arc) (is-at_one C.vertices e.high A.high_vertex w A.ends.high q) A.is_high) t in
           n (subst (λ (z : Arc). Fits z b) f (subst (λ (z : Arc). Fits A.low_arc z) g (A.one_normal, A.one_way)))))
           (decided-both (SameDirection-decided a.normal b.normal) (decided-or (decided-both (eq-decided a.source e.low_svertex) (eq-decided b.target e.high_svertex)) (decided-both (eq-decided a.target e.low_svertex) (eq-decided b.source e.high_svertex))))
         where
@@ -185,7 +185,7 @@ module _ (C : PlainComplex) where
       by (inl e) = then (faces v a)
         where
           same : w ≡ v
-          same = at-one C.vertices x.vertex w v (subst (λ n. IsAt C.vertices n w) e b) a
+          same = is-at_one C.vertices x.vertex w v (subst (λ n. IsAt C.vertices n w) e b) a
 
           other : HasSide v.map y.side m
           other = subst (λ (u : Vertex). HasSide u.map y.side m) same k
@@ -202,7 +202,7 @@ module _ (C : PlainComplex) where
               let r = F.numbered.by_class (side_number v.map x.side) (side_number v.map y.side) p.0 q.0 p.1 q.1 in
               ⊎_elim
               (λ e2. let c = r.0 e2 in inl (record { vertex = v; is_vertex = a; one_vertex = e; one = l; other = m; has = h; has_other = other; one_sface = sface-from_numbers v.map c.0 (side_number v.map x.side) (side_number v.map y.side) x.side y.side l m i j c.1 }))
-              (λ n. inr (λ L. n (r.1 (numbers-from_sface v.map x.side y.side l m h other (subst (λ (u : Vertex). InOneSface u.map x.side y.side) (at-one C.vertices x.vertex L.vertex v L.is_vertex a) L.one_sface)))))
+              (λ n. inr (λ L. n (r.1 (numbers-from_sface v.map x.side y.side l m h other (subst (λ (u : Vertex). InOneSface u.map x.side y.side) (is-at_one C.vertices x.vertex L.vertex v L.is_vertex a) L.one_sface)))))
               (eq-decided p.0 q.0)
 
 pub shell-link_decided : (s : Set) (C : PlainComplex) → Shows s C → ((i : ℕ) (v : Vertex) → IsAt C.vertices i v → (ns : List ℕ) × AreSfaces v.map ns) → (x y : VertexSide) (l m : Label) → HasSideLabel C x l → HasSideLabel C y m → Decided (ShellLink C x y)

@@ -1,5 +1,5 @@
 -- The shells of a complex that shows a set exist: the classes of its sides, each in order.
-use Rattle.law_text.proofs.existence.Prelude.{◌≡◌, ℕ, refl, sym, ap, ◌∙◌, inl, inr, ⊎_elim, List, ◌∷◌, map, subst, [], length-map, Chained, Set, Lies, Label, Decided, IsAt, InOrder, chain-order, Vertex, Complex, Shows, VertexSide, HasSideLabel, VolumeLink, LinkAcrossFacet, chain-here, chain-link, chain-trans, chain-turned, chain-map, sides_of, AreSfaces, side_number, side-number, at-map, map-at, at-within, at-from_get, count_sides, IsVolumeOf, VolumeNumbers, shell_sides, ShellLink, IsSideNamed, IsNameBelow, IsSideListed, IsShell, IsShellBelow, Shells, IsSideNumber, Shell, numbered-side, lies-at, at-lies, eq-decided}
+use Rattle.law_text.proofs.existence.Prelude.{◌≡◌, ℕ, refl, sym, ap, ◌∙◌, inl, inr, ⊎_elim, List, ◌∷◌, map, subst, [], length-map, Chained, Set, Lies, Label, Decided, IsAt, InOrder, chain-order, Vertex, Complex, Shows, VertexSide, HasSideLabel, VolumeLink, LinkAcrossFacet, chain-here, chain-link, chain-trans, chain-turned, chain-map, sides_of, AreSfaces, side_number, side-number, is-at_map, map-is_at, is-at_within, count_sides, IsVolumeOf, VolumeNumbers, shell_sides, ShellLink, IsSideNamed, IsNameBelow, IsSideListed, IsShell, IsShellBelow, Shells, IsSideNumber, Shell, numbered-side, lies-at, at-lies, eq-decided}
 use Rattle.nef_complex.specs.declared.parts.Side.{Side}
 use Rattle.nef_volumes.proofs.AllTies.{shell-volume}
 use Rattle.nef_volumes.proofs.ShellParts.{side-number_one}
@@ -37,7 +37,7 @@ name C x = record { vertex = x.side.vertex; side = x.number }
 module _ (s : Set) (C : Complex) (S : Shows s C) (faces : (i : ℕ) (v : Vertex) → IsAt C.vertices i v → (ns : List ℕ) × AreSfaces v.map ns) (E : Elements (side-row C) (side-col C) C.vertices count_sides (side-make C)) where
   in-list : (y : VertexSide) (j : ℕ) → IsSideNumber C y j → (p : ℕ) × (x : SideAt C) × IsAt E.list p x × (x.side ≡ y) × (x.number ≡ j)
   in-list y j J =
-      let w = at-within (sides_of J.vertex.map) j (y.side, J.label) (at-from_get (sides_of J.vertex.map) j (y.side, J.label) J.is_side) in
+      let w = is-at_within (sides_of J.vertex.map) j (y.side, J.label) J.is_side in
       let (p, x, a, e, f) = E.complete y.vertex j J.vertex J.is_vertex w in
       (p, x, a, side-same C x.side y x.number j x.is J e f, f)
 
@@ -93,7 +93,7 @@ module _ (s : Set) (C : Complex) (S : Shows s C) (faces : (i : ℕ) (v : Vertex)
 
   in-shell : (x : SideAt C) (n : Side) → IsSideListed (shell x) n → (u : SideAt C) × Lies (group x).list u × (name C u ≡ n)
   unfolding shell
-  in-shell x n (k, a) = let u = at-map (name C) (group x).list k n a in (u.0, at-lies (group x).list k u.0 u.1, u.2)
+  in-shell x n (k, a) = let u = is-at_map (name C) (group x).list k n a in (u.0, at-lies (group x).list k u.0 u.1, u.2)
 
   named-one : (n : Side) (x : VertexSide) (u : SideAt C) → name C u ≡ n → IsSideNamed C n x → u.side ≡ x
   named-one n x u e (f, J) = side-same C u.side x u.number n.side u.is J (ap (λ (z : Side). z.vertex) e ∙ sym f) (ap (λ (z : Side). z.side) e)
@@ -111,7 +111,7 @@ module _ (s : Set) (C : Complex) (S : Shows s C) (faces : (i : ℕ) (v : Vertex)
       let (p, w, a, e, g) = in-list y n.side J in
       let l = (group x).all w (at-lies E.list p w a) (subst (λ z. Chained (ShellLink C) z x.side) (sym e) c) in
       let k = lies-at (group x).list w l in
-      (k.0, subst (IsAt (map (name C) (group x).list) k.0) (name-same w n (ap (λ (z : VertexSide). z.vertex) e ∙ f) g) (map-at (name C) (group x).list k.0 w k.1))
+      (k.0, subst (IsAt (map (name C) (group x).list) k.0) (name-same w n (ap (λ (z : VertexSide). z.vertex) e ∙ f) g) (map-is_at (name C) (group x).list k.0 w k.1))
 
   from-shell : (x : SideAt C) (n : Side) (y : VertexSide) → IsSideNamed C n y → IsSideListed (shell x) n → Chained (ShellLink C) y x.side
   from-shell x n y N l = let (u, m, e) = in-shell x n l in subst (λ z. Chained (ShellLink C) z x.side) (named-one n y u e N) ((group x).sound u m).1
@@ -126,8 +126,8 @@ module _ (s : Set) (C : Complex) (S : Shows s C) (faces : (i : ℕ) (v : Vertex)
       λ c. to-shell x t z Z (chain-trans (ShellLink C) z y x.side (chain-turned (ShellLink C) y z c) (from-shell x n y Y m)),
     );
     ordered = λ i j n t k a b.
-        let u = at-map (name C) (group x).list i n a in
-        let w = at-map (name C) (group x).list j t b in
+        let u = is-at_map (name C) (group x).list i n a in
+        let w = is-at_map (name C) (group x).list j t b in
         subst (λ z. IsNameBelow z t) u.2 (subst (IsNameBelow (name C u.0)) w.2 (chain-order (Before C) (Before C) (group x).list (group x).ordered i j u.0 w.0 k u.1 w.1));
   }
     where
@@ -168,8 +168,8 @@ module _ (s : Set) (C : Complex) (S : Shows s C) (faces : (i : ℕ) (v : Vertex)
       shell-at : (i : ℕ) (h : List Side) → IsAt (shell_sides row) i h → (x : SideAt C) × IsAt firsts.list i x × (shell x ≡ h)
       unfolding row made
       shell-at i h a =
-          let r = at-map (λ (g : Shell). g.sides) (map made firsts.list) i h a in
-          let x = at-map made firsts.list i r.0 r.1 in
+          let r = is-at_map (λ (g : Shell). g.sides) (map made firsts.list) i h a in
+          let x = is-at_map made firsts.list i r.0 r.1 in
           (x.0, x.1, ap (λ (g : Shell). g.sides) x.2 ∙ r.2)
 
       first-in : (i : ℕ) (x : SideAt C) → IsAt firsts.list i x → Lies E.list x × (IsIn x × ((y : SideAt C) → Lies E.list y → One y x → Before C y x → ⊥))
@@ -188,11 +188,11 @@ module _ (s : Set) (C : Complex) (S : Shows s C) (faces : (i : ℕ) (v : Vertex)
           let (x, l, c) = leader-of (Before C) self below turned One here back on one-decided E.list (order-chain (Before C) E.list E.ordered) IsIn (volume-decided n) (carried n) w (at-lies E.list p w a) (subst (λ z. IsVolumeOf C rows z n) (sym e) (j, J, t)) in
           let k = lies-at firsts.list x l in
           let T : IsSideNamed C (record { vertex = y.vertex; side = j }) y = (refl, J) in
-          (k.0, shell x, record { vertex = y.vertex; side = j }, map-at (λ (g : Shell). g.sides) (map made firsts.list) k.0 (made x) (map-at made firsts.list k.0 x k.1), to-shell x (record { vertex = y.vertex; side = j }) y T (subst (λ z. Chained (ShellLink C) z x.side) e c), T)
+          (k.0, shell x, record { vertex = y.vertex; side = j }, map-is_at (λ (g : Shell). g.sides) (map made firsts.list) k.0 (made x) (map-is_at made firsts.list k.0 x k.1), to-shell x (record { vertex = y.vertex; side = j }) y T (subst (λ z. Chained (ShellLink C) z x.side) e c), T)
 
       first-name : (i : ℕ) (x : SideAt C) → IsAt firsts.list i x → IsAt (shell x) 0 (name C x)
       unfolding shell group
-      first-name i x a = let r = first-in i x a in map-at (name C) (group x).list 0 x (leads (Before C) self below turned One here back on one-decided E.list (order-chain (Before C) E.list E.ordered) x r.0 r.1.1)
+      first-name i x a = let r = first-in i x a in map-is_at (name C) (group x).list 0 x (leads (Before C) self below turned One here back on one-decided E.list (order-chain (Before C) E.list E.ordered) x r.0 r.1.1)
 
       ordered : InOrder IsShellBelow (shell_sides row)
       ordered i k g h less a b =

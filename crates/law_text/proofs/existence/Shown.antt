@@ -1,6 +1,6 @@
 -- Every set whose carriers are planes of the program, and not too many, has a complex of the program that shows it. In each complex of the program that shows a set the maps are within their limits.
-use Rattle.law_text.proofs.existence.Prelude.{◌≡◌, ℕ, ◌≤◌, ◌^◌, refl, sym, ap, ◌∙◌, List, length, map, subst, [], each, SpacePoint, Form, Set, IsAt, Map, Vertex as PlainVertex, Edge as PlainEdge, SamePlane, Shows, form_of, point_of, Plane, map_of, map-at, at-map, at-from_get, vertex_of, edge_of, complex_of, HasLeastMaps, AreCarried, EveryCarriedSetIsShown, at-lies}
-use Rattle.nef_complex.specs.Index.{skeleton}
+use Rattle.law_text.proofs.existence.Prelude.{◌≡◌, ℕ, ◌≤◌, ◌^◌, refl, sym, ap, ◌∙◌, List, length, map, subst, [], each, SpacePoint, Form, Set, IsAt, Map, Vertex as PlainVertex, Edge as PlainEdge, SamePlane, Shows, form_of, point_of, Plane, map_of, map-is_at, is-at_map, vertex_of, edge_of, complex_of, HasLeastMaps, AreCarried, EveryCarriedSetIsShown, at-lies}
+use Rattle.nef_complex.specs.Index.{indexed_lists}
 use Rattle.nef_complex.specs.declared.complex.Complex.{Complex}
 use Rattle.nef_complex.specs.declared.complex.Vertex.{Vertex}
 use Rattle.nef_index.specs.declared.skeleton.Edge.{Edge}
@@ -54,20 +54,20 @@ module _ (s : Set) (hs : List Plane) (few : length hs ≤ 2 ^ 32) (A : AreCarrie
 
 -- EVERY SUCH SET HAS A COMPLEX
 pub carried-shown : EveryCarriedSetIsShown
-carried-shown s hs few A = let L = lists s hs few A in (record { carriers = L.carriers; vertices = L.vertices; edges = L.edges; has_item = []; index = skeleton L.carriers L.vertices L.edges }, L.shows)
+carried-shown s hs few A = let L = lists s hs few A in (record { carriers = L.carriers; vertices = L.vertices; edges = L.edges; has_item = []; index = indexed_lists L.carriers L.vertices L.edges }, L.shows)
 
 -- ---- the maps of a complex that shows a set
 -- its carriers are planes of the program
 shown-carried : (s : Set) (c : Complex) → Shows s (complex_of c) → AreCarried s c.carriers
 shown-carried s c S f l =
     let (k, g, a, same) = S.carriers.all f l in
-    let h = at-map form_of c.carriers k g a in
+    let h = is-at_map form_of c.carriers k g a in
     (h.0, at-lies c.carriers k h.0 h.1, subst (λ (e : Form). SamePlane e f) (sym h.2) same)
 
 -- so the maps are least, and within their limits
 pub shown-maps : (s : Set) (c : Complex) → Shows s (complex_of c) → HasLeastMaps c
 shown-maps s c S i v a =
-    let b : IsAt (map vertex_of c.vertices) i (vertex_of v) = map-at vertex_of c.vertices i v (at-from_get c.vertices i v a) in
+    let b : IsAt (map vertex_of c.vertices) i (vertex_of v) = map-is_at vertex_of c.vertices i v a in
     let A = shown-carried s c S in
     record {
       sphere_map = record {

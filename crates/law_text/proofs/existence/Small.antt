@@ -1,5 +1,5 @@
 -- The maps of a set whose carriers are planes of the program are within the limits: their svertices are crossings of two carriers, and their items lie in one.
-use Rattle.law_text.proofs.existence.Prelude.{◌≡◌, ℕ, ◌*◌, ◌<◌, ◌≤◌, ◌^◌, lit≤, arith, sym, ◌⊎◌, inl, inr, ⊎_elim, List, length, map, subst, mul-le, length-map, pairs, lies-pairs, Lies, normal_limit, svertex_limit, Form, normal_of, Set, Vector, cross, IsZero, IsDirection, SameDirection, IsOpposite, IsNormal, IsPrimitive, IsAt, MapVertex, Item, items, item_normal, Beside, same_way, other_way, beside, normal-direction, direction-decided, lowest-same, Vertex, Edge, Complex, Shows, near_point, near-one, plane-turned, plane-slope, onward, onward-way, form_of, Plane, cross_size, normal_within, at-map, at-within, carried, AreCarried, cross-turned, parallel-both, SameDirection-turned, SameDirection-trans, dir-self, crossed, opposite-cross, opposite-way, lies-at, cross-direction_turned}
+use Rattle.law_text.proofs.existence.Prelude.{◌≡◌, ℕ, ◌*◌, ◌<◌, ◌≤◌, ◌^◌, lit≤, arith, sym, ◌⊎◌, inl, inr, ⊎_elim, List, length, map, subst, mul-le, length-map, pairs, lies-pairs, Lies, normal_limit, svertex_limit, Form, normal_of, Set, Vector, cross, IsZero, IsDirection, SameDirection, IsOpposite, IsNormal, IsPrimitive, IsAt, MapVertex, Item, items, item_normal, Beside, same_way, other_way, beside, normal-direction, direction-decided, lowest-same, Vertex, Edge, Complex, Shows, near_point, near-one, plane-turned, plane-slope, onward, onward-way, form_of, Plane, cross_size, normal_within, is-at_map, is-at_within, carried, AreCarried, cross-turned, parallel-both, SameDirection-turned, SameDirection-trans, dir-self, crossed, opposite-cross, opposite-way, lies-at, cross-direction_turned}
 use Rattle.law_near.proofs.Supports.{edge-support}
 use Rattle.law_sphere.proofs.cones.Lowest.{lowest}
 use Rattle.law_complex.proofs.Edges.{near-flat}
@@ -84,7 +84,7 @@ module _ (s : Set) (hs : List Plane) (A : AreCarried s hs) (gs : List Plane) (vs
     pub item-short : (k : ℕ) (x : Item) → IsAt (items v.map) k x → IsShortVector normal_limit (item_normal x)
     item-short k x b =
         let K = carried s C (record { vertex = i; item = k }) v x S (record { vertex = a; item = b }) in
-        let g = at-map form_of gs K.number K.plane K.listed in
+        let g = is-at_map form_of gs K.number K.plane K.listed in
         let w : SameDirection (normal_of (form_of g.0)) (item_normal x) = subst (λ (f : Form). IsNormal (normal_of f) → SameDirection (normal_of f) (item_normal x)) (sym g.2) K.normal g.0.normal in
         let p = (S.maps_ordered i v a).normals_lowest k x b in
         record {
@@ -121,15 +121,15 @@ module _ (s : Set) (hs : List Plane) (A : AreCarried s hs) (gs : List Plane) (vs
 
     svertices-once : Once (map dir-of-svertex v.map.svertices)
     svertices-once j k d b c =
-        let t = at-map dir-of-svertex v.map.svertices j d b in
-        let u = at-map dir-of-svertex v.map.svertices k d c in
+        let t = is-at_map dir-of-svertex v.map.svertices j d b in
+        let u = is-at_map dir-of-svertex v.map.svertices k d c in
         let hd : IsDirection d = subst IsDirection t.2 ((S.cones i v a).valid.shaped.svertex_dirs j t.0 t.1) in
         (S.cones i v a).valid.shaped.svertices_apart j k t.0 u.0 t.1 u.1 (subst (λ (x : Vector). SameDirection x u.0.dir) (sym t.2) (subst (SameDirection d) (sym u.2) (dir-self d hd)))
 
     svertices-few : length v.map.svertices ≤ length hs * length hs
     svertices-few =
         let l = few (map dir-of-svertex v.map.svertices) (pairs crossing hs hs) svertices-once
-        (λ d m. let k = lies-at (map dir-of-svertex v.map.svertices) d m in let u = at-map dir-of-svertex v.map.svertices k.0 d k.1 in subst (Lies (pairs crossing hs hs)) u.2 (svertex-listed k.0 u.0 u.1)) in
+        (λ d m. let k = lies-at (map dir-of-svertex v.map.svertices) d m in let u = is-at_map dir-of-svertex v.map.svertices k.0 d k.1 in subst (Lies (pairs crossing hs hs)) u.2 (svertex-listed k.0 u.0 u.1)) in
         let e = length-pairs crossing hs hs in
         let f = length-map v.map.svertices dir-of-svertex in
         omega (arith, l, e, f)
@@ -144,7 +144,7 @@ module _ (s : Set) (hs : List Plane) (A : AreCarried s hs) (gs : List Plane) (vs
       where
         within : (k : ℕ) (u : MapVertex) → IsAt v.map.svertices k u → k < 2 ^ 64
         within k u b =
-            let m = at-within v.map.svertices k u b in
+            let m = is-at_within v.map.svertices k u b in
             let f = svertices-few in
             let p : length hs * length hs ≤ 2 ^ 32 * 2 ^ 32 = mul-le (length hs) (length hs) (2 ^ 32) (2 ^ 32) l l in
             let q : 2 ^ 32 * 2 ^ 32 ≤ 2 ^ 64 = lit≤ tt in

@@ -1,5 +1,5 @@
 -- The sides of a complex of the program that shows a set have volume numbers: sides whose points are joined have one, and those that are outside have 0.
-use Rattle.law_text.proofs.existence.Prelude.{◌≡◌, ℕ, suc, ◌<◌, ◌≤◌, arith, refl, sym, ap, ◌∙◌, inr, ◌↔◌, List, subst, IsAt, Chained, FlatDim, HasLabel, SpacePoint, Set, Label, Out, Not, In, Side as MapSide, at-one, Vertex, Complex, Shows, VertexSide, HasSideLabel, same-itself, VolumeLink, IsAtSide, IsUpright, sides-joined, is-at_one, chain-here, chain-link, joined-items_linked, sides_of, LabelledSide, at-within, at-some, at-from_get, get-from_at, side-has, IsSideNumber, count_sides, IsVolumeOf, IsSideBelow, VolumeNumbers, side-point, chain-label}
+use Rattle.law_text.proofs.existence.Prelude.{◌≡◌, ℕ, suc, ◌<◌, ◌≤◌, arith, refl, sym, ap, ◌∙◌, inr, ◌↔◌, List, subst, IsAt, Chained, FlatDim, HasLabel, SpacePoint, Set, Label, Out, Not, In, Side as MapSide, Vertex, Complex, Shows, VertexSide, HasSideLabel, same-itself, VolumeLink, IsAtSide, IsUpright, sides-joined, is-at_one, chain-here, chain-link, joined-items_linked, sides_of, LabelledSide, is-at_within, is-at_some, side-has, IsSideNumber, count_sides, IsVolumeOf, IsSideBelow, VolumeNumbers, side-point, chain-label}
 use Rattle.nef_conn.proofs.SidesName.{converse-for_all}
 use Rattle.law_text.proofs.existence.Connected.{class-number, class-same}
 use Rattle.law_text.proofs.existence.Elements.{Elements, elements}
@@ -19,7 +19,7 @@ side-col C x = x.number
 -- a vertex has one side with a number
 pub side-same : (C : Complex) (x y : VertexSide) (i j : ℕ) → IsSideNumber C x i → IsSideNumber C y j → x.vertex ≡ y.vertex → i ≡ j → x ≡ y
 side-same C x y i j I J e f =
-    let v = at-one C.vertices y.vertex I.vertex J.vertex (subst (λ n. IsAt C.vertices n I.vertex) e I.is_vertex) J.is_vertex in
+    let v = is-at_one C.vertices y.vertex I.vertex J.vertex (subst (λ n. IsAt C.vertices n I.vertex) e I.is_vertex) J.is_vertex in
     let a : IsAt (sides_of J.vertex.map) j (x.side, I.label) = subst (λ n. IsAt (sides_of J.vertex.map) n (x.side, I.label)) f (subst (λ (w : Vertex). IsAt (sides_of w.map) i (x.side, I.label)) v I.is_side) in
     let g = is-at_one (sides_of J.vertex.map) j (x.side, I.label) (y.side, J.label) a J.is_side in
     ap (λ n. made n x.side) e ∙ ap (λ (o : LabelledSide). made y.vertex o.0) g
@@ -33,11 +33,11 @@ number-label C x j J = (J.vertex, J.is_vertex, side-has J.vertex.map j x.side J.
 module _ (C : Complex) where
   pub side-make : (i k : ℕ) (v : Vertex) → IsAt C.vertices i v → k < count_sides v → (x : SideAt C) × (side-row C x ≡ i) × (side-col C x ≡ k)
   side-make i k v a l =
-      let o = at-some (sides_of v.map) k l in
-      (record { side = record { vertex = i; side = o.0.0 }; number = k; is = record { vertex = v; is_vertex = a; label = o.0.1; is_side = get-from_at (sides_of v.map) k o.0 o.1 } }, refl, refl)
+      let o = is-at_some (sides_of v.map) k l in
+      (record { side = record { vertex = i; side = o.0.0 }; number = k; is = record { vertex = v; is_vertex = a; label = o.0.1; is_side = o.1 } }, refl, refl)
 
   pub side-sound : (xs : List (SideAt C)) (p : ℕ) (x : SideAt C) → IsAt xs p x → (v : Vertex) × IsAt C.vertices (side-row C x) v × (side-col C x < count_sides v)
-  side-sound xs p x a = (x.is.vertex, x.is.is_vertex, at-within (sides_of x.is.vertex.map) x.number (x.side.side, x.is.label) (at-from_get (sides_of x.is.vertex.map) x.number (x.side.side, x.is.label) x.is.is_side))
+  side-sound xs p x a = (x.is.vertex, x.is.is_vertex, is-at_within (sides_of x.is.vertex.map) x.number (x.side.side, x.is.label) x.is.is_side)
 
   pub all-sides : Elements (side-row C) (side-col C) C.vertices count_sides (side-make)
   all-sides = elements (side-row C) (side-col C) C.vertices count_sides side-make
@@ -102,7 +102,7 @@ module _ (s : Set) (C : Complex) (S : Shows s C) (upright : IsUpright C) where
           then N = (
             T.rows,
             record {
-              shape = record { as_many = T.as_many; row = λ i v ns a b. T.long i v ns a (at-from_get T.rows i ns b) };
+              shape = record { as_many = T.as_many; row = λ i v ns a b. T.long i v ns a b };
               numbered = record { by_class = by-class; by_appearance = by-appearance };
               outside = outside;
             },

@@ -1,4 +1,4 @@
-use Rattle.nef_cand.proofs.Prelude.{◌<◌, length, arith, is-at_some, complex_of, get-from_at, got-at, IsNamedBetween, CutsEdgeByOne, CutsEdgeHeldOne}
+use Rattle.nef_cand.proofs.Prelude.{◌<◌, length, arith, is-at_some, complex_of, IsNamedBetween, CutsEdgeByOne, CutsEdgeHeldOne}
 use Rattle.nef_cand.proofs.Adding.{adds-none, any-next, any-until, any-all}
 use Rattle.nef_cand.proofs.NearCuts.{near-all, edge-passed}
 use Rattle.nef_cand.proofs.listing.add_near_cuts.Goals as goal
@@ -12,7 +12,7 @@ loop-number-preserved c =
     let l : i < length C.edges = (let t = c.loop-number-test.true in let n = c.len-number-end.ensures.len in omega arith) in
     let e = is-at_some C.edges i l in
     record {
-      added = any-next (CutsEdgeByOne C c.args.near.now) (CutsEdgeHeldOne C D c.args.near.now) N C.edges i e.0 c.args.listed.now.items c.loop-number.listed.items c.add_edge_cuts.new.listed.items (got-at C.edges i e.0 e.1) c.loop-number.invariant.added
+      added = any-next (CutsEdgeByOne C c.args.near.now) (CutsEdgeHeldOne C D c.args.near.now) N C.edges i e.0 c.args.listed.now.items c.loop-number.listed.items c.add_edge_cuts.new.listed.items e.1 c.loop-number.invariant.added
           (c.in_ok-add_edge_cuts.ensures.added e.0 e.1);
     }
 
@@ -23,7 +23,7 @@ returns-then-is_past c =
     record {
       added = near-all C D xs N c.args.listed.now.items c.loop-number.listed.items
           (any-until (CutsEdgeByOne C xs) (CutsEdgeHeldOne C D xs) N C.edges i c.args.listed.now.items c.loop-number.listed.items
-          (λ k e y l a h. edge-passed C D e xs c.requires.near around c.around_carriers-around.ensures.wide (c.is_past.ensures.past c.if-is_past.true k e l (get-from_at C.edges k e a)) y h)
+          (λ k e y l a h. edge-passed C D e xs c.requires.near around c.around_carriers-around.ensures.wide (c.is_past.ensures.past c.if-is_past.true k e l a) y h)
           c.loop-number.invariant.added);
     }
 

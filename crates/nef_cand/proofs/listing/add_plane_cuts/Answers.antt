@@ -1,4 +1,4 @@
-use Rattle.nef_cand.proofs.Prelude.{◌<◌, length, arith, ap, sym, ◌∙◌, subst, is-at_some, complex_of, got-at, IsNamedIn, AddsPoints, CutsEdge}
+use Rattle.nef_cand.proofs.Prelude.{◌<◌, length, arith, ap, sym, ◌∙◌, subst, is-at_some, complex_of, IsNamedIn, AddsPoints, CutsEdge}
 use Rattle.nef_cand.proofs.Adding.{adds-none, adds-one, any-next, any-all}
 use Rattle.nef_cand.proofs.Held.{cut-named, cuts-all}
 use Rattle.nef_cand.proofs.listing.add_plane_cuts.Goals.{in-Some+in_ok-push, in_default}
@@ -12,7 +12,7 @@ loop-number-preserved c =
     let C = c.args.c.now in let i = c.loop-number.number in let N = IsNamedIn c.args.operand (complex_of C) in let h = c.args.h.now in
     let P = CutsEdge C h in let old = c.loop-number.listed.items in
     let l : i < length C.edges = (let t = c.loop-number-test.true in let n = c.len-number-end.ensures.len in omega arith) in
-    let e = is-at_some C.edges i l in let at = got-at C.edges i e.0 e.1 in
+    let e = is-at_some C.edges i l in let at = e.1 in
     record {
       added = any-next P P N C.edges i e.0 c.args.listed.now.items old c.match-crossing.listed.items at c.loop-number.invariant.added
           (elim c.match-crossing.branch [

@@ -1,4 +1,4 @@
-use Rattle.nef_cand.proofs.Prelude.{refl, sym, subst, point_of, form_of, hit_point, same-point_sym, is-at_some, got-at, level-same, IsHeldCutOf}
+use Rattle.nef_cand.proofs.Prelude.{refl, sym, subst, point_of, form_of, hit_point, same-point_sym, is-at_some, level-same, IsHeldCutOf}
 use Rattle.nef_cand.proofs.NearCuts.{never-held, nothing-held, held-named}
 use Rattle.nef_cand.proofs.listing.held_cut.Goals as goal
 
@@ -27,7 +27,7 @@ returns c = record {
   cut = λ e i.
       let C = c.args.c.now in let x = c.in_ok-point.ensures.crossing e i in (
         x.0,
-        held-named c.args.operand C c.args.other.now c.args.carrier.now.plane c.args.number e (got-at C.edges c.args.number e i) c.in_ok-point.point (hit_point c.hit_at.result) c.hit_at.ensures.same x.0
+        held-named c.args.operand C c.args.other.now c.args.carrier.now.plane c.args.number e i c.in_ok-point.point (hit_point c.hit_at.result) c.hit_at.ensures.same x.0
             c.in_ok-place.place c.in_ok-place.ensures.at,
         x.1,
       );

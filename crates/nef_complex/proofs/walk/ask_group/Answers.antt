@@ -1,4 +1,4 @@
-use Rattle.nef_complex.proofs.Prelude.{ℕ, ◌+◌, ◌<◌, List, length, arith, rules, get_or, sym, ◌∙◌, subst, IsAt, not_true, is-at_get, is-at_within, at-from_get, Span, AreNumbersOf, LiesOutside}
+use Rattle.nef_complex.proofs.Prelude.{ℕ, ◌+◌, ◌<◌, List, length, arith, rules, get_or, sym, ◌∙◌, subst, IsAt, not_true, is-at_get, is-at_within, Span, AreNumbersOf, LiesOutside}
 use Rattle.nef_complex.proofs.Reading.{next-all}
 use Rattle.nef_complex.proofs.Outside.{no_span, carrier-outside}
 use Rattle.nef_complex.proofs.walk.ask_group.Goals.{then-may_meet, else-may_meet}
@@ -59,4 +59,4 @@ pub returns-clause-passed : goal.returns-clause-passed
 returns-clause-passed g c = λ k (j, a).
     let ns : List ℕ = c.as_slice-number-items.result.now in
     let b = subst (λ (xs : List ℕ). IsAt xs j k) (sym c.as_slice-number-items.ensures.all) a in
-    c.loop-number.invariant.2 j k (let l = is-at_within ns j k b in let t = c.loop-number-test.false in omega (arith, l, t)) (at-from_get ns j k b)
+    c.loop-number.invariant.2 j k (let l = is-at_within ns j k b in let t = c.loop-number-test.false in omega (arith, l, t)) b

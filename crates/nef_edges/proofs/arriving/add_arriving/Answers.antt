@@ -1,8 +1,8 @@
 use Rattle.nef_edges.proofs.Prelude.{◌≡◌, ◌+◌, ◌<◌, ◌≤◌, length, List, sym, ap, subst, ◌∙◌, get_or, Vec, Global, opposite, IsNormal, vector_of, SVertex, EdgeEnd, AreArriving, IsEarlierSvertex}
 use Rattle.nef_edges.proofs.Arrivals.{before-row, arriving-weaken, arriving-pass, arriving-end, arriving-add, IsTrue-false}
-use Rattle.nef_edges.proofs.Places.{read-at}
 use Rattle.nef_edges.proofs.arriving.add_arriving.Goals.{then-is_normal+in_ok-push, else-is_normal}
 use Rattle.nef_edges.proofs.arriving.add_arriving.Goals as goal
+use Rattle.nef_space.proofs.Lists.{is-at_read}
 
 pub loop-k-init : goal.loop-k-init
 loop-k-init c = record { added = c.requires.before }
@@ -11,9 +11,9 @@ pub loop-k-preserved : goal.loop-k-preserved
 loop-k-preserved c =
     let vs = c.args.vertices.now in let i = c.args.i in let k = c.loop-k.k in
     let v = c.index-vertices-i.result in let s = c.svertex-item.result in
-    let a = read-at vs i v c.requires.within c.index-vertices-i.is in
+    let a = is-at_read vs i v c.requires.within c.index-vertices-i.is in
     let all = c.as_slice-svertex-items.ensures.all in
-    let b = read-at v.map.svertices k s (subst (λ (ss : List SVertex). k < length ss) all c.loop-k-test.true) (subst (λ (ss : List SVertex). s ≡ get_or ss k s) all c.svertex-item.is) in
+    let b = is-at_read v.map.svertices k s (subst (λ (ss : List SVertex). k < length ss) all c.loop-k-test.true) (subst (λ (ss : List SVertex). s ≡ get_or ss k s) all c.svertex-item.is) in
     record {
       added = elim c.if-is_normal.branch [
         | then-is_normal+in_ok-push w ↦
@@ -30,6 +30,6 @@ pub returns : goal.returns
 returns c =
     let vs = c.args.vertices.now in let i = c.args.i in let k = c.loop-k.k in
     let v = c.index-vertices-i.result in
-    let a = read-at vs i v c.requires.within c.index-vertices-i.is in
+    let a = is-at_read vs i v c.requires.within c.index-vertices-i.is in
     let l = subst (λ (ss : List SVertex). length ss ≤ k) c.as_slice-svertex-items.ensures.all c.loop-k-test.false in
     record { added = arriving-weaken vs (IsEarlierSvertex i k) (IsEarlierSvertex (i + 1) 0) c.loop-k.ends.items c.loop-k.invariant.added (before-row vs i k v a l) }

@@ -2,17 +2,17 @@ use Rattle.nef_edges.proofs.Prelude.{◌≡◌, ◌+◌, ◌<◌, ◌≤◌, len
 use Rattle.nef_edges.proofs.Added.{edges-row, edges-pass, edges-add}
 use Rattle.nef_edges.proofs.Arrivals.{IsTrue-false}
 use Rattle.nef_edges.proofs.Partners.{leading, some-after, pair-is}
-use Rattle.nef_edges.proofs.Places.{read-at}
 use Rattle.nef_edges.proofs.pairing.add_edges.Goals.{then-is_normal+in_ok-push, else-is_normal}
 use Rattle.nef_edges.proofs.pairing.add_edges.Goals as goal
+use Rattle.nef_space.proofs.Lists.{is-at_read}
 
 pub next_after-next-requires-clause-some : goal.next_after-next-requires-clause-some
 next_after-next-requires-clause-some c =
     let vs = c.args.vertices.now in let i = c.args.i in let k = c.loop-k.k in
     let v = c.index-vertices-i.result in let s = c.svertex-item.result in
-    let a = read-at vs i v c.requires.within c.index-vertices-i.is in
+    let a = is-at_read vs i v c.requires.within c.index-vertices-i.is in
     let all = c.as_slice-svertex-items.ensures.all in
-    let b = read-at v.map.svertices k s (subst (λ (ss : List SVertex). k < length ss) all c.loop-k-test.true) (subst (λ (ss : List SVertex). s ≡ get_or ss k s) all c.svertex-item.is) in
+    let b = is-at_read v.map.svertices k s (subst (λ (ss : List SVertex). k < length ss) all c.loop-k-test.true) (subst (λ (ss : List SVertex). s ≡ get_or ss k s) all c.svertex-item.is) in
     some-after vs c.requires.joined c.args.arriving.now c.requires.arriving c.of-from.result
     (leading vs i k v s c.of-from.result a b c.of-from.ensures.point c.of-from.ensures.dir c.of-from.ensures.vertex c.of-from.ensures.svertex (c.is_normal.ensures.normal.0 c.if-is_normal.true))
 
@@ -20,9 +20,9 @@ pub loop-k-preserved : goal.loop-k-preserved
 loop-k-preserved c =
     let vs = c.args.vertices.now in let i = c.args.i in let k = c.loop-k.k in
     let v = c.index-vertices-i.result in let s = c.svertex-item.result in
-    let a = read-at vs i v c.requires.within c.index-vertices-i.is in
+    let a = is-at_read vs i v c.requires.within c.index-vertices-i.is in
     let all = c.as_slice-svertex-items.ensures.all in
-    let b = read-at v.map.svertices k s (subst (λ (ss : List SVertex). k < length ss) all c.loop-k-test.true) (subst (λ (ss : List SVertex). s ≡ get_or ss k s) all c.svertex-item.is) in
+    let b = is-at_read v.map.svertices k s (subst (λ (ss : List SVertex). k < length ss) all c.loop-k-test.true) (subst (λ (ss : List SVertex). s ≡ get_or ss k s) all c.svertex-item.is) in
     record {
       added = elim c.if-is_normal.branch [
         | then-is_normal+in_ok-push w ↦
@@ -42,6 +42,6 @@ pub returns : goal.returns
 returns c =
     let vs = c.args.vertices.now in let i = c.args.i in let k = c.loop-k.k in
     let v = c.index-vertices-i.result in
-    let a = read-at vs i v c.requires.within c.index-vertices-i.is in
+    let a = is-at_read vs i v c.requires.within c.index-vertices-i.is in
     let l = subst (λ (ss : List SVertex). length ss ≤ k) c.as_slice-svertex-items.ensures.all c.loop-k-test.false in
     record { added = edges-row vs c.requires.joined i k c.loop-k.edges.items v a l c.loop-k.invariant.added }

@@ -1,4 +1,4 @@
-use Rattle.nef_facets.proofs.Prelude.{ℕ, ◌+◌, List, length, set, arith, refl, ap, sym, ◌∙◌, subst, Vec, Global, length-set, length-map, is-at_within, arc_of, read, some-at, at-map, Corner, vertex_of, complex_of, corner_of}
+use Rattle.nef_facets.proofs.Prelude.{ℕ, ◌+◌, List, length, set, arith, refl, ap, sym, ◌∙◌, subst, Vec, Global, length-set, length-map, is-at_within, arc_of, read, map-is_at, Corner, vertex_of, complex_of, corner_of}
 use Rattle.nef_facets.proofs.CornerLists.{corner}
 use Rattle.nef_facets.proofs.Nexts.{HaveNextCorners, from-within, to-within, into, here-item, there-item, follows, added-pass, added-next, added-all}
 use Rattle.nef_facets.proofs.cycles.add_next.Goals.{then-arc-from, else-arc-from}
@@ -18,9 +18,9 @@ arc_into-item-requires c =
     let C = c.args.c.now in let from = c.args.from.now in let to = c.args.to.now in
     let u = c.at.result.now in let w = c.at-then-arc-from.result.now in
     let n = c.loop-number.number in let r = c.arc-item.result in
-    let l = some-at u.map.arcs n r (read u.map.arcs c.as_slice-arc-items.result.now n r c.as_slice-arc-items.ensures.all c.loop-number-test.true c.arc-item.is) in
+    let l = (read u.map.arcs c.as_slice-arc-items.result.now n r c.as_slice-arc-items.ensures.all c.loop-number-test.true c.arc-item.is) in
     record {
-      some = into S.0 C S.1.shows E.0 E.1 E.2 from.vertex from.svertex to.vertex to.svertex E.3 u w (some-at C.vertices from.vertex u c.at.ensures.element) (some-at C.vertices to.vertex w c.at-then-arc-from.ensures.element)
+      some = into S.0 C S.1.shows E.0 E.1 E.2 from.vertex from.svertex to.vertex to.svertex E.3 u w c.at.ensures.element c.at-then-arc-from.ensures.element
           n r l c.if-arc-from.true;
     }
 
@@ -30,9 +30,9 @@ position-place-requires-clause-listed c =
     let C = c.args.c.now in let from = c.args.from.now in let to = c.args.to.now in
     let u = c.at.result.now in let w = c.at-then-arc-from.result.now in
     let n = c.loop-number.number in let r = c.arc-item.result in
-    let l = some-at u.map.arcs n r (read u.map.arcs c.as_slice-arc-items.result.now n r c.as_slice-arc-items.ensures.all c.loop-number-test.true c.arc-item.is) in
+    let l = (read u.map.arcs c.as_slice-arc-items.result.now n r c.as_slice-arc-items.ensures.all c.loop-number-test.true c.arc-item.is) in
     c.requires.corners.all (corner_of (corner from.vertex n))
-    (here-item S.0 C S.1.shows E.0 E.1 E.2 from.vertex from.svertex to.vertex to.svertex E.3 u w (some-at C.vertices from.vertex u c.at.ensures.element) (some-at C.vertices to.vertex w c.at-then-arc-from.ensures.element)
+    (here-item S.0 C S.1.shows E.0 E.1 E.2 from.vertex from.svertex to.vertex to.svertex E.3 u w c.at.ensures.element c.at-then-arc-from.ensures.element
     n r l c.if-arc-from.true)
 
 pub position-following-requires-clause-listed : goal.position-following-requires-clause-listed
@@ -41,9 +41,9 @@ position-following-requires-clause-listed c =
     let C = c.args.c.now in let from = c.args.from.now in let to = c.args.to.now in
     let u = c.at.result.now in let w = c.at-then-arc-from.result.now in
     let n = c.loop-number.number in let r = c.arc-item.result in
-    let l = some-at u.map.arcs n r (read u.map.arcs c.as_slice-arc-items.result.now n r c.as_slice-arc-items.ensures.all c.loop-number-test.true c.arc-item.is) in
+    let l = (read u.map.arcs c.as_slice-arc-items.result.now n r c.as_slice-arc-items.ensures.all c.loop-number-test.true c.arc-item.is) in
     c.requires.corners.all (corner_of (corner to.vertex c.arc_into-item.result))
-    (there-item S.0 C S.1.shows E.0 E.1 E.2 from.vertex from.svertex to.vertex to.svertex E.3 u w (some-at C.vertices from.vertex u c.at.ensures.element) (some-at C.vertices to.vertex w c.at-then-arc-from.ensures.element)
+    (there-item S.0 C S.1.shows E.0 E.1 E.2 from.vertex from.svertex to.vertex to.svertex E.3 u w c.at.ensures.element c.at-then-arc-from.ensures.element
     n r l c.if-arc-from.true c.arc_into-item.result c.arc_into-item.ensures.arc)
 
 pub index_mut-requires : goal.index_mut-requires
@@ -58,8 +58,8 @@ loop-number-preserved c =
     let ks : List Corner = c.args.corners.now in
     let u = c.at.result.now in
     let n = c.loop-number.number in let r = c.arc-item.result in
-    let l = some-at u.map.arcs n r (read u.map.arcs c.as_slice-arc-items.result.now n r c.as_slice-arc-items.ensures.all c.loop-number-test.true c.arc-item.is) in
-    let p = some-at C.vertices from.vertex u c.at.ensures.element in
+    let l = (read u.map.arcs c.as_slice-arc-items.result.now n r c.as_slice-arc-items.ensures.all c.loop-number-test.true c.arc-item.is) in
+    let p = c.at.ensures.element in
     let start : List ℕ = c.args.next.now.items in
     let old : List ℕ = c.loop-number.next.items in
     elim c.if-arc-from.branch [
@@ -70,13 +70,13 @@ loop-number-preserved c =
           let f = w.position-following.result in
           let items = ap (λ (x : Vec ℕ Global). x.items) w.next-is in
           subst (λ (ns : List ℕ). HaveNextCorners (complex_of C) ks from.vertex from.svertex (n + 1) start ns) (sym items)
-          (added-next (complex_of C) ks from.vertex from.svertex n start old c.loop-number.invariant (vertex_of u) (arc_of r) (at-map vertex_of C.vertices from.vertex u p) (at-map arc_of u.map.arcs n r l) c.requires.corners.ordered
+          (added-next (complex_of C) ks from.vertex from.svertex n start old c.loop-number.invariant (vertex_of u) (arc_of r) (map-is_at vertex_of C.vertices from.vertex u p) (map-is_at arc_of u.map.arcs n r l) c.requires.corners.ordered
           (set old d f) d f (corner to.vertex m) w.position-place.ensures.position w.position-following.ensures.position refl (length-set old d f ∙ c.loop-number.invariant.as_many)
-          (follows S.0 C S.1.shows E.0 E.1 E.2 from.vertex from.svertex to.vertex to.svertex E.3 u v p (some-at C.vertices to.vertex v w.at-then-arc-from.ensures.element) n r l w.if-arc-from.true m w.arc_into-item.ensures.arc))
+          (follows S.0 C S.1.shows E.0 E.1 E.2 from.vertex from.svertex to.vertex to.svertex E.3 u v p w.at-then-arc-from.ensures.element n r l w.if-arc-from.true m w.arc_into-item.ensures.arc))
       | else-arc-from w ↦
           let items = ap (λ (x : Vec ℕ Global). x.items) w.next-is in
           subst (λ (ns : List ℕ). HaveNextCorners (complex_of C) ks from.vertex from.svertex (n + 1) start ns) (sym items)
-          (added-pass (complex_of C) ks from.vertex from.svertex n start old c.loop-number.invariant (vertex_of u) (arc_of r) (at-map vertex_of C.vertices from.vertex u p) (at-map arc_of u.map.arcs n r l) w.if-arc-from.false)
+          (added-pass (complex_of C) ks from.vertex from.svertex n start old c.loop-number.invariant (vertex_of u) (arc_of r) (map-is_at vertex_of C.vertices from.vertex u p) (map-is_at arc_of u.map.arcs n r l) w.if-arc-from.false)
     ]
 
 pub returns-clause-added : goal.returns-clause-added
@@ -84,5 +84,5 @@ returns-clause-added c =
     let C = c.args.c.now in let from = c.args.from.now in
     let u = c.at.result.now in
     added-all (complex_of C) c.args.corners.now from.vertex from.svertex c.loop-number.number c.args.next.now.items c.loop-number.next.items c.loop-number.invariant (vertex_of u)
-    (at-map vertex_of C.vertices from.vertex u (some-at C.vertices from.vertex u c.at.ensures.element))
+    (map-is_at vertex_of C.vertices from.vertex u c.at.ensures.element)
     (let e = ap length c.as_slice-arc-items.ensures.all in let f = length-map u.map.arcs arc_of in let h = c.loop-number-test.false in omega arith)

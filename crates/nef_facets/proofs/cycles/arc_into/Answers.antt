@@ -1,4 +1,4 @@
-use Rattle.nef_facets.proofs.Prelude.{◌≡◌, ℕ, ◌+◌, ◌<◌, List, length, arith, ap, sym, ◌∙◌, ⊎_elim, not_true, SameDirection, Vector, vector_of, Arc, IsAt, SArc, arc_of, map, read, next-none, all-none, some-at, at-map}
+use Rattle.nef_facets.proofs.Prelude.{◌≡◌, ℕ, ◌+◌, ◌<◌, List, length, arith, ap, sym, ◌∙◌, ⊎_elim, not_true, SameDirection, Vector, vector_of, Arc, IsAt, SArc, arc_of, map, read, next-none, all-none, map-is_at}
 use Rattle.nef_smap.proofs.Prelude.{cases_lt}
 use Rattle.nef_facets.proofs.cycles.arc_into.Goals.{else-arc-svertex-via-then-arc-svertex+else-is_same, else-arc-svertex-via-else-arc-svertex}
 use Rattle.nef_facets.proofs.cycles.arc_into.Goals as goal
@@ -23,7 +23,7 @@ returns-then-is_same c =
     let as' = c.args.map.now.arcs in
     let n = c.loop-arc.number in
     let r = c.index-arcs-number.result in
-    record { arc = (arc_of r, at-map arc_of as' n r (some-at as' n r (read as' c.as_slice-arcs.result.now n r c.as_slice-arcs.ensures.all c.loop-arc.invariant.0 c.index-arcs-number.is)), c.if-arc-svertex.true, c.is_same.ensures.direction.0 c.if-is_same.true) }
+    record { arc = (arc_of r, map-is_at arc_of as' n r (read as' c.as_slice-arcs.result.now n r c.as_slice-arcs.ensures.all c.loop-arc.invariant.0 c.index-arcs-number.is), c.if-arc-svertex.true, c.is_same.ensures.direction.0 c.if-is_same.true) }
 
 pub loop-arc-preserved : goal.loop-arc-preserved
 loop-arc-preserved c =

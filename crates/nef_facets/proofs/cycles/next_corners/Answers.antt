@@ -1,11 +1,11 @@
-use Rattle.nef_facets.proofs.Prelude.{◌≡◌, ℕ, ◌<◌, List, length, get_or, arith, refl, ap, inl, inr, subst, IsAt, Out, is-at_get, some-at, at-map, map-at, at-within, edge_of, complex_of}
+use Rattle.nef_facets.proofs.Prelude.{◌≡◌, ℕ, ◌<◌, List, length, get_or, arith, refl, ap, inl, inr, subst, IsAt, Out, is-at_get, map-is_at, is-at_map, is-at_within, edge_of, complex_of}
 use Rattle.nef_index.specs.declared.skeleton.Edge.{Edge}
 use Rattle.nef_complex.specs.declared.complex.Complex.{Complex}
 use Rattle.nef_facets.proofs.Nexts.{next-none, next-more, next-all}
 use Rattle.nef_facets.proofs.cycles.next_corners.Goals as goal
 
 edge-here : (c : Complex) (es : List Edge) (i : ℕ) (d : Edge) → es ≡ c.edges → i < length es → IsAt (complex_of c).edges i (edge_of (get_or es i d))
-edge-here c es i d e h = at-map edge_of c.edges i (get_or es i d) (some-at c.edges i (get_or es i d) (subst (λ (xs : List Edge). IsAt xs i (get_or es i d)) e (is-at_get es i d h)))
+edge-here c es i d e h = map-is_at edge_of c.edges i (get_or es i d) (subst (λ (xs : List Edge). IsAt xs i (get_or es i d)) e (is-at_get es i d h))
 
 pub loop-edge-init : goal.loop-edge-init
 loop-edge-init c = next-none (complex_of c.args.c.now) c.args.corners.now c.in_ok-next.next.items c.in_ok-next.ensures.as_many c.in_ok-next.ensures.own
@@ -37,5 +37,5 @@ returns c =
     let S = c.requires.shows in let C = c.args.c.now in
     record {
       next = next-all S.0 (complex_of C) S.1.shows c.args.corners.now c.requires.corners c.loop-edge.edge-index c.loop-edge.next.items c.loop-edge.invariant
-          (λ m e a. let r = map-at edge_of C.edges m e a in let h = at-within C.edges m r.0 r.1 in let f = ap length c.as_slice-edge-items.ensures.all in let g = c.loop-edge-test.false in omega arith);
+          (λ m e a. let r = is-at_map edge_of C.edges m e a in let h = is-at_within C.edges m r.0 r.1 in let f = ap length c.as_slice-edge-items.ensures.all in let g = c.loop-edge-test.false in omega arith);
     }

@@ -1,4 +1,4 @@
-use Rattle.nef_facets.proofs.Prelude.{◌≡◌, ℕ, List, [], ◌∷◌, ◌++◌, length, ◌+◌, arith, ap, sym, ◌∙◌, subst, length-append, IsAt, read, some-at, at-map, map-at, at-within, Corner, vertex_of, complex_of, corners_at, StandFrom}
+use Rattle.nef_facets.proofs.Prelude.{◌≡◌, ℕ, List, [], ◌∷◌, ◌++◌, length, ◌+◌, arith, ap, sym, ◌∙◌, subst, length-append, IsAt, read, map-is_at, is-at_map, is-at_within, Corner, vertex_of, complex_of, corners_at, StandFrom}
 use Rattle.nef_facets.proofs.CornerLists.{AreCornersTo, no-corners, corners-next, starts-none, starts-next, all-corners}
 use Rattle.nef_facets.proofs.parts.corners.Goals as goal
 
@@ -17,7 +17,7 @@ loop-number-preserved c =
     let v = c.vertex-item.result in
     let old : List Corner = c.loop-number.all.items in let starts : List ℕ = c.loop-number.starts.items in
     let start : c.len-start.result ≡ length old = (let l = c.len-start.ensures in let o = c.loop-number.all.ok in omega (arith, l, o)) in
-    let a : IsAt C.vertices n (vertex_of v) = at-map vertex_of vs n v (some-at vs n v (read vs c.as_slice-vertex-items.result.now n v c.as_slice-vertex-items.ensures.all c.loop-number-test.true c.vertex-item.is)) in
+    let a : IsAt C.vertices n (vertex_of v) = map-is_at vertex_of vs n v (read vs c.as_slice-vertex-items.result.now n v c.as_slice-vertex-items.ensures.all c.loop-number-test.true c.vertex-item.is) in
     record {
       corners = subst (λ (ks : List Corner). AreCornersTo C (n + 1) ks) (sym c.in_ok-add_corners.ensures.added)
           (corners-next C n old c.loop-number.invariant.corners (vertex_of v) c.item_count.result a c.item_count.ensures.count);
@@ -30,7 +30,7 @@ loop-number-preserved c =
 pub returns : goal.returns
 returns c = record {
   all = all-corners (complex_of c.args.c.now) c.loop-number.number c.loop-number.all.items c.loop-number.invariant.corners
-      (λ k v a. let r = map-at vertex_of c.args.c.now.vertices k v a in let l = at-within c.args.c.now.vertices k r.0 r.1 in
+      (λ k v a. let r = is-at_map vertex_of c.args.c.now.vertices k v a in let l = is-at_within c.args.c.now.vertices k r.0 r.1 in
       let e = ap length c.as_slice-vertex-items.ensures.all in let f = c.loop-number-test.false in omega arith);
   starts = c.loop-number.invariant.starts;
 }

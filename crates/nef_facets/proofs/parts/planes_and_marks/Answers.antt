@@ -1,4 +1,4 @@
-use Rattle.nef_facets.proofs.Prelude.{◌≡◌, List, ◌+◌, get_or, sym, subst, is-at_get, is-at_within, item_mark, item_of, some-at, Label, Plane, Corner, complex_of, corner_of, IsMarkAt, IsPlaneAt}
+use Rattle.nef_facets.proofs.Prelude.{◌≡◌, List, ◌+◌, get_or, sym, subst, is-at_get, is-at_within, item_mark, item_of, Label, Plane, Corner, complex_of, corner_of, IsMarkAt, IsPlaneAt}
 use Rattle.nef_facets.proofs.ItemCarriers.{carrier-plane, vertex-within, item-within, of-item}
 use Rattle.nef_facets.proofs.Lists.{HasOneForEach, each-more}
 use Rattle.nef_facets.proofs.parts.planes_and_marks.Goals as goal
@@ -17,7 +17,7 @@ at-requires-in-loop-corner c =
 pub item_at-requires : goal.item_at-requires
 item_at-requires c =
     let ks : List Corner = c.args.corners.now in let i = c.loop-corner.corner-index in let k : Corner = get_or ks i (record { vertex = 0; item = 0 }) in
-    record { within = item-within c.args.c.now (corner_of k) (c.requires.corners i k (is-at_get ks i (record { vertex = 0; item = 0 }) c.loop-corner-test.true)) c.at-in-loop-corner.result.now (some-at c.args.c.now.vertices k.vertex c.at-in-loop-corner.result.now c.at-in-loop-corner.ensures.element) }
+    record { within = item-within c.args.c.now (corner_of k) (c.requires.corners i k (is-at_get ks i (record { vertex = 0; item = 0 }) c.loop-corner-test.true)) c.at-in-loop-corner.result.now c.at-in-loop-corner.ensures.element }
 
 pub loop-corner-preserved : goal.loop-corner-preserved
 loop-corner-preserved c =
@@ -28,7 +28,7 @@ loop-corner-preserved c =
     let d : Corner = record { vertex = 0; item = 0 } in
     let k : Corner = get_or ks i d in let a = is-at_get ks i d c.loop-corner-test.true in
     let m : Label = c.mark.result in
-    let own : Q m k = of-item c.args.c.now (corner_of k) (c.requires.corners i k a) c.at-in-loop-corner.result.now (some-at c.args.c.now.vertices k.vertex c.at-in-loop-corner.result.now c.at-in-loop-corner.ensures.element)
+    let own : Q m k = of-item c.args.c.now (corner_of k) (c.requires.corners i k a) c.at-in-loop-corner.result.now c.at-in-loop-corner.ensures.element
     (λ v x. m ≡ item_mark x) (item_of c.item_at.result) c.item_at.ensures.item c.mark.ensures.mark in
     record {
       planes = subst (λ (r : List Plane). HasOneForEach P (i + 1) r ks) (sym c.in_ok-push.ensures.ok)

@@ -1,4 +1,4 @@
-use Rattle.nef_facets.proofs.Prelude.{◌≡◌, pos, Option, None, refl, sym, ◌∙◌, subst, normal_of, Vector, dot, not_true, is-at_within, form_of, vector_of, some-at, Corner, complex_of, corner_of, vertex_of, meet_of, level-of_opposite, IsLinkedFrom}
+use Rattle.nef_facets.proofs.Prelude.{◌≡◌, pos, Option, None, refl, sym, ◌∙◌, subst, normal_of, Vector, dot, not_true, is-at_within, form_of, vector_of, Corner, complex_of, corner_of, vertex_of, meet_of, level-of_opposite, IsLinkedFrom}
 use Rattle.nef_locate.proofs.ItemsFound.{met-listed}
 use Rattle.nef_facets.proofs.ItemCarriers.{vertex-within, item-within, corner-at, carrier-plane}
 use Rattle.nef_facets.proofs.WayInward.{level-inward, not-on, none-along, linked-from, small-back, vertex-some, named-met}
@@ -14,7 +14,7 @@ pub item_holds-requires-clause-map : goal.item_holds-requires-clause-map
 item_holds-requires-clause-map c = (c.requires.shows.1.maps c.args.k.now.vertex c.at.result.now c.at.ensures.element).sphere_map
 
 pub item_holds-requires-clause-within : goal.item_holds-requires-clause-within
-item_holds-requires-clause-within c = item-within c.args.c.now (corner_of c.args.k.now) c.requires.corner c.at.result.now (some-at c.args.c.now.vertices c.args.k.now.vertex c.at.result.now c.at.ensures.element)
+item_holds-requires-clause-within c = item-within c.args.c.now (corner_of c.args.k.now) c.requires.corner c.at.result.now c.at.ensures.element
 
 pub carrier_items-requires-clause-within : goal.carrier_items-requires-clause-within
 carrier_items-requires-clause-within c = is-at_within c.args.c.now.carriers c.carrier_of-carrier.result c.at-h.result.now c.at-h.ensures.element
@@ -33,7 +33,7 @@ corner_toward-requires-clause-level c =
     let h = form_of c.at-h.result.now in
     let u = c.at.result.now in
     let r = c.item_holds.ensures.on in
-    let b = corner-at c.args.c.now (corner_of c.args.k.now) u (some-at c.args.c.now.vertices c.args.k.now.vertex u c.at.ensures.element) r.0 r.1 in
+    let b = corner-at c.args.c.now (corner_of c.args.k.now) u c.at.ensures.element r.0 r.1 in
     let level = level-inward c.requires.shows.0 c.args.c.now c.requires.shows.1 (corner_of c.args.k.now) (vertex_of u) r.0 b c.at-h.result.now (carrier-plane c.args.c.now (corner_of c.args.k.now) c.carrier_of-carrier.result c.at-h.result.now c.carrier_of-carrier.ensures.plane c.at-h.ensures.element)
     (vector_of c.plane_dir.result) (vector_of c.back-inward.result) c.plane_dir.ensures.dir c.plane_dir.ensures.in_plane c.back-inward.ensures.back in
     subst (λ (v : Vector). dot (normal_of h) v ≡ pos 0) (sym c.back.ensures.back) (level-of_opposite (normal_of h) (vector_of c.back-inward.result) level)
@@ -42,7 +42,7 @@ pub first_along_dir-requires-clause-no_svertex : goal.first_along_dir-requires-c
 first_along_dir-requires-clause-no_svertex c =
     let u = c.at.result.now in
     let r = c.item_holds.ensures.on in
-    let b = corner-at c.args.c.now (corner_of c.args.k.now) u (some-at c.args.c.now.vertices c.args.k.now.vertex u c.at.ensures.element) r.0 r.1 in
+    let b = corner-at c.args.c.now (corner_of c.args.k.now) u c.at.ensures.element r.0 r.1 in
     none-along c.requires.shows.0 c.args.c.now c.requires.shows.1 (corner_of c.args.k.now) (vertex_of u) r.0 b c.at-h.result.now (carrier-plane c.args.c.now (corner_of c.args.k.now) c.carrier_of-carrier.result c.at-h.result.now c.carrier_of-carrier.ensures.plane c.at-h.ensures.element)
     (vector_of c.plane_dir.result) (vector_of c.back-inward.result) c.plane_dir.ensures.dir c.plane_dir.ensures.in_plane c.back-inward.ensures.back (r.2.0 c.if-not-item_holds.false)
 
@@ -50,7 +50,7 @@ pub returns-then-not-item_holds : goal.returns-then-not-item_holds
 returns-then-not-item_holds c =
     let u = c.at.result.now in
     let r = c.item_holds.ensures.on in
-    let b = corner-at c.args.c.now (corner_of c.args.k.now) u (some-at c.args.c.now.vertices c.args.k.now.vertex u c.at.ensures.element) r.0 r.1 in
+    let b = corner-at c.args.c.now (corner_of c.args.k.now) u c.at.ensures.element r.0 r.1 in
     record {
       linked = not-on c.requires.shows.0 c.args.c.now c.requires.shows.1 (corner_of c.args.k.now) (vertex_of u) r.0 b c.at-h.result.now (carrier-plane c.args.c.now (corner_of c.args.k.now) c.carrier_of-carrier.result c.at-h.result.now c.carrier_of-carrier.ensures.plane c.at-h.ensures.element)
           (vector_of c.plane_dir.result) (vector_of c.back-inward.result) c.plane_dir.ensures.dir c.plane_dir.ensures.in_plane c.back-inward.ensures.back (λ o. not_true (sym c.if-not-item_holds.true ∙ r.2.1 o));
@@ -66,7 +66,7 @@ pub returns-in_err-met : goal.returns-in_err-met
 returns-in_err-met c =
     let u = c.at.result.now in
     let r = c.item_holds.ensures.on in
-    let b = corner-at c.args.c.now (corner_of c.args.k.now) u (some-at c.args.c.now.vertices c.args.k.now.vertex u c.at.ensures.element) r.0 r.1 in
+    let b = corner-at c.args.c.now (corner_of c.args.k.now) u c.at.ensures.element r.0 r.1 in
     let none : IsLinkedFrom (complex_of c.args.c.now) (corner_of c.args.k.now) None =
     linked-from c.requires.shows.0 c.args.c.now c.requires.shows.1 (corner_of c.args.k.now) (vertex_of u) r.0 b c.at-h.result.now (carrier-plane c.args.c.now (corner_of c.args.k.now) c.carrier_of-carrier.result c.at-h.result.now c.carrier_of-carrier.ensures.plane c.at-h.ensures.element)
     (vector_of c.plane_dir.result) (vector_of c.back-inward.result) c.plane_dir.ensures.dir c.plane_dir.ensures.in_plane c.back-inward.ensures.back (r.2.0 c.if-not-item_holds.false) None
@@ -77,7 +77,7 @@ pub returns : goal.returns
 returns c =
     let u = c.at.result.now in
     let r = c.item_holds.ensures.on in
-    let b = corner-at c.args.c.now (corner_of c.args.k.now) u (some-at c.args.c.now.vertices c.args.k.now.vertex u c.at.ensures.element) r.0 r.1 in
+    let b = corner-at c.args.c.now (corner_of c.args.k.now) u c.at.ensures.element r.0 r.1 in
     record {
       linked = linked-from c.requires.shows.0 c.args.c.now c.requires.shows.1 (corner_of c.args.k.now) (vertex_of u) r.0 b c.at-h.result.now (carrier-plane c.args.c.now (corner_of c.args.k.now) c.carrier_of-carrier.result c.at-h.result.now c.carrier_of-carrier.ensures.plane c.at-h.ensures.element)
           (vector_of c.plane_dir.result) (vector_of c.back-inward.result) c.plane_dir.ensures.dir c.plane_dir.ensures.in_plane c.back-inward.ensures.back (r.2.0 c.if-not-item_holds.false) c.corner_toward.result

@@ -1,4 +1,4 @@
-use Rattle.nef_facets.proofs.Prelude.{List, sym, ap, ◌∙◌, subst, not_true, map_of, arc_of, map-from_get, read, edge_of, Tie, AreArcsAlong, IsTieFromArc, Adds}
+use Rattle.nef_facets.proofs.Prelude.{List, sym, ap, ◌∙◌, subst, not_true, map_of, arc_of, map-is_at, read, edge_of, Tie, AreArcsAlong, IsTieFromArc, Adds}
 use Rattle.nef_facets.proofs.Adding.{any-next, any-all}
 use Rattle.nef_facets.proofs.EdgeTies.{image-below, arc-added, arc-none}
 use Rattle.nef_facets.proofs.ties.add_arc_ties.Goals as goal
@@ -13,7 +13,7 @@ loop-number-preserved c =
     let j = c.loop-number.number in
     let b = c.arc-item.result in
     let now = c.loop-number.ties.items in
-    let listed = map-from_get arc_of c.args.high.now.arcs j b (read c.args.high.now.arcs c.as_slice-arc-items.result.now j b c.as_slice-arc-items.ensures.all c.loop-number-test.true c.arc-item.is) in
+    let listed = map-is_at arc_of c.args.high.now.arcs j b (read c.args.high.now.arcs c.as_slice-arc-items.result.now j b c.as_slice-arc-items.ensures.all c.loop-number-test.true c.arc-item.is) in
     record {
       added = any-next (IsTieFromArc e i a M) j c.args.ties.now.items now c.if-is_same.ties.items c.loop-number.invariant.added
           (elim c.if-is_same.branch [

@@ -1,4 +1,4 @@
-use Rattle.nef_facets.proofs.Prelude.{map_of, arc_of, map-from_get, read, edge_of, IsTieOfEdge}
+use Rattle.nef_facets.proofs.Prelude.{map_of, arc_of, map-is_at, read, edge_of, IsTieOfEdge}
 use Rattle.nef_facets.proofs.Adding.{any-next, any-all}
 use Rattle.nef_facets.proofs.EdgeTies.{image-below, arc-as}
 use Rattle.nef_facets.proofs.ties.add_edge_ties.Goals as goal
@@ -13,7 +13,7 @@ loop-item-preserved c =
     let old = c.args.ties.now.items in
     let now = c.loop-item.ties.items in
     let new = c.add_arc_ties.new.ties.items in
-    let listed = map-from_get arc_of c.args.low.now.arcs i a (read c.args.low.now.arcs c.as_slice-arc-items.result.now i a c.as_slice-arc-items.ensures.all c.loop-item-test.true c.arc-item.is) in
+    let listed = map-is_at arc_of c.args.low.now.arcs i a (read c.args.low.now.arcs c.as_slice-arc-items.result.now i a c.as_slice-arc-items.ensures.all c.loop-item-test.true c.arc-item.is) in
     record { added = any-next (IsTieOfEdge e L M) i old now new c.loop-item.invariant.added (arc-as e L M i (arc_of a) listed now new c.in_ok-add_arc_ties.ensures.added) }
 
 pub returns : goal.returns

@@ -1,4 +1,4 @@
-use Rattle.nef_facets.proofs.Prelude.{List, arith, sym, ap, ◌∙◌, subst, Tie, some-at, complex_of, IsTieAcross, Adds}
+use Rattle.nef_facets.proofs.Prelude.{List, arith, sym, ap, ◌∙◌, subst, Tie, complex_of, IsTieAcross, Adds}
 use Rattle.nef_facets.proofs.Adding.{adds-none, any-next, any-all}
 use Rattle.nef_facets.proofs.AcrossLinks.{tie-added, tie-none}
 use Rattle.nef_facets.proofs.ItemCarriers.{has-item}
@@ -8,7 +8,7 @@ use Rattle.nef_facets.proofs.ties.add_vertex_ties.Goals.{in-Some+in_ok-push, in_
 
 pub across-requires-clause-corner : goal.across-requires-clause-corner
 across-requires-clause-corner c =
-    has-item c.args.c.now c.args.vertex c.loop-item.item c.at.result.now (some-at c.args.c.now.vertices c.args.vertex c.at.result.now c.at.ensures.element) (let e = c.item_count-item-end.ensures.count in let h = c.loop-item-test.true in omega (arith, e, h))
+    has-item c.args.c.now c.args.vertex c.loop-item.item c.at.result.now c.at.ensures.element (let e = c.item_count-item-end.ensures.count in let h = c.loop-item-test.true in omega (arith, e, h))
 
 pub loop-item-preserved : goal.loop-item-preserved
 loop-item-preserved c =

@@ -1,9 +1,9 @@
-use Rattle.nef_facets.proofs.Prelude.{◌≡◌, ◌↔◌, ◌+◌, ℕ, pos, get_or, arith, sym, ◌∙◌, subst, not_true, form_at, normal_of, Vector, SameDirection, form_of, point_of, vector_of, Plane, IsAt, item_normal, at-one, item_of, none-more, some-at, at-some, at-read, at-within, corner_of, SameDirection-turned, SameDirection-trans}
+use Rattle.nef_facets.proofs.Prelude.{◌≡◌, ◌↔◌, ◌+◌, ℕ, pos, get_or, arith, sym, ◌∙◌, subst, not_true, form_at, normal_of, Vector, SameDirection, form_of, point_of, vector_of, Plane, IsAt, item_normal, is-at_one, item_of, none-more, at-read, is-at_within, corner_of, SameDirection-turned, SameDirection-trans}
 use Rattle.nef_complex.specs.declared.complex.Vertex.{Vertex}
-use Rattle.nef_edges.proofs.Places.{get-at}
 use Rattle.nef_facets.proofs.ItemCarriers.{CarriesWith, holder-left}
 use Rattle.nef_facets.proofs.ItemCarriers.{vertex-within, item-within, of-item}
 use Rattle.nef_facets.proofs.ties.carrier_of.Goals as goal
+use Rattle.nef_space.proofs.Lists.{is-at_get}
 
 -- a test of one of two like directions is one of the other
 of-like : {T : Type 0} (n d e : Vector) → SameDirection n d → (T ↔ SameDirection d e) → (T ↔ SameDirection n e)
@@ -13,7 +13,7 @@ pub at-vertex-requires : goal.at-vertex-requires
 at-vertex-requires c = record { within = vertex-within c.args.c.now (corner_of c.args.k.now) c.requires.corner }
 
 pub item_at-item-requires : goal.item_at-item-requires
-item_at-item-requires c = record { within = item-within c.args.c.now (corner_of c.args.k.now) c.requires.corner c.at-vertex.result.now (some-at c.args.c.now.vertices c.args.k.now.vertex c.at-vertex.result.now c.at-vertex.ensures.element) }
+item_at-item-requires c = record { within = item-within c.args.c.now (corner_of c.args.k.now) c.requires.corner c.at-vertex.result.now c.at-vertex.ensures.element }
 
 pub vertex_holders-holders-requires-clause-within : goal.vertex_holders-holders-requires-clause-within
 vertex_holders-holders-requires-clause-within c = vertex-within c.args.c.now (corner_of c.args.k.now) c.requires.corner
@@ -21,7 +21,7 @@ vertex_holders-holders-requires-clause-within c = vertex-within c.args.c.now (co
 pub loop-normal-init : goal.loop-normal-init
 loop-normal-init c = (
   holder-left c.requires.shows.0 c.args.c.now (corner_of c.args.k.now) c.at-vertex.result.now (item_of c.item_at-item.result) (vector_of c.normal-normal.result.now) c.vertex_holders-holders.result.now 0 c.requires.shows.1.shows c.requires.corner
-      (some-at c.args.c.now.vertices c.args.k.now.vertex c.at-vertex.result.now c.at-vertex.ensures.element) c.item_at-item.ensures.item (sym c.normal-normal.ensures.normal) (c.vertex_holders-holders.ensures.holders c.at-vertex.result.now c.at-vertex.ensures.element) (λ j k l. absurd (omega (arith, l))),
+      c.at-vertex.ensures.element c.item_at-item.ensures.item (sym c.normal-normal.ensures.normal) (c.vertex_holders-holders.ensures.holders c.at-vertex.result.now c.at-vertex.ensures.element) (λ j k l. absurd (omega (arith, l))),
   λ j k l. absurd (omega (arith, l)),
 )
 
@@ -38,20 +38,20 @@ at-requires c =
     let i = c.loop-normal.place in
     let g = get_or ns i 0 in
     let l = c.loop-normal.invariant.0 in
-    let r = (c.vertex_holders-holders.ensures.holders c.at-vertex.result.now c.at-vertex.ensures.element).each i g (at-some ns i g (get-at ns i 0 l)) in
-    record { within = at-within hs g r.0 (some-at hs g r.0 r.1) }
+    let r = (c.vertex_holders-holders.ensures.holders c.at-vertex.result.now c.at-vertex.ensures.element).each i g (is-at_get ns i 0 l) in
+    record { within = is-at_within hs g r.0 r.1 }
 
 pub returns-then-is_same : goal.returns-then-is_same
 returns-then-is_same c =
     let u = c.at-vertex.result.now in
-    let a = some-at c.args.c.now.vertices c.args.k.now.vertex u c.at-vertex.ensures.element in
+    let a = c.at-vertex.ensures.element in
     let hs = c.args.c.now.carriers in
     let ns = c.vertex_holders-holders.result.now in
     let i = c.loop-normal.place in
     let l = c.loop-normal.invariant.0 in
     let g = get_or ns i 0 in
-    let r = (c.vertex_holders-holders.ensures.holders u c.at-vertex.ensures.element).each i g (at-some ns i g (get-at ns i 0 l)) in
-    let e = at-one hs g r.0 c.at.result.now (some-at hs g r.0 r.1) (some-at hs g c.at.result.now c.at.ensures.element) in
+    let r = (c.vertex_holders-holders.ensures.holders u c.at-vertex.ensures.element).each i g (is-at_get ns i 0 l) in
+    let e = is-at_one hs g r.0 c.at.result.now r.1 c.at.ensures.element in
     let h = form_of c.at.result.now in
     let on = subst (λ (f : Plane). form_at (form_of f) (point_of u.point) ≡ pos 0) e r.2.0 in
     record {
@@ -73,10 +73,10 @@ loop-normal-preserved c =
     let vs = c.args.c.now.vertices in
     let n = vector_of c.normal-normal.result.now in
     let h = c.at.result.now in
-    let none = none-more (λ (k : ℕ). (u : Vertex) × IsAt vs c.args.k.now.vertex u × CarriesWith c.args.c.now (point_of u.point) n k) ns i g l (sym (at-read ns i g g (get-at ns i 0 l))) c.loop-normal.invariant.1
+    let none = none-more (λ (k : ℕ). (u : Vertex) × IsAt vs c.args.k.now.vertex u × CarriesWith c.args.c.now (point_of u.point) n k) ns i g l (sym (at-read ns i g g (is-at_get ns i 0 l))) c.loop-normal.invariant.1
     (λ (u, a, w). not_true (sym c.if-is_same.false ∙ (of-like (normal_of (form_of h)) (vector_of c.plane_normal.result) n c.plane_normal.ensures.normal c.is_same.ensures.direction).1
-    (subst (λ (k : Plane). SameDirection (normal_of (form_of k)) n) (at-one hs g w.0 h (some-at hs g w.0 w.1) (some-at hs g h c.at.ensures.element)) w.2.1))) in (
+    (subst (λ (k : Plane). SameDirection (normal_of (form_of k)) n) (is-at_one hs g w.0 h w.1 c.at.ensures.element) w.2.1))) in (
       holder-left c.requires.shows.0 c.args.c.now (corner_of c.args.k.now) c.at-vertex.result.now (item_of c.item_at-item.result) n ns (i + 1) c.requires.shows.1.shows c.requires.corner
-          (some-at vs c.args.k.now.vertex c.at-vertex.result.now c.at-vertex.ensures.element) c.item_at-item.ensures.item (sym c.normal-normal.ensures.normal) (c.vertex_holders-holders.ensures.holders c.at-vertex.result.now c.at-vertex.ensures.element) none,
+          c.at-vertex.ensures.element c.item_at-item.ensures.item (sym c.normal-normal.ensures.normal) (c.vertex_holders-holders.ensures.holders c.at-vertex.result.now c.at-vertex.ensures.element) none,
       none,
     )

@@ -1,8 +1,9 @@
 use Rattle.nef_locate.proofs.Prelude.{◌≡◌, ◌≢◌, sym, ◌∙◌, rules, subst, triple, up, vector_of, Plus, dir_of, map_of, arc_of, end_of, IsLast, sign_of-positive}
 use Rattle.nef_locate.proofs.LastArcs.{last-skip, last-first, last-kept, last-taken}
-use Rattle.nef_locate.proofs.Marks.{image-within, image-read}
+use Rattle.nef_locate.proofs.Marks.{image-read}
 use Rattle.nef_locate.proofs.UpwardSides.{some-svertex, arc-upward, turn-read, plus-turn}
 use Rattle.nef_locate.proofs.above.later_arc.Goals as goal
+use Rattle.nef_smap.proofs.Lists.{map-within}
 
 pub returns-then-arc_end-svertex : goal.returns-then-arc_end-svertex
 returns-then-arc_end-svertex c =
@@ -16,7 +17,7 @@ pub at-requires-in-Some : goal.at-requires-in-Some
 at-requires-in-Some c =
     let m = c.args.map.now in
     let L = subst (IsLast (map_of m) (dir_of (map_of m).svertices c.args.svertex) c.args.svertex c.args.begins c.args.number) c.in-Some.is c.requires.last in
-    record { within = image-within arc_of m.arcs c.in-Some.before L.arc L.listed }
+    record { within = map-within arc_of m.arcs c.in-Some.before L.arc L.listed }
 
 pub returns-in-None : goal.returns-in-None
 returns-in-None c =

@@ -1,15 +1,16 @@
-use Rattle.nef_locate.proofs.Prelude.{refl, sym, subst, Vector, items, IsFree, map_of, SideSees, at-within, vertex_of, edge_of, complex_of, corner_of, IsPlaceIn, IsSideAbove}
+use Rattle.nef_locate.proofs.Prelude.{refl, sym, subst, Vector, items, IsFree, map_of, SideSees, is-at_within, vertex_of, edge_of, complex_of, corner_of, IsPlaceIn, IsSideAbove}
 use Rattle.nef_locate.proofs.UpwardSides.{up-free}
 use Rattle.nef_locate.specs.declared.point.Place.{Place}
 use Rattle.nef_locate.proofs.EdgeFound.{low-within, low-svertex}
 use Rattle.nef_locate.proofs.Located.{above-vertex, above-edge, above-facet, above-volume}
-use Rattle.nef_locate.proofs.Marks.{image-within, corner-read}
+use Rattle.nef_locate.proofs.Marks.{corner-read}
 use Rattle.nef_locate.proofs.above.side_above.Goals as goal
+use Rattle.nef_smap.proofs.Lists.{map-within}
 
 pub at-requires : goal.at-requires
 at-requires c =
     let p = subst (λ (t : Place). IsPlaceIn (complex_of c.args.c.now) t) c.in-Vertex.is c.requires.place in
-    record { within = image-within vertex_of c.args.c.now.vertices c.in-Vertex.number p.0 p.1 }
+    record { within = map-within vertex_of c.args.c.now.vertices c.in-Vertex.number p.0 p.1 }
 
 pub face_toward-requires-clause-map : goal.face_toward-requires-clause-map
 face_toward-requires-clause-map c = let S = c.requires.shows.1 in let M = S.maps c.in-Vertex.number c.at.result.now c.at.ensures.element in M.sphere_map
@@ -30,7 +31,7 @@ returns-in-Vertex c = record {
 pub at-edge-requires : goal.at-edge-requires
 at-edge-requires c =
     let p = subst (λ (t : Place). IsPlaceIn (complex_of c.args.c.now) t) c.in-OnEdge.is c.requires.place in
-    record { within = image-within edge_of c.args.c.now.edges c.in-OnEdge.number p.0 p.1 }
+    record { within = map-within edge_of c.args.c.now.edges c.in-OnEdge.number p.0 p.1 }
 
 pub at-requires-in-OnEdge : goal.at-requires-in-OnEdge
 at-requires-in-OnEdge c = let S = c.requires.shows in record { within = low-within S.0 c.args.c.now S.1 c.in-OnEdge.number c.at-edge.result.now c.at-edge.ensures.element }
@@ -50,14 +51,14 @@ returns-in-OnEdge c = record {
 pub at-requires-in-InFacet : goal.at-requires-in-InFacet
 at-requires-in-InFacet c =
     let p = subst (λ (t : Place). IsPlaceIn (complex_of c.args.c.now) t) c.in-InFacet.is c.requires.place in
-    record { within = image-within vertex_of c.args.c.now.vertices c.in-InFacet.corner.vertex p.0 p.2.vertex }
+    record { within = map-within vertex_of c.args.c.now.vertices c.in-InFacet.corner.vertex p.0 p.2.vertex }
 
 pub item_side-requires : goal.item_side-requires
 item_side-requires c =
     let p = subst (λ (t : Place). IsPlaceIn (complex_of c.args.c.now) t) c.in-InFacet.is c.requires.place in
     let u = c.at-in-InFacet.result.now in
     let i = corner-read c.args.c.now.vertices (complex_of c.args.c.now) (corner_of c.in-InFacet.corner) u p.1 refl c.at-in-InFacet.ensures.element p.0 p.2 in
-    record { within = at-within (items (map_of u.map)) c.in-InFacet.corner.item p.1 i.item }
+    record { within = is-at_within (items (map_of u.map)) c.in-InFacet.corner.item p.1 i.item }
 
 pub returns-in-InFacet : goal.returns-in-InFacet
 returns-in-InFacet c =

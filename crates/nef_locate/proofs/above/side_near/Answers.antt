@@ -1,4 +1,4 @@
-use Rattle.nef_locate.proofs.Prelude.{arc_item, items, at-arc, map_of, at-within}
+use Rattle.nef_locate.proofs.Prelude.{arc_item, items, at-arc, map_of, is-at_within}
 use Rattle.nef_locate.proofs.UpwardSides.{some-svertex, near-begin, near-end, near-alone}
 use Rattle.nef_locate.proofs.above.side_near.Goals as goal
 
@@ -7,7 +7,7 @@ item_side-requires c =
     let m = c.args.map.now in
     let M = map_of m in
     let L = c.in-Some.ensures.last in
-    record { within = at-within (items M) c.in-Some.arc (arc_item L.arc) (at-arc M.arcs M.sloop c.in-Some.arc L.arc L.listed) }
+    record { within = is-at_within (items M) c.in-Some.arc (arc_item L.arc) (at-arc M.arcs M.sloop c.in-Some.arc L.arc L.listed) }
 
 pub returns-in-Some : goal.returns-in-Some
 returns-in-Some c =
@@ -20,7 +20,7 @@ item_side-requires-in-Some-last_arc c =
     let m = c.args.map.now in
     let M = map_of m in
     let L = c.in-Some-last_arc.ensures.last in
-    record { within = at-within (items M) c.in-Some-last_arc.arc (arc_item L.arc) (at-arc M.arcs M.sloop c.in-Some-last_arc.arc L.arc L.listed) }
+    record { within = is-at_within (items M) c.in-Some-last_arc.arc (arc_item L.arc) (at-arc M.arcs M.sloop c.in-Some-last_arc.arc L.arc L.listed) }
 
 pub returns-in-Some-last_arc : goal.returns-in-Some-last_arc
 returns-in-Some-last_arc c =

@@ -1,34 +1,34 @@
-use Rattle.nef_locate.proofs.Prelude.{◌<◌, IsTrue, length, get_or, arith, rules, hit_point, is-at_get, at-from_get, low-within, high-within, no_span}
+use Rattle.nef_locate.proofs.Prelude.{◌<◌, IsTrue, length, get_or, arith, rules, hit_point, is-at_get, low-within, high-within, no_span}
 use Rattle.nef_locate.proofs.EdgeOrder.{told-spanned, told-line}
 use Rattle.nef_locate.proofs.carrier.is_along.Goals as goal
 
 pub bounds-spans-edge : goal.bounds-spans-edge
 bounds-spans-edge c =
     let S = c.requires.shows in let C = c.args.c.now in let e = c.at-edge.result.now in let A = c.point_spans-spans.ensures.alone in let m = A.as_many in
-    let l = low-within S.0 C S.1.shows c.args.number e (at-from_get C.edges c.args.number e c.at-edge.ensures.element) in omega (arith, l, m)
+    let l = low-within S.0 C S.1.shows c.args.number e c.at-edge.ensures.element in omega (arith, l, m)
 
 pub bounds-spans-edge-2 : goal.bounds-spans-edge-2
 bounds-spans-edge-2 c =
     let S = c.requires.shows in let C = c.args.c.now in let e = c.at-edge.result.now in let A = c.point_spans-spans.ensures.alone in let m = A.as_many in
-    let l = high-within S.0 C S.1.shows c.args.number e (at-from_get C.edges c.args.number e c.at-edge.ensures.element) in omega (arith, l, m)
+    let l = high-within S.0 C S.1.shows c.args.number e c.at-edge.ensures.element in omega (arith, l, m)
 
 pub offset_bounds-spans-edge : goal.offset_bounds-spans-edge
 offset_bounds-spans-edge c =
     let S = c.requires.shows in let C = c.args.c.now in let e = c.at-edge.result.now in let A = c.point_spans-spans.ensures.alone in let m = A.as_many in
-    let l : e.low < length c.point_spans-spans.result.now = (let r = low-within S.0 C S.1.shows c.args.number e (at-from_get C.edges c.args.number e c.at-edge.ensures.element) in omega (arith, r, m)) in
+    let l : e.low < length c.point_spans-spans.result.now = (let r = low-within S.0 C S.1.shows c.args.number e c.at-edge.ensures.element in omega (arith, r, m)) in
     search rules
 
 pub offset_bounds-spans-edge-2 : goal.offset_bounds-spans-edge-2
 offset_bounds-spans-edge-2 c =
     let S = c.requires.shows in let C = c.args.c.now in let e = c.at-edge.result.now in let A = c.point_spans-spans.ensures.alone in let m = A.as_many in
-    let l : e.high < length c.point_spans-spans.result.now = (let r = high-within S.0 C S.1.shows c.args.number e (at-from_get C.edges c.args.number e c.at-edge.ensures.element) in omega (arith, r, m)) in
+    let l : e.high < length c.point_spans-spans.result.now = (let r = high-within S.0 C S.1.shows c.args.number e c.at-edge.ensures.element in omega (arith, r, m)) in
     search rules
 
 pub returns-then-not-is_in_sides-clause-on : goal.returns-then-not-is_in_sides-clause-on
 returns-then-not-is_in_sides-clause-on c =
     let S = c.requires.shows in let C = c.args.c.now in let k = c.args.number in let e = c.at-edge.result.now in let a = c.at-edge.ensures.element in
     let A = c.point_spans-spans.ensures.alone in let ss = c.point_spans-spans.result.now in
-    let n = A.as_many in let low = low-within S.0 C S.1.shows k e (at-from_get C.edges k e a) in let high = high-within S.0 C S.1.shows k e (at-from_get C.edges k e a) in
+    let n = A.as_many in let low = low-within S.0 C S.1.shows k e a in let high = high-within S.0 C S.1.shows k e a in
     let l = is-at_get ss e.low no_span (omega (arith, n, low)) in let h = is-at_get ss e.high no_span (omega (arith, n, high)) in
     let off : IsTrue c.is_in_sides.result → ⊥ = search rules in
     let i = c.requires.framed in

@@ -1,4 +1,4 @@
-use Rattle.nef_locate.proofs.Prelude.{length, arith, ap, sym, ◌∙◌, not_true, SameDirection, vector_of, Arc, arc_of, map-from_get, IsArcOnSide, vertex_of}
+use Rattle.nef_locate.proofs.Prelude.{length, arith, ap, sym, ◌∙◌, not_true, SameDirection, vector_of, Arc, arc_of, map-is_at, IsArcOnSide, vertex_of}
 use Rattle.nef_smap.proofs.Found.{read, next-none, all-none}
 use Rattle.nef_locate.proofs.ItemsFound.{told-side, side-told}
 use Rattle.nef_locate.proofs.facet.arc_beside.Goals as goal
@@ -10,7 +10,7 @@ returns-then-leaves_on c =
     record {
       arc = (
         arc_of c.arc-item.result,
-        map-from_get arc_of v.map.arcs c.loop-number.number c.arc-item.result (read v.map.arcs c.as_slice-arc-items.result.now c.loop-number.number c.arc-item.result c.as_slice-arc-items.ensures.all c.loop-number-test.true c.arc-item.is),
+        map-is_at arc_of v.map.arcs c.loop-number.number c.arc-item.result (read v.map.arcs c.as_slice-arc-items.result.now c.loop-number.number c.arc-item.result c.as_slice-arc-items.ensures.all c.loop-number-test.true c.arc-item.is),
         t.0,
         told-side v c.args.svertex c.at.result.now c.at.ensures.element (vector_of c.args.normal.now) (vector_of c.args.d.now) c.triple-turn.result c.triple-turn.ensures.triple c.arc-item.result t.1,
       );

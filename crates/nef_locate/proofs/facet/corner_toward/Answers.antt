@@ -3,13 +3,13 @@ use Rattle.nef_complex.specs.declared.complex.PlaneMeet.{PlaneMeet}
 use Rattle.nef_locate.proofs.EdgeFound.{low-within, low-svertex}
 use Rattle.nef_locate.proofs.FacetFound.{as-none}
 use Rattle.nef_locate.proofs.ItemsFound.{vertex-some, vertex-none, edge-some, edge-none}
-use Rattle.nef_locate.proofs.Marks.{image-within}
 use Rattle.nef_locate.proofs.facet.corner_toward.Goals as goal
+use Rattle.nef_smap.proofs.Lists.{map-within}
 
 pub at-requires : goal.at-requires
 at-requires c =
     let p = subst (λ (m : PlaneMeet). HasMet (complex_of c.args.c.now) (meet_of m)) c.in-AtVertex.is c.requires.met in
-    record { within = image-within vertex_of c.args.c.now.vertices c.in-AtVertex.vertex p.0 p.1 }
+    record { within = map-within vertex_of c.args.c.now.vertices c.in-AtVertex.vertex p.0 p.1 }
 
 pub item_through-requires : goal.item_through-requires
 item_through-requires c = record { map = (c.requires.shows.1.maps c.in-AtVertex.vertex c.at.result.now c.at.ensures.element).sphere_map }
@@ -34,7 +34,7 @@ returns-in_ok-item-in-AtVertex c =
 pub at-edge-requires : goal.at-edge-requires
 at-edge-requires c =
     let p = subst (λ (m : PlaneMeet). HasMet (complex_of c.args.c.now) (meet_of m)) c.in-AtEdge.is c.requires.met in
-    record { within = image-within edge_of c.args.c.now.edges c.in-AtEdge.number p.0 p.1 }
+    record { within = map-within edge_of c.args.c.now.edges c.in-AtEdge.number p.0 p.1 }
 
 pub at-requires-in-AtEdge : goal.at-requires-in-AtEdge
 at-requires-in-AtEdge c = record { within = low-within c.requires.shows.0 c.args.c.now c.requires.shows.1 c.in-AtEdge.number c.at-edge.result.now c.at-edge.ensures.element }

@@ -1,10 +1,11 @@
 use Rattle.nef_locate.proofs.Prelude.{◌*◌, length, refl, svertex_of, edge_of}
-use Rattle.nef_locate.proofs.Marks.{image-read, image-within}
+use Rattle.nef_locate.proofs.Marks.{image-read}
 use Rattle.nef_locate.proofs.EdgeFound.{low-within, low-map, low-svertex, edge-least, edge-cone}
 use Rattle.nef_locate.proofs.maps.edge_map.Goals as goal
+use Rattle.nef_smap.proofs.Lists.{map-within}
 
 pub at-edge-requires : goal.at-edge-requires
-at-edge-requires c = record { within = image-within edge_of c.args.c.now.edges c.args.number c.requires.place.0 c.requires.place.1 }
+at-edge-requires c = record { within = map-within edge_of c.args.c.now.edges c.args.number c.requires.place.0 c.requires.place.1 }
 
 pub at-requires : goal.at-requires
 at-requires c = record { within = low-within c.requires.shows.0 c.args.c.now c.requires.shows.1 c.args.number c.at-edge.result.now c.at-edge.ensures.element }

@@ -1,23 +1,24 @@
-use Rattle.nef_locate.proofs.Prelude.{◌≡◌, ℕ, refl, sym, subst, ◌∙◌, normal_limit, IsNormal, IsAtMost, vector_of, IsAt, Item, items, item_normal, item_pos, item_mark, item_neg, at-one, SLoop, SphereMap, item_of, map_of, sloop_of, at-within, vertex_of, complex_of, corner_of, IsPlaneOf}
+use Rattle.nef_locate.proofs.Prelude.{◌≡◌, ℕ, refl, sym, subst, ◌∙◌, normal_limit, IsNormal, IsAtMost, vector_of, IsAt, Item, items, item_normal, item_pos, item_mark, item_neg, is-at_one, SLoop, SphereMap, item_of, map_of, sloop_of, is-at_within, vertex_of, complex_of, corner_of, IsPlaneOf}
 use Rattle.nef_smap.specs.declared.item.Item.{Item as MapItem}
-use Rattle.nef_locate.proofs.Marks.{image-within, corner-read}
+use Rattle.nef_locate.proofs.Marks.{corner-read}
 use Rattle.nef_locate.proofs.Cones.{cone-of_corner}
 use Rattle.nef_locate.proofs.maps.facet_map.Goals as goal
+use Rattle.nef_smap.proofs.Lists.{map-within}
 
 -- the plane of the item that is read is that of the item there
 plane-read : (m : SphereMap) (k : ℕ) (i : MapItem) (x : Item) (l : SLoop) → IsAt (items (map_of m)) k (item_of i) → IsAt (items (map_of m)) k x
     → vector_of l.normal ≡ item_normal (item_of i) → l.pos ≡ item_pos (item_of i) → l.mark ≡ item_mark (item_of i) → l.neg ≡ item_neg (item_of i) → IsPlaneOf x (sloop_of l)
 plane-read m k i x l a b en ep em eq =
-    subst (λ (r : Item). IsPlaneOf r (sloop_of l)) (at-one (items (map_of m)) k (item_of i) x a b) (record { normal = sym en; pos = sym ep; mark = sym em; neg = sym eq })
+    subst (λ (r : Item). IsPlaneOf r (sloop_of l)) (is-at_one (items (map_of m)) k (item_of i) x a b) (record { normal = sym en; pos = sym ep; mark = sym em; neg = sym eq })
 
 pub at-requires : goal.at-requires
-at-requires c = let p = c.requires.place in record { within = image-within vertex_of c.args.c.now.vertices c.args.corner.now.vertex p.0 p.2.vertex }
+at-requires c = let p = c.requires.place in record { within = map-within vertex_of c.args.c.now.vertices c.args.corner.now.vertex p.0 p.2.vertex }
 
 pub item_at-item-requires : goal.item_at-item-requires
 item_at-item-requires c =
     let p = c.requires.place in
     let i = corner-read c.args.c.now.vertices (complex_of c.args.c.now) (corner_of c.args.corner.now) c.at.result.now p.1 refl c.at.ensures.element p.0 p.2 in
-    record { within = at-within (items (map_of c.at.result.now.map)) c.args.corner.now.item p.1 i.item }
+    record { within = is-at_within (items (map_of c.at.result.now.map)) c.args.corner.now.item p.1 i.item }
 
 pub plane_map-requires-clause-normal : goal.plane_map-requires-clause-normal
 plane_map-requires-clause-normal c =

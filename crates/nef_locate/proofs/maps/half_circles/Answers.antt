@@ -1,4 +1,4 @@
-use Rattle.nef_locate.proofs.Prelude.{◌≡◌, ◌+◌, ◌*◌, List, length, Vec, Global, arith, sym, ap, subst, ◌∙◌, IsAt, SArc, index-at, AreHalves}
+use Rattle.nef_locate.proofs.Prelude.{◌≡◌, ◌+◌, ◌*◌, List, length, Vec, Global, arith, sym, ap, subst, ◌∙◌, IsAt, SArc, is-at_read, AreHalves}
 use Rattle.nef_locate.proofs.EdgeHalves.{halves-none, halves-past, halves-more}
 use Rattle.nef_locate.proofs.maps.half_circles.Goals as goal
 use Rattle.nef_locate.proofs.maps.half_circles.Goals.{then-arc-svertex+in_ok-push, else-arc-svertex, then-arc-svertex-2+in_ok-push-2, else-arc-svertex-2}
@@ -15,7 +15,7 @@ loop-arc-preserved c =
     let i = c.loop-arc.arc-index in
     let V = c.requires.map.valid in
     let arcs = c.as_slice-arc-items.result.now in
-    let here = subst (λ (l : List SArc). IsAt l i a) c.as_slice-arc-items.ensures.all (index-at arcs i a c.loop-arc-test.true c.arc-item.is) in
+    let here = subst (λ (l : List SArc). IsAt l i a) c.as_slice-arc-items.ensures.all (is-at_read arcs i a c.loop-arc-test.true c.arc-item.is) in
     let old = c.loop-arc.halves.items in
     let mid = c.if-arc-svertex.halves.items in
     let first : AreHalves m.arcs k (2 * i + 1) mid =

@@ -1,13 +1,14 @@
-use Rattle.nef_locate.proofs.Prelude.{◌≡◌, sym, subst, IfOk-weaker, Cone, at-one, SphereMap, map_of, IsLeastMap, Vertex as PlainVertex, vertex_of, complex_of, IsPlaceIn, IsPlaceAt}
-use Rattle.nef_locate.proofs.Marks.{image-within, image-read}
+use Rattle.nef_locate.proofs.Prelude.{◌≡◌, sym, subst, IfOk-weaker, Cone, is-at_one, SphereMap, map_of, IsLeastMap, Vertex as PlainVertex, vertex_of, complex_of, IsPlaceIn, IsPlaceAt}
+use Rattle.nef_locate.proofs.Marks.{image-read}
 use Rattle.nef_locate.proofs.VolumeLabels.{volume-flat}
 use Rattle.nef_locate.proofs.Cones.{cone-same, cone-flat}
 use Rattle.nef_locate.proofs.maps.place_map.Goals as goal
+use Rattle.nef_smap.proofs.Lists.{map-within}
 
 pub at-requires : goal.at-requires
 at-requires c =
     let p = subst (IsPlaceIn (complex_of c.args.c.now)) c.in-Vertex.is c.requires.place in
-    record { within = image-within vertex_of c.args.c.now.vertices c.in-Vertex.number p.0 p.1 }
+    record { within = map-within vertex_of c.args.c.now.vertices c.in-Vertex.number p.0 p.1 }
 
 pub returns-in-Vertex-clause-least : goal.returns-in-Vertex-clause-least
 returns-in-Vertex-clause-least c =
@@ -20,7 +21,7 @@ returns-in-Vertex-clause-cone c =
     IfOk-weaker c.copy.result (λ m. m ≡ u.map) _
     (λ m w s y S a.
     let p = subst (IsPlaceAt (complex_of c.args.c.now) y) c.in-Vertex.is a in
-    let e = at-one (complex_of c.args.c.now).vertices k p.0 (vertex_of u) p.1 (image-read vertex_of c.args.c.now.vertices k u c.at.ensures.element) in
+    let e = is-at_one (complex_of c.args.c.now).vertices k p.0 (vertex_of u) p.1 (image-read vertex_of c.args.c.now.vertices k u c.at.ensures.element) in
     let K = subst (λ (v : PlainVertex). Cone v.map s p.0.point) e (S.shows.cones k p.0 p.1) in
     cone-same (map_of m) s p.0.point y p.2 (subst (λ (n : SphereMap). Cone (map_of n) s p.0.point) (sym w) K))
     c.copy.ensures.same

@@ -1,4 +1,4 @@
-use Rattle.nef_locate.proofs.Prelude.{point_of, hit_point, same-point_sym, at-within, get-from_at, point-same, closed-same, complex_of, span-same}
+use Rattle.nef_locate.proofs.Prelude.{point_of, hit_point, same-point_sym, is-at_within, point-same, closed-same, complex_of, span-same}
 use Rattle.nef_locate.proofs.CarrierPoints.{skeleton-carrier}
 use Rattle.nef_locate.proofs.EdgeOrder.{parts-all}
 use Rattle.nef_locate.proofs.Located.{same-found, vertices-sorted, vertex-at}
@@ -29,4 +29,4 @@ pub returns-in-Err-clause-none : goal.returns-in-Err-clause-none
 returns-in-Err-clause-none c = λ e o.
     let S = c.requires.shows in let C = c.args.c.now in let p = point_of c.args.p.now in let q = hit_point c.hit_at.result in
     let k = skeleton-carrier S.0 C S.1 q (point-same (complex_of C) p q (same-point_sym q p c.hit_at.ensures.same) o) in
-    c.search_carriers.ensures.passed k.number (at-within C.carriers k.number k.plane k.listed) e k.plane (get-from_at C.carriers k.number k.plane k.listed) S.0 S.1 k.on k.found
+    c.search_carriers.ensures.passed k.number (is-at_within C.carriers k.number k.plane k.listed) e k.plane k.listed S.0 S.1 k.on k.found

@@ -1,4 +1,4 @@
-use Rattle.nef_ops.proofs.Prelude.{ℕ, ◌+◌, ◌<◌, List, IsNone, arith, rules, sym, refl, IsAt, SpacePoint, point_of, is-at_get, is-at_is, at-within, at-from_get, Region, IsFar}
+use Rattle.nef_ops.proofs.Prelude.{ℕ, ◌+◌, ◌<◌, List, IsNone, arith, rules, sym, refl, IsAt, SpacePoint, point_of, is-at_get, is-at_is, is-at_within, Region, IsFar}
 use Rattle.nef_ops.proofs.Lacking.{all-more}
 use Rattle.nef_ops.proofs.regions.label_among.Goals as goal
 
@@ -16,7 +16,7 @@ pub returns-in-Some-clause-told : goal.returns-in-Some-clause-told
 returns-in-Some-clause-told c C told =
     let rs : List Region = c.args.regions.now in
     let n = c.loop-region.region-index in
-    c.in-Some.ensures.told C (told n _ (at-from_get rs n _ (is-at_get rs n _ c.loop-region-test.true)))
+    c.in-Some.ensures.told C (told n _ (is-at_get rs n _ c.loop-region-test.true))
 
 pub loop-region-preserved : goal.loop-region-preserved
 loop-region-preserved c =
@@ -25,4 +25,4 @@ loop-region-preserved c =
     one-more rs (point_of c.args.point.now) n _ (is-at_get rs n _ c.loop-region-test.true) (c.in_default.ensures.none refl) c.loop-region.invariant
 
 pub returns-clause-none : goal.returns-clause-none
-returns-clause-none c none k r a f = c.loop-region.invariant k r (let l = at-within c.args.regions.now k r a in let t = c.loop-region-test.false in omega (arith, l, t)) a f
+returns-clause-none c none k r a f = c.loop-region.invariant k r (let l = is-at_within c.args.regions.now k r a in let t = c.loop-region-test.false in omega (arith, l, t)) a f

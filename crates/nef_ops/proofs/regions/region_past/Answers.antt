@@ -1,4 +1,4 @@
-use Rattle.nef_ops.proofs.Prelude.{ℤ, pos, FitsSigned, w64, to_z, of_z, arith, rules, sym, subst, ⊎_elim, to_z-of_z, point_of, Point, at-within, SpanSide, coordinate_of, axis_coordinate, IsFar, IsWithinEnd}
+use Rattle.nef_ops.proofs.Prelude.{ℤ, pos, FitsSigned, w64, to_z, of_z, arith, rules, sym, subst, ⊎_elim, to_z-of_z, point_of, Point, is-at_within, SpanSide, coordinate_of, axis_coordinate, IsFar, IsWithinEnd}
 use Rattle.nef_ops.proofs.FarLabels.{clear-past, far-uniform, none-past}
 use Rattle.nef_ops.proofs.Lacking.{all-more}
 use Rattle.nef_ops.proofs.regions.region_past.Goals.{else-has-via-then-has+else-in_frame, else-has-via-else-has}
@@ -24,7 +24,7 @@ loop-point-preserved c =
     all-more (λ (r : Point). IsFar side (point_of r) → ⊥) c.args.points.now c.loop-point.point-index p c.point-item.is off c.loop-point.invariant
 
 pub returns-clause-none : goal.returns-clause-none
-returns-clause-none c none k p a f = c.loop-point.invariant k p (let l = at-within c.args.points.now k p a in let t = c.loop-point-test.false in omega (arith, l, t)) a f
+returns-clause-none c none k p a f = c.loop-point.invariant k p (let l = is-at_within c.args.points.now k p a in let t = c.loop-point-test.false in omega (arith, l, t)) a f
 
 -- where the other span's end isn't past the end, no point is
 pub returns-then-not-is_past-clause-none : goal.returns-then-not-is_past-clause-none

@@ -1,4 +1,4 @@
-use Rattle.nef_ops.proofs.Prelude.{subst, IsAt, at-one, Edge as PlainEdge, same-itself, vertex_of, edge_of, complex_of, IsPlaceIn, IsPlaceAt, image-within, image-read, volume-flat}
+use Rattle.nef_ops.proofs.Prelude.{subst, IsAt, is-at_one, Edge as PlainEdge, same-itself, vertex_of, edge_of, complex_of, IsPlaceIn, IsPlaceAt, map-within, image-read, volume-flat}
 use Rattle.nef_locate.proofs.EdgeFound.{low-within}
 use Rattle.nef_ops.proofs.PlaceShares.{edge-share, flat-share}
 use Rattle.nef_ops.proofs.share.share_at.Goals as goal
@@ -6,7 +6,7 @@ use Rattle.nef_ops.proofs.share.share_at.Goals as goal
 pub vertex_share-requires : goal.vertex_share-requires
 vertex_share-requires c =
     let p = subst (IsPlaceIn (complex_of c.args.c.now)) c.in-Vertex.is c.requires.place in
-    record { within = image-within vertex_of c.args.c.now.vertices c.in-Vertex.number p.0 p.1 }
+    record { within = map-within vertex_of c.args.c.now.vertices c.in-Vertex.number p.0 p.1 }
 
 pub returns-in-Vertex : goal.returns-in-Vertex
 returns-in-Vertex c = record { share = λ s y S a. c.vertex_share.ensures.share s y S (subst (IsPlaceAt (complex_of c.args.c.now) y) c.in-Vertex.is a) }
@@ -14,7 +14,7 @@ returns-in-Vertex c = record { share = λ s y S a. c.vertex_share.ensures.share 
 pub at-requires : goal.at-requires
 at-requires c =
     let p = subst (IsPlaceIn (complex_of c.args.c.now)) c.in-OnEdge.is c.requires.place in
-    record { within = image-within edge_of c.args.c.now.edges c.in-OnEdge.number p.0 p.1 }
+    record { within = map-within edge_of c.args.c.now.edges c.in-OnEdge.number p.0 p.1 }
 
 pub vertex_share-requires-in-OnEdge : goal.vertex_share-requires-in-OnEdge
 vertex_share-requires-in-OnEdge c = let S = c.requires.shows in record { within = low-within S.0 c.args.c.now S.1 c.in-OnEdge.number c.at.result.now c.at.ensures.element }
@@ -27,7 +27,7 @@ returns-in-OnEdge c = record {
       let e = c.at.result.now in
       let f = c.vertex_share-in-OnEdge in
       let p = subst (IsPlaceAt C y) c.in-OnEdge.is a in
-      let same = at-one C.edges k p.0 (edge_of e) p.3 (image-read edge_of c.args.c.now.edges k e c.at.ensures.element) in
+      let same = is-at_one C.edges k p.0 (edge_of e) p.3 (image-read edge_of c.args.c.now.edges k e c.at.ensures.element) in
       let low = subst (λ (r : PlainEdge). IsAt C.vertices r.low p.1) same p.4.low in
       edge-share f.result s C S.shows k p.0 p.1 p.2 y p.3 p.4 p.5 (f.ensures.share s p.1.point S (p.1, low, same-itself p.1.point));
 }

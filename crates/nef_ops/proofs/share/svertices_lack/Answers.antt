@@ -1,4 +1,4 @@
-use Rattle.nef_ops.proofs.Prelude.{arith, rules, SVertex, at-within, SvertexLacks}
+use Rattle.nef_ops.proofs.Prelude.{arith, rules, SVertex, is-at_within, SvertexLacks}
 use Rattle.nef_ops.proofs.Lacking.{all-more}
 use Rattle.nef_ops.proofs.share.svertices_lack.Goals as goal
 
@@ -10,5 +10,5 @@ loop-svertex-preserved c =
 
 pub returns : goal.returns
 returns c = record {
-  lacks = λ _ k v h. c.loop-svertex.invariant k v (let w = at-within c.args.svertices.now k v h in omega (arith, c.loop-svertex-test.false)) h;
+  lacks = λ _ k v h. c.loop-svertex.invariant k v (let w = is-at_within c.args.svertices.now k v h in omega (arith, c.loop-svertex-test.false)) h;
 }

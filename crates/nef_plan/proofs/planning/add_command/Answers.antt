@@ -3,8 +3,9 @@ use Rattle.nef_plan.proofs.Prelude.{◌≡◌, ◌∙◌, ℕ, None, Some, inl, 
 use Rattle.nef_expr.proofs.Turns.{node-turned}
 use Rattle.nef_script.specs.declared.script.Command.TheVariants.{Bind, Turn, Has, Joined, Ray, Same, Count, Print}
 use Rattle.nef_script.specs.Commands.{LooksAt}
-use Rattle.nef_plan.proofs.Growth.{set-more, within-wider}
+use Rattle.nef_plan.proofs.Growth.{set-more}
 use Rattle.nef_plan.proofs.planning.add_command.Goals as goal
+use Rattle.nef_script.proofs.Looking.{within-more}
 
 -- a command that binds nothing asks a question
 is-question : (c : Command) → ((line n : ℕ) → c ≡ Bind line n → ⊥) → ((line n j t : ℕ) → c ≡ Turn line n j t → ⊥) → is_question c ≡ true
@@ -86,7 +87,7 @@ add_draft-requires-in_default-clause-looks c k asks = c.requires.looks k (asked-
 pub add_draft-requires-in_default-clause-right : goal.add_draft-requires-in_default-clause-right
 add_draft-requires-in_default-clause-right c = (
   is-question c.args.command.now c.in_default.not-Bind c.in_default.not-Turn,
-  within-wider (length c.args.nodes.now) (length c.args.plan.now.nodes) c.args.command.now c.requires.more.as_many c.requires.within,
+  within-more (length c.args.nodes.now) (length c.args.plan.now.nodes) c.args.command.now c.requires.more.as_many c.requires.within,
 )
 
 pub returns-in_default-clause-goes_on : goal.returns-in_default-clause-goes_on

@@ -1,4 +1,4 @@
-use Rattle.nef_plane.proofs.Prelude.{inl, rules, sym, subst, SpacePoint, IsAhead, form_of, point_of, vector_of, map-at, Meets, IsFirstInPlane, same-itself, complex_of, meet_of, vertex_of, got-at, AreItems, IsNearest, near_met_of}
+use Rattle.nef_plane.proofs.Prelude.{inl, rules, sym, subst, SpacePoint, IsAhead, form_of, point_of, vector_of, map-is_at, Meets, IsFirstInPlane, same-itself, complex_of, meet_of, vertex_of, AreItems, IsNearest, near_met_of}
 use Rattle.law_complex.specs.Skeleton.{PlaneMeet as PlainMeet}
 use Rattle.nef_plane.proofs.Choosing.{some-at}
 use Rattle.nef_plane.proofs.Found.{MeetsAny, from-vertex, first-some, first-none}
@@ -23,7 +23,7 @@ nearest_met-met-requires-clause-items c = some-at (AreItems c.args.c.now (form_o
 pub returns-clause-some : goal.returns-clause-some
 returns-clause-some c =
     let S = c.requires.shows in let v = c.at.result.now in let p = point_of v.point in let d = vector_of c.args.d.now in let C = c.args.c.now in let h = c.args.h.now in
-    let a = got-at C.vertices c.args.vertex v c.at.ensures.element in let listed = map-at vertex_of C.vertices c.args.vertex v a in
+    let a = c.at.ensures.element in let listed = map-is_at vertex_of C.vertices c.args.vertex v a in
     let N : IsNearest near_met_of p d (MeetsAny C (form_of h) d) c.match-items.met = elim c.match-items.branch [
       | in-Some w ↦ subst (IsNearest near_met_of p d (MeetsAny C (form_of h) d)) (sym w.met-is) w.nearest_met-met.ensures.nearest
       | in_default w ↦ subst (IsNearest near_met_of p d (MeetsAny C (form_of h) d)) (sym w.met-is) w.met_of_all-met.ensures.nearest
@@ -35,7 +35,7 @@ returns-clause-some c =
 pub returns-in_err-first-clause-none : goal.returns-in_err-first-clause-none
 returns-in_err-first-clause-none c _ =
     let S = c.requires.shows in let v = c.at.result.now in let p = point_of v.point in let d = vector_of c.args.d.now in let C = c.args.c.now in let h = c.args.h.now in
-    let a = got-at C.vertices c.args.vertex v c.at.ensures.element in let listed = map-at vertex_of C.vertices c.args.vertex v a in
+    let a = c.at.ensures.element in let listed = map-is_at vertex_of C.vertices c.args.vertex v a in
     let N : IsNearest near_met_of p d (MeetsAny C (form_of h) d) c.match-items.met = elim c.match-items.branch [
       | in-Some w ↦ subst (IsNearest near_met_of p d (MeetsAny C (form_of h) d)) (sym w.met-is) w.nearest_met-met.ensures.nearest
       | in_default w ↦ subst (IsNearest near_met_of p d (MeetsAny C (form_of h) d)) (sym w.met-is) w.met_of_all-met.ensures.nearest

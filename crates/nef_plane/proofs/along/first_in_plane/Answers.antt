@@ -1,4 +1,4 @@
-use Rattle.nef_plane.proofs.Prelude.{subst, IfSome, SamePoint, form_of, hit_point, vector_of, same-point_sym, at-one, same-point_trans, complex_of, meet_of}
+use Rattle.nef_plane.proofs.Prelude.{subst, IfSome, SamePoint, form_of, hit_point, vector_of, same-point_sym, is-at_one, same-point_trans, complex_of, meet_of}
 use Rattle.std.specs.Prelude.{Option, Some, None}
 use Rattle.law_complex.specs.Complexes.{Vertex}
 use Rattle.law_complex.proofs.EqualPoints.{ahead-from, first-same}
@@ -23,7 +23,7 @@ pub first_along_dir-requires-clause-no_svertex : goal.first_along_dir-requires-c
 first_along_dir-requires-clause-no_svertex c = λ v a k j w u b e s.
     let p = hit_point c.args.p.now in
     let P = c.in-Some.ensures.some.1 in
-    let same = subst (λ (r : Vertex). SamePoint r.point p) (at-one (complex_of c.args.c.now).vertices c.in-Some.number P.0 v P.1 a) P.2 in
+    let same = subst (λ (r : Vertex). SamePoint r.point p) (is-at_one (complex_of c.args.c.now).vertices c.in-Some.number P.0 v P.1 a) P.2 in
     c.requires.no_svertex k j w u b (same-point_trans w.point v.point p e same) s
 
 pub returns-in-Some-clause-some : goal.returns-in-Some-clause-some

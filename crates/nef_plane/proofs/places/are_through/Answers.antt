@@ -1,4 +1,4 @@
-use Rattle.nef_plane.proofs.Prelude.{◌≡◌, ◌∙◌, ℕ, pos, length, get_or, arith, rules, refl, ap, sym, slice_get_read, form_at, hit_point, form_of, sign_of, Plane, Zero, zero_sign, not_true, is-at_get, listed-more, holder-holds, all-holders, got-at}
+use Rattle.nef_plane.proofs.Prelude.{◌≡◌, ◌∙◌, ℕ, pos, length, get_or, arith, rules, refl, ap, sym, slice_get_read, form_at, hit_point, form_of, sign_of, Plane, Zero, zero_sign, not_true, is-at_get, listed-more, holder-holds, all-holders}
 use Rattle.nef_plane.proofs.places.are_through.Goals as goal
 
 pub returns-then-ne : goal.returns-then-ne
@@ -13,7 +13,7 @@ returns-then-ne c = record {
       let here = slice_get_read hs (length hs) k g refl (c.requires.within n k at_n) c.index-carriers-number.is in (
         λ t. absurd (not_true t),
         λ A.
-            let zero : form_at (form_of g) (hit_point c.args.q.now) ≡ pos 0 = A k g (got-at hs k g here) (holder-holds hs a b ns H n k g at_n here) in
+            let zero : form_at (form_of g) (hit_point c.args.q.now) ≡ pos 0 = A k g here (holder-holds hs a b ns H n k g at_n here) in
             let e : c.hit_side.result ≡ Zero = c.hit_side.ensures.side ∙ ap sign_of zero in
             absurd (search (rules, e, c.if-ne.true)),
       );

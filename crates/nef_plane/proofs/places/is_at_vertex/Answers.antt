@@ -1,4 +1,4 @@
-use Rattle.nef_plane.proofs.Prelude.{List, sym, subst, point_of, hit_point, Plane, holders-within, got-at, AllSideWith}
+use Rattle.nef_plane.proofs.Prelude.{List, sym, subst, point_of, hit_point, Plane, holders-within, AllSideWith}
 use Rattle.nef_plane.proofs.Amid.{vertex-amid, amid-vertex}
 use Rattle.nef_plane.proofs.Holding.{vertex-held}
 use Rattle.nef_plane.proofs.places.is_at_vertex.Goals as goal
@@ -11,7 +11,7 @@ sides_with-requires c =
 pub returns : goal.returns
 returns c =
     let S = c.requires.shows in let C = c.args.c.now in let v = c.at.result.now in let p = point_of v.point in let y = hit_point c.args.q.now in
-    let a = got-at C.vertices c.args.number v c.at.ensures.element in
+    let a = c.at.ensures.element in
     let T = c.sides_with.ensures.sides p (vertex-held C c.args.number c.as_slice.result.now c.vertex_holders.result.now c.as_slice.ensures.all v c.at.ensures.element c.vertex_holders.ensures.holders) in
     record {
       at = (

@@ -1,4 +1,4 @@
-use Rattle.nef_plane.proofs.Prelude.{◌≡◌, ◌∙◌, ℕ, length, get_or, arith, rules, refl, sym, slice_get_read, form_at, point_of, hit_point, form_of, sign_of, Plane, not_true, is-at_get, listed-more, holder-holds, all-holders, got-at}
+use Rattle.nef_plane.proofs.Prelude.{◌≡◌, ◌∙◌, ℕ, length, get_or, arith, rules, refl, sym, slice_get_read, form_at, point_of, hit_point, form_of, sign_of, Plane, not_true, is-at_get, listed-more, holder-holds, all-holders}
 use Rattle.nef_plane.proofs.places.sides_with.Goals as goal
 
 pub returns-then-ne : goal.returns-then-ne
@@ -13,7 +13,7 @@ returns-then-ne c = record {
       let here = slice_get_read hs (length hs) k g refl (c.requires.within n k at_n) c.index-carriers-number.is in (
         λ h. absurd (not_true h),
         λ A.
-            let at_g = A k g (got-at hs k g here) (holder-holds hs a a ns H n k g at_n here).0 in
+            let at_g = A k g here (holder-holds hs a a ns H n k g at_n here).0 in
             let differ : c.hit_side.result ≡ c.side.result → ⊥ = search (rules, c.if-ne.true) in
             absurd (differ (c.hit_side.ensures.side ∙ at_g ∙ sym c.side.ensures.side)),
       );

@@ -1,7 +1,8 @@
-use Rattle.nef_ray.proofs.Prelude.{inl, subst, arith, rules, IfSome, IsNone, Option, Set, SamePoint, point_of, vector_of, hit_point, at-within, read-at, ShowsSet, Crossed, RayEnd, RayStart, IsHitOf, IsUnchangedOn, IsChangeOf}
+use Rattle.nef_ray.proofs.Prelude.{inl, subst, arith, rules, IfSome, IsNone, Option, Set, SamePoint, point_of, vector_of, hit_point, is-at_within, is-at_read, ShowsSet, Crossed, RayEnd, RayStart, IsHitOf, IsUnchangedOn, IsChangeOf}
 use Rattle.nef_ray.proofs.Found.{all-seen, ordered-seen, end-some, end-none}
-use Rattle.nef_ray.proofs.Listed.{next-read, one-listed}
+use Rattle.nef_ray.proofs.Listed.{one-listed}
 use Rattle.nef_ray.proofs.ray.ray_end.Goals as goal
+use Rattle.nef_complex.proofs.Reading.{all-more}
 
 pub change_on-requires-clause-hit : goal.change_on-requires-clause-hit
 change_on-requires-clause-hit c =
@@ -11,14 +12,14 @@ change_on-requires-clause-hit c =
 pub loop-next-preserved : goal.loop-next-preserved
 loop-next-preserved c =
     let C = c.args.c.now in let ray : RayStart = record { from = c.args.p.now; along = c.args.d.now; before = c.in_ok-label_after.field-0 } in
-    next-read (λ (x : Crossed). (s : Set) → ShowsSet s C → IsUnchangedOn s ray x.plane) c.as_slice-next-items.result.now c.loop-next.next-index c.next-item.result c.loop-next-test.true c.next-item.is c.loop-next.invariant
+    all-more (λ (x : Crossed). (s : Set) → ShowsSet s C → IsUnchangedOn s ray x.plane) c.as_slice-next-items.result.now c.loop-next.next-index c.next-item.result c.loop-next-test.true c.next-item.is c.loop-next.invariant
     (let e : IsNone c.in_ok-end.field-0 = search rules in c.in_ok-end.ensures.none e)
 
 pub returns-in-Some : goal.returns-in-Some
 returns-in-Some c =
     let C = c.args.c.now in let ray : RayStart = record { from = c.args.p.now; along = c.args.d.now; before = c.in_ok-label_after.field-0 } in
     let zs = c.as_slice-next-items.result.now in let n = c.loop-next.next-index in let x = c.next-item.result in
-    let a = read-at zs n x c.loop-next-test.true c.next-item.is in
+    let a = is-at_read zs n x c.loop-next-test.true c.next-item.is in
     let H = one-listed (IsHitOf ray) c.in_ok-crossed.crossed.items zs n x c.as_slice-next-items.ensures.value c.loop-next-test.true c.next-item.is c.in_ok-crossed.ensures.hits in
     record {
       end = λ s S.
@@ -35,4 +36,4 @@ unreachable-requires c =
     let zs = c.as_slice-next-items.result.now in let S = c.requires.shows in
     end-none S.0 C S.1 ray c.requires.framed (c.in_ok-label_after.ensures.germ S.0 S.1)
     (all-seen S.0 C ray (λ y. ⊥) c.in_ok-crossed.crossed.items zs c.as_slice-next-items.ensures.value c.in_ok-crossed.ensures.all
-    (λ k x a y X i. inl (c.loop-next.invariant k x (let w = at-within zs k x a in let t = c.loop-next-test.false in omega (arith, w, t)) a S.0 S.1 y X i)))
+    (λ k x a y X i. inl (c.loop-next.invariant k x (let w = is-at_within zs k x a in let t = c.loop-next-test.false in omega (arith, w, t)) a S.0 S.1 y X i)))

@@ -1,4 +1,4 @@
-use Rattle.nef_ray.proofs.Prelude.{◌≡◌, ◌+◌, ◌*ℤ◌, ◌<ℤ◌, ◌++◌, [], ◌∷◌, All, arith, rules, refl, subst, sym, ap, ◌∙◌, All-push, answers_always, All-permutation, MatchOrdering, at-within, next-all, Crossed, IsHitOf, crossed_lt}
+use Rattle.nef_ray.proofs.Prelude.{◌≡◌, ◌+◌, ◌*ℤ◌, ◌<ℤ◌, ◌++◌, [], ◌∷◌, All, arith, rules, refl, subst, sym, ap, ◌∙◌, All-push, answers_always, All-permutation, MatchOrdering, is-at_within, next-all, Crossed, IsHitOf, crossed_lt}
 use Rattle.nef_ray.proofs.Listed.{AreFirstCrossed, CrossedListed, listed-more, listed-last, sorted-kept}
 use Rattle.nef_ray.proofs.Nearness.{steps_weak, answers-step}
 use Rattle.nef_ray.proofs.ray.sorted_crossed.Goals as goal
@@ -27,7 +27,7 @@ loop-number-preserved c =
 
 pub returns-clause-all : goal.returns-clause-all
 returns-clause-all c = sorted-kept c.args.c.now.carriers c.args.ray.now c.loop-number.crossed.items c.sort_unstable_by.new.self.items c.sort_unstable_by.ensures.permutation
-    (λ k h a y X. let l = at-within c.args.c.now.carriers k h a in let t = c.loop-number-test.false in let e = c.len-number-end.ensures.len in c.loop-number.invariant.all k h (omega (arith, l, t, e)) a y X)
+    (λ k h a y X. let l = is-at_within c.args.c.now.carriers k h a in let t = c.loop-number-test.false in let e = c.len-number-end.ensures.len in c.loop-number.invariant.all k h (omega (arith, l, t, e)) a y X)
 
 pub returns-clause-hits : goal.returns-clause-hits
 returns-clause-hits c = All-permutation (IsHitOf c.args.ray.now) c.loop-number.crossed.items c.sort_unstable_by.new.self.items c.sort_unstable_by.ensures.permutation c.loop-number.invariant.hits

@@ -1,24 +1,24 @@
-use Rattle.nef_result.proofs.Prelude.{refl, sym, subst, at-one, Vertex, IsLeastMap, MapSource, vertex_at, HasNamed, IsFilledAt}
-use Rattle.nef_smap.proofs.SideLists.{at-some as element-at}
-use Rattle.nef_edges.proofs.Places.{at-within}
+use Rattle.nef_result.proofs.Prelude.{refl, sym, subst, is-at_one, Vertex, IsLeastMap, MapSource, vertex_at, HasNamed, IsFilledAt}
+use Rattle.nef_smap.proofs.SideLists.{is-at_some as element-at}
 use Rattle.nef_result.proofs.filling.fill.Goals as goal
+use Rattle.nef_space.proofs.Lists.{is-at_within}
 
 pub swap_with-requires : goal.swap_with-requires
 swap_with-requires c =
     let h = subst (HasNamed c.args.first.now.items c.args.second.now.items) c.in-Kept.is c.requires.named in
-    record { within = c.requires.within; from_within = at-within _ c.in-Kept.from h.0 h.1 }
+    record { within = c.requires.within; from_within = is-at_within _ c.in-Kept.from h.0 h.1 }
 
 pub swap_with-requires-in-Turned : goal.swap_with-requires-in-Turned
 swap_with-requires-in-Turned c =
     let h = subst (HasNamed c.args.first.now.items c.args.second.now.items) c.in-Turned.is c.requires.named in
-    record { within = c.requires.within; from_within = at-within _ c.in-Turned.from h.0 h.1 }
+    record { within = c.requires.within; from_within = is-at_within _ c.in-Turned.from h.0 h.1 }
 
 pub turn_map-requires-clause-least : goal.turn_map-requires-clause-least
 turn_map-requires-clause-least c = λ w b.
     let h = subst (HasNamed c.args.first.now.items c.args.second.now.items) c.in-Turned.is c.requires.named in
     let v = element-at c.args.vertices.now.items c.args.number c.requires.within in
     let there = c.swap_with-in-Turned.ensures.swapped v.0 h.0 v.1 h.1 in
-    subst (λ (x : Vertex). IsLeastMap x.map) (at-one _ c.args.number (vertex_at v.0.point h.0.map) w there b) h.2
+    subst (λ (x : Vertex). IsLeastMap x.map) (is-at_one _ c.args.number (vertex_at v.0.point h.0.map) w there b) h.2
 
 pub returns-in-Here-clause-filled : goal.returns-in-Here-clause-filled
 returns-in-Here-clause-filled c = λ v a.

@@ -1,5 +1,5 @@
 use Rattle.nef_result.proofs.Prelude.{◌≡◌, ◌<◌, ℕ, length, arith, sym, subst, First, Second, at-read, MapSource, HasNamed, NamesVertex, IsFilledAt, AreFilledTo}
-use Rattle.nef_smap.proofs.SideLists.{at-some as element-at}
+use Rattle.nef_smap.proofs.SideLists.{is-at_some as element-at}
 use Rattle.nef_result.proofs.Filled.{filled-none, left-none, has-named, filled-more, left-first, left-second}
 use Rattle.nef_result.proofs.filling.fill_all.Goals as goal
 

@@ -1,17 +1,17 @@
-use Rattle.nef_result.proofs.Prelude.{◌∙◌, ap, sym, subst, set, SpacePoint, Set, Cone, IsAt, at-one, Vertex, map_of, IsLeastMap, SphereMap, vertex_at}
-use Rattle.nef_edges.proofs.Places.{read-at}
+use Rattle.nef_result.proofs.Prelude.{◌∙◌, ap, sym, subst, set, SpacePoint, Set, Cone, IsAt, is-at_one, Vertex, map_of, IsLeastMap, SphereMap, vertex_at}
 use Rattle.nef_result.proofs.Filled.{set-here, set-other}
 use Rattle.nef_result.proofs.filling.turn_map.Goals as goal
+use Rattle.nef_space.proofs.Lists.{is-at_read}
 
 pub exchanged-requires : goal.exchanged-requires
 exchanged-requires c =
     let u = c.index_mut-vertex.result.now in
-    record { least = subst IsLeastMap (sym c.replace-map.ensures.value) (c.requires.least u (read-at c.args.vertices.now.items c.args.number u c.requires.within c.index_mut-vertex.ensures.value)) }
+    record { least = subst IsLeastMap (sym c.replace-map.ensures.value) (c.requires.least u (is-at_read c.args.vertices.now.items c.args.number u c.requires.within c.index_mut-vertex.ensures.value)) }
 
 pub returns-clause-turned : goal.returns-clause-turned
 returns-clause-turned c = λ v a.
     let us = c.args.vertices.now.items in let n = c.args.number in let u = c.index_mut-vertex.result.now in let m = c.exchanged.result in
-    let e = at-one us n u v (read-at us n u c.requires.within c.index_mut-vertex.ensures.value) a in
+    let e = is-at_one us n u v (is-at_read us n u c.requires.within c.index_mut-vertex.ensures.value) a in
     let is = c.replace-map.ensures.value ∙ ap (λ (w : Vertex). w.map) e in
     let cone = subst (λ (l : SphereMap). (s : Set) (p : SpacePoint) → Cone (map_of l) s p → Cone (map_of m) (Set.other s) p) is c.exchanged.ensures.cone in (
       m,

@@ -1,8 +1,8 @@
 use Rattle.nef_sched.proofs.Prelude.{◌≡◌, ◌+◌, arith, inl, inr, sym, ◌∙◌, subst, length, drop, Some, slice_get, slice_index, IsRoundList}
 use Rattle.std.proofs.Math.Seq.{take-append_seam}
-use Rattle.nef_sched.proofs.Totals.{same_or_not}
 use Rattle.nef_sched.proofs.Planning.{group_here, group_other}
 use Rattle.nef_sched.proofs.stage.grouped.Goals as goal
+use Rattle.nef_core.proofs.Places.{same_or_not}
 
 pub loop-number-preserved : goal.loop-number-preserved
 loop-number-preserved c =

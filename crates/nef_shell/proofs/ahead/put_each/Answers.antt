@@ -1,7 +1,8 @@
 use Rattle.nef_shell.proofs.Prelude.{◌≡◌, ◌∙◌, ◌+◌, ◌<◌, ◌∷◌, ◌++◌, [], ap, arith, subst, sym, length, slice_index_or, Some, slice_get, length-append, slice_get-get_or}
 use Rattle.std.specs.Prelude.{slice_set}
-use Rattle.nef_shell.proofs.Needs.{at-last, kept-left, no-early, put-more, put-none}
+use Rattle.nef_shell.proofs.Needs.{at-last, no-early, put-more, put-none}
 use Rattle.nef_shell.proofs.ahead.put_each.Goals as goal
+use Rattle.nef_expr.proofs.Places.{slice_get-left}
 
 pub loop-thing-init : goal.loop-thing-init
 loop-thing-init g c = record { put = put-none _ _ _; count = omega arith; front = λ n x at. at }
@@ -26,5 +27,5 @@ loop-thing-preserved g c =
     record {
       put = rw put (put-more early c.args.things.items c.args.places.now places (length left) e thing at seen within so_far.put);
       count = omega (arith, below);
-      front = λ m x at-m. so_far.front m x (subst (λ z. slice_get z m ≡ Some x) (sym before) (kept-left left (thing ∷ []) m x at-m));
+      front = λ m x at-m. so_far.front m x (subst (λ z. slice_get z m ≡ Some x) (sym before) (slice_get-left left (thing ∷ []) m x at-m));
     }

@@ -1,7 +1,7 @@
 use Rattle.nef_smap.proofs.Prelude.{vector_of, items, item_of, map_of}
 use Rattle.nef_smap.proofs.Found.{svertex-within, side-within, label-svertex, arc-placed, sloop-placed, label-item, label-by_side}
-use Rattle.nef_smap.proofs.Lists.{at-within}
 use Rattle.nef_smap.proofs.locate.label_at.Goals as goal
+use Rattle.nef_space.proofs.Lists.{is-at_within}
 
 pub at-requires-in-SVertex : goal.at-requires-in-SVertex
 at-requires-in-SVertex c = record { within = svertex-within c.args.map.now (vector_of c.args.d.now) c.in-SVertex.number c.in-SVertex.ensures.place }
@@ -9,12 +9,12 @@ at-requires-in-SVertex c = record { within = svertex-within c.args.map.now (vect
 pub item_at-requires : goal.item_at-requires
 item_at-requires c =
     let r = arc-placed c.args.map.now (vector_of c.args.d.now) c.in-Arc.number c.in-Arc.ensures.place in
-    record { within = at-within (items (map_of c.args.map.now)) c.in-Arc.number r.0 r.1 }
+    record { within = is-at_within (items (map_of c.args.map.now)) c.in-Arc.number r.0 r.1 }
 
 pub item_at-requires-in-Loop : goal.item_at-requires-in-Loop
 item_at-requires-in-Loop c =
     let r = sloop-placed c.args.map.now (vector_of c.args.d.now) c.len.result c.len.ensures.len c.in-Loop.ensures.place in
-    record { within = at-within (items (map_of c.args.map.now)) c.len.result r.0 r.1 }
+    record { within = is-at_within (items (map_of c.args.map.now)) c.len.result r.0 r.1 }
 
 pub side_label-requires : goal.side_label-requires
 side_label-requires c = record { within = side-within (map_of c.args.map.now) c.in-Face.side (vector_of c.args.d.now) c.in-Face.ensures.place }

@@ -1,13 +1,13 @@
 use Rattle.nef_smap.proofs.Prelude.{length-map, svertex_of, map_of}
-use Rattle.nef_smap.proofs.Lists.{at-within}
 use Rattle.nef_smap.proofs.Neighbourhood.{svertex-here, lone-ok}
 use Rattle.nef_smap.proofs.NeighbourhoodSvertex.{ends-some, ends-rays, ends-apart, ends-ok}
 use Rattle.nef_smap.proofs.locate.star_at_svertex.Goals as goal
+use Rattle.nef_space.proofs.Lists.{is-at_within}
 
 pub at-svertex-requires : goal.at-svertex-requires
 at-svertex-requires c =
     let v = c.requires.at in
-    record { within = rw (length-map c.args.map.now.svertices svertex_of) at (at-within (map_of c.args.map.now).svertices c.args.number v.0 v.1) }
+    record { within = rw (length-map c.args.map.now.svertices svertex_of) at (is-at_within (map_of c.args.map.now).svertices c.args.number v.0 v.1) }
 
 pub returns-in-Some-clause-shows : goal.returns-in-Some-clause-shows
 returns-in-Some-clause-shows c =

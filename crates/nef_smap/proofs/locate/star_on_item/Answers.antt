@@ -1,10 +1,10 @@
 use Rattle.nef_smap.proofs.Prelude.{◌≡◌, [], ◌∷◌, sym, subst, ◌∙◌, pos, svertex_limit, dot, IsAtMost, vector_of, Dir, item_normal, on-level, IsStar, map_of, item_of}
-use Rattle.nef_smap.proofs.Lists.{at-within}
 use Rattle.nef_smap.proofs.Neighbourhood.{rays-along, star-along, along-here, on-listed}
 use Rattle.nef_smap.proofs.locate.star_on_item.Goals as goal
+use Rattle.nef_space.proofs.Lists.{is-at_within}
 
 pub item_at-item-requires : goal.item_at-item-requires
-item_at-item-requires c = let o = c.requires.on in record { within = at-within _ c.args.number o.0 o.1 }
+item_at-item-requires c = let o = c.requires.on in record { within = is-at_within _ c.args.number o.0 o.1 }
 
 pub returns : goal.returns
 returns c =

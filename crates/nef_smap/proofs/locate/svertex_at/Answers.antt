@@ -1,13 +1,13 @@
 use Rattle.nef_smap.proofs.Prelude.{length, arith, ap, sym, ◌∙◌, not_true, vector_of, MapVertex, SameDirection, svertex_of}
-use Rattle.nef_smap.proofs.Lists.{map-from_get}
 use Rattle.nef_smap.proofs.Found.{read, next-none, all-none}
 use Rattle.nef_smap.proofs.locate.svertex_at.Goals as goal
+use Rattle.nef_space.proofs.Lists.{map-is_at}
 
 pub returns-then-is_same : goal.returns-then-is_same
 returns-then-is_same c = record {
   svertex = (
     svertex_of c.svertex-item.result,
-    map-from_get svertex_of c.args.map.now.svertices c.loop-number.number c.svertex-item.result (read c.args.map.now.svertices c.as_slice-svertex-items.result.now c.loop-number.number c.svertex-item.result c.as_slice-svertex-items.ensures.all c.loop-number-test.true c.svertex-item.is),
+    map-is_at svertex_of c.args.map.now.svertices c.loop-number.number c.svertex-item.result (read c.args.map.now.svertices c.as_slice-svertex-items.result.now c.loop-number.number c.svertex-item.result c.as_slice-svertex-items.ensures.all c.loop-number-test.true c.svertex-item.is),
     c.is_same.ensures.direction.0 c.if-is_same.true,
   );
 }

@@ -1,8 +1,8 @@
 use Rattle.nef_smap.proofs.Prelude.{◌≡◌, ℕ, arith, sym, ◌∙◌, subst, true, not_true, item_of, map_of, start_at, end_at, IsFirstMet, items}
-use Rattle.nef_smap.proofs.Lists.{at-within}
 use Rattle.nef_smap.proofs.FirstSoFar.{so_far-begins, so_far-stays, so_far-changes}
 use Rattle.nef_smap.proofs.meets.first_met.Goals as goal
 use Rattle.nef_smap.proofs.meets.first_met.Goals.{then-is_before+then-is_met, else-is_before, else-is_before-via-then-is_before+else-is_met, else-is_before-via-else-is_before}
+use Rattle.nef_space.proofs.Lists.{is-at_within}
 
 pub item_values-first_values-requires-clause-normal : goal.item_values-first_values-requires-clause-normal
 item_values-first_values-requires-clause-normal c = c.requires.map.small.normals 0 (item_of c.item_at.result) c.item_at.ensures.item
@@ -40,7 +40,7 @@ loop-number-preserved c =
 pub returns-clause-small : goal.returns-clause-small
 returns-clause-small c =
     let f = c.loop-number.invariant in
-    let h = at-within (items (map_of c.args.map.now)) c.loop-number.first f.item f.listed in
+    let h = is-at_within (items (map_of c.args.map.now)) c.loop-number.first f.item f.listed in
     let e = c.item_count-number-end.ensures.count in
     let s = c.item_count-number-end.ensures.small in
     omega arith

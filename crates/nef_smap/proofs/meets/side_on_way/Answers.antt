@@ -1,33 +1,33 @@
-use Rattle.nef_smap.proofs.Prelude.{ℕ, ◌+◌, ◌^◌, arith, ap, sym, ◌∙◌, length, Vector, dot, cross, blend, up, vector_of, sign_of, IsAt, Item, items, item_normal, dir_of, forms, amount, at-one, item_of, map_of, arc_of, wide_vector}
+use Rattle.nef_smap.proofs.Prelude.{ℕ, ◌+◌, ◌^◌, arith, ap, sym, ◌∙◌, length, Vector, dot, cross, blend, up, vector_of, sign_of, IsAt, Item, items, item_normal, dir_of, forms, amount, is-at_one, item_of, map_of, arc_of, wide_vector}
 use Rattle.nef_smap.proofs.ArcEnds.{source-within, source-end, normal-small}
 use Rattle.nef_smap.proofs.MapLists.{length-items}
 use Rattle.nef_smap.proofs.MeetSigns.{start-value}
 use Rattle.nef_smap.proofs.FreeSeen.{first-above, first-below, first-parts, up-leads, side-chosen, firsts-carried}
 use Rattle.nef_smap.proofs.meets.side_on_way.Goals as goal
-use Rattle.nef_smap.proofs.Lists.{map-from_get, at-within}
+use Rattle.nef_space.proofs.Lists.{is-at_within, map-is_at}
 
 pub at-requires : goal.at-requires
-at-requires c = record { within = source-within c.args.map.now c.requires.map 0 c.at-arc.result.now (map-from_get arc_of c.args.map.now.arcs 0 c.at-arc.result.now c.at-arc.ensures.element) }
+at-requires c = record { within = source-within c.args.map.now c.requires.map 0 c.at-arc.result.now (map-is_at arc_of c.args.map.now.arcs 0 c.at-arc.result.now c.at-arc.ensures.element) }
 
 pub way_to-way-requires-clause-svertex_small : goal.way_to-way-requires-clause-svertex_small
 way_to-way-requires-clause-svertex_small c =
-    let e = source-end c.args.map.now c.requires.map 0 c.at-arc.result.now (map-from_get arc_of c.args.map.now.arcs 0 c.at-arc.result.now c.at-arc.ensures.element) c.at.result.now c.at.ensures.element in
+    let e = source-end c.args.map.now c.requires.map 0 c.at-arc.result.now (map-is_at arc_of c.args.map.now.arcs 0 c.at-arc.result.now c.at-arc.ensures.element) c.at.result.now c.at.ensures.element in
     e.small
 
 pub way_to-way-requires-clause-normal_small : goal.way_to-way-requires-clause-normal_small
-way_to-way-requires-clause-normal_small c = normal-small c.args.map.now c.requires.map 0 c.at-arc.result.now (map-from_get arc_of c.args.map.now.arcs 0 c.at-arc.result.now c.at-arc.ensures.element)
+way_to-way-requires-clause-normal_small c = normal-small c.args.map.now c.requires.map 0 c.at-arc.result.now (map-is_at arc_of c.args.map.now.arcs 0 c.at-arc.result.now c.at-arc.ensures.element)
 
 pub first_met-first-requires-clause-some : goal.first_met-first-requires-clause-some
 first_met-first-requires-clause-some c = let e = length-items c.args.map.now.arcs c.args.map.now.sloop in let f = c.requires.arcs in omega arith
 
 pub item_at-requires : goal.item_at-requires
-item_at-requires c = let f = c.first_met-first.ensures.first in record { within = at-within (items (map_of c.args.map.now)) c.first_met-first.result f.0 f.1 }
+item_at-requires c = let f = c.first_met-first.ensures.first in record { within = is-at_within (items (map_of c.args.map.now)) c.first_met-first.result f.0 f.1 }
 
 pub item_values-requires-clause-normal : goal.item_values-requires-clause-normal
 item_values-requires-clause-normal c = c.requires.map.small.normals c.first_met-first.result (item_of c.item_at.result) c.item_at.ensures.item
 
 pub item_side-requires : goal.item_side-requires
-item_side-requires c = let f = c.first_met-first.ensures.first in record { within = at-within (items (map_of c.args.map.now)) c.first_met-first.result f.0 f.1 }
+item_side-requires c = let f = c.first_met-first.ensures.first in record { within = is-at_within (items (map_of c.args.map.now)) c.first_met-first.result f.0 f.1 }
 
 pub returns : goal.returns
 returns c =
@@ -36,7 +36,7 @@ returns c =
     let M = map_of m in
     let d = vector_of c.args.d.now in
     let arc = c.at-arc.result.now in
-    let h = map-from_get arc_of m.arcs 0 arc c.at-arc.ensures.element in
+    let h = map-is_at arc_of m.arcs 0 arc c.at-arc.ensures.element in
     let v = source-end m S 0 arc h c.at.result.now c.at.ensures.element in
     let w = c.way_to-way.result in
     let n = vector_of arc.normal in
@@ -52,7 +52,7 @@ returns c =
     let F = c.requires.free in
     let j = 2 ^ 128 + amount (forms M) up in
     let z = dot (item_normal x) (blend j d 1 up) in
-    let one = at-one (items M) i (item_of c.item_at.result) x c.item_at.ensures.item q in
+    let one = is-at_one (items M) i (item_of c.item_at.result) x c.item_at.ensures.item q in
     let value = c.sign-start.ensures.sign j (omega arith)
     ∙ ap sign_of (start-value w (item_normal (item_of c.item_at.result)) c.item_values.result j c.item_values.ensures.values
     ∙ ap (λ (y : Item). dot (item_normal y) (blend j (wide_vector w.start) 1 (wide_vector w.upward))) one

@@ -1,9 +1,9 @@
 use Rattle.nef_smap.proofs.Prelude.{pos, ◌<ℤ◌, sym, subst, Vector, triple, up, vector_of, arc_item, items, map_of, arc_of, FirstNear}
 use Rattle.nef_smap.proofs.CloseSigns.{dir-from_get}
-use Rattle.nef_smap.proofs.Lists.{at-within}
 use Rattle.nef_smap.proofs.Upward.{ends-within, map-ahead}
 use Rattle.nef_smap.proofs.Joining.{arc-listed, arc-item_listed, source-level, normal-small, cross-level, along-some, along-forward, along-off, dir-small}
 use Rattle.nef_smap.proofs.sface.join_arc.Goals as goal
+use Rattle.nef_space.proofs.Lists.{is-at_within}
 
 pub at-requires : goal.at-requires
 at-requires c =
@@ -25,7 +25,7 @@ common_perpendicular-aside-requires-clause-apart c =
 pub item_side-requires : goal.item_side-requires
 item_side-requires c =
     let m = c.args.map.now in
-    record { within = at-within (items (map_of m)) c.args.number (arc_item (arc_of c.at-arc.result.now)) (arc-item_listed m c.requires.map c.args.number c.at-arc.result.now c.at-arc.ensures.element) }
+    record { within = is-at_within (items (map_of m)) c.args.number (arc_item (arc_of c.at-arc.result.now)) (arc-item_listed m c.requires.map c.args.number c.at-arc.result.now c.at-arc.ensures.element) }
 
 pub number_near-requires-clause-off : goal.number_near-requires-clause-off
 number_near-requires-clause-off c =

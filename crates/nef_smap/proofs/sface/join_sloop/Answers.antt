@@ -2,7 +2,7 @@ use Rattle.nef_smap.proofs.Prelude.{ℕ, length, arith, refl, ap, ◌∙◌, vec
 use Rattle.nef_smap.proofs.MapLists.{item-sloop}
 use Rattle.nef_smap.proofs.Joining.{normal-small, plane-across}
 use Rattle.nef_smap.proofs.sface.join_sloop.Goals as goal
-use Rattle.nef_smap.proofs.Lists.{at-within}
+use Rattle.nef_space.proofs.Lists.{is-at_within}
 
 pub on_circle-at-requires : goal.on_circle-at-requires
 on_circle-at-requires c =
@@ -20,7 +20,7 @@ beside-requires c =
 pub item_side-requires : goal.item_side-requires
 item_side-requires c =
     let m = c.args.map.now in
-    let h = at-within (items (map_of m)) (length m.arcs) (sloop_item (sloop_of c.args.circle.now)) (item-sloop m.arcs m.sloop (length m.arcs) c.args.circle.now refl c.requires.circle) in
+    let h = is-at_within (items (map_of m)) (length m.arcs) (sloop_item (sloop_of c.args.circle.now)) (item-sloop m.arcs m.sloop (length m.arcs) c.args.circle.now refl c.requires.circle) in
     record { within = omega (arith, c.len.ensures.len) }
 
 pub returns : goal.returns

@@ -1,7 +1,7 @@
 use Rattle.nef_sover.proofs.Prelude.{IsTrackMeet}
-use Rattle.nef_sover.proofs.Places.{read-at}
 use Rattle.nef_sover.proofs.Adding.{any-none, any-more, any-all}
 use Rattle.nef_sover.proofs.axes.add_meets_with.Goals as goal
+use Rattle.nef_space.proofs.Lists.{is-at_read}
 
 pub loop-y-init : goal.loop-y-init
 loop-y-init c = record { added = any-none (IsTrackMeet c.args.x.now) c.args.ys.now c.args.axes.now.items }
@@ -13,7 +13,7 @@ loop-y-preserved c = record {
 }
 
 pub add_meets-requires-clause-y_small : goal.add_meets-requires-clause-y_small
-add_meets-requires-clause-y_small c = c.requires.ys_small c.loop-y.y-index c.y-item.result (read-at c.args.ys.now c.loop-y.y-index c.y-item.result c.loop-y-test.true c.y-item.is)
+add_meets-requires-clause-y_small c = c.requires.ys_small c.loop-y.y-index c.y-item.result (is-at_read c.args.ys.now c.loop-y.y-index c.y-item.result c.loop-y-test.true c.y-item.is)
 
 pub returns : goal.returns
 returns c = record { added = any-all (IsTrackMeet c.args.x.now) c.args.ys.now c.loop-y.y-index c.args.axes.now.items c.loop-y.axes.items c.loop-y-test.false c.loop-y.invariant.added }

@@ -1,4 +1,4 @@
-use Rattle.nef_sover.proofs.Prelude.{vector_of, items, op_label, IsStar, IsCombined, map_of, at-within, IsMergedAt}
+use Rattle.nef_sover.proofs.Prelude.{vector_of, items, op_label, IsStar, IsCombined, map_of, is-at_within, IsMergedAt}
 use Rattle.nef_sover.proofs.CrossedStars.{crossed-at, item-line, line-at, lines-apart, crossed-ok}
 use Rattle.nef_sover.proofs.Places.{if-ok}
 use Rattle.nef_sover.proofs.StarsMerged.{merged-at}
@@ -8,13 +8,13 @@ pub line-x-requires : goal.line-x-requires
 line-x-requires c =
     let A = map_of c.args.a.now in let n = c.in-Some.numbers in
     let C = crossed-at A (map_of c.args.b.now) c.args.axis.now.crossed n (vector_of c.args.axis.now.dir) c.in-Some.is c.requires.placed in
-    record { within = at-within (items A) n.0 C.x C.of_a }
+    record { within = is-at_within (items A) n.0 C.x C.of_a }
 
 pub line-y-requires : goal.line-y-requires
 line-y-requires c =
     let B = map_of c.args.b.now in let n = c.in-Some.numbers in
     let C = crossed-at (map_of c.args.a.now) B c.args.axis.now.crossed n (vector_of c.args.axis.now.dir) c.in-Some.is c.requires.placed in
-    record { within = at-within (items B) n.1 C.y C.of_b }
+    record { within = is-at_within (items B) n.1 C.y C.of_b }
 
 pub crossed-requires-clause-first : goal.crossed-requires-clause-first
 crossed-requires-clause-first c =

@@ -1,23 +1,24 @@
-use Rattle.nef_spair.proofs.Prelude.{◌+◌, List, length, get_or, Vec, Global, arith, sym, ap, subst, ◌∙◌, IsAt, at-one, Ray, Star, IsStar, true_or_false, SArc, get-at, AreArcs}
-use Rattle.nef_spair.proofs.Places.{index-at, all-at}
+use Rattle.nef_spair.proofs.Prelude.{◌+◌, List, length, get_or, Vec, Global, arith, sym, ap, subst, ◌∙◌, IsAt, is-at_one, Ray, Star, IsStar, true_or_false, SArc, is-at_get, AreArcs}
+use Rattle.nef_spair.proofs.Places.{all-at}
 use Rattle.nef_spair.proofs.Leaving.{arcs-past, arcs-more, arcs-next}
 use Rattle.nef_spair.proofs.along.push_arcs.Goals as goal
 use Rattle.nef_spair.proofs.along.push_arcs.Goals.{then-ray+in_ok-push, else-ray}
+use Rattle.nef_space.proofs.Lists.{is-at_read}
 
 pub arc_along-requires-clause-ray : goal.arc_along-requires-clause-ray
 arc_along-requires-clause-ray c =
     let kept = c.args.kept.now in let s = get_or kept c.args.from c.index-kept-from.result in let r = c.ray-item.result in let n = c.loop-number.number in
-    let ray = index-at c.as_slice-ray-items.result.now n r c.loop-number-test.true c.ray-item.is in
+    let ray = is-at_read c.as_slice-ray-items.result.now n r c.loop-number-test.true c.ray-item.is in
     λ t a.
-    let e = at-one kept c.args.from s t (get-at kept c.args.from c.index-kept-from.result c.requires.within) a in
+    let e = is-at_one kept c.args.from s t (is-at_get kept c.args.from c.index-kept-from.result c.requires.within) a in
     subst (λ (x : Star). IsAt x.rays.items n r) e (subst (λ (l : List Ray). IsAt l n r) c.as_slice-ray-items.ensures.value ray)
 
 pub loop-number-preserved : goal.loop-number-preserved
 loop-number-preserved c =
     let kept = c.args.kept.now in let s = get_or kept c.args.from c.index-kept-from.result in let r = c.ray-item.result in let i = c.args.from in let n = c.loop-number.number in
     let arcs = c.loop-number.arcs.items in let inv = c.loop-number.invariant in
-    let star = get-at kept i c.index-kept-from.result c.requires.within in
-    let ray = subst (λ (l : List Ray). IsAt l n r) c.as_slice-ray-items.ensures.value (index-at c.as_slice-ray-items.result.now n r c.loop-number-test.true c.ray-item.is) in
+    let star = is-at_get kept i c.index-kept-from.result c.requires.within in
+    let ray = subst (λ (l : List Ray). IsAt l n r) c.as_slice-ray-items.ensures.value (is-at_read c.as_slice-ray-items.result.now n r c.loop-number-test.true c.ray-item.is) in
     elim c.if-ray.branch [
       | then-ray+in_ok-push w ↦
           let e = w.arc_along.ensures in let star = all-at IsStar kept c.requires.stars w.arc_along.result.source e.along.star e.along.has_star in
@@ -30,5 +31,5 @@ loop-number-preserved c =
 pub returns : goal.returns
 returns c =
     let kept = c.args.kept.now in let s = get_or kept c.args.from c.index-kept-from.result in
-    let a = get-at kept c.args.from c.index-kept-from.result c.requires.within in
+    let a = is-at_get kept c.args.from c.index-kept-from.result c.requires.within in
     record { arcs = arcs-next kept c.args.from c.loop-number.number c.loop-number.arcs.items s a (let e = ap length c.as_slice-ray-items.ensures.value in let f = c.loop-number-test.false in omega (arith, e, f)) c.loop-number.invariant }

@@ -1,5 +1,5 @@
 -- Each old number gets its new one.
-use Rattle.nef_turn.proofs.Prelude.{arith, ◌∙◌, length-set, read-at}
+use Rattle.nef_turn.proofs.Prelude.{arith, ◌∙◌, length-set, is-at_read}
 use Rattle.nef_turn.proofs.MovedSvertices.{numbers-none, numbers-step, numbers-end}
 use Rattle.nef_turn.proofs.maps.new_numbers.Goals as goal
 
@@ -10,7 +10,7 @@ pub index_mut-requires : goal.index_mut-requires
 index_mut-requires c =
     let us = c.args.svertices.now in
     let w = c.index-svertices-new.result in
-    let l = c.requires.within c.loop-new.new w (read-at us c.loop-new.new w c.loop-new-test.true c.index-svertices-new.is) in
+    let l = c.requires.within c.loop-new.new w (is-at_read us c.loop-new.new w c.loop-new-test.true c.index-svertices-new.is) in
     let e = c.loop-new.invariant.count in
     let o = c.loop-new.numbers.ok in
     omega (arith, l, e, o)

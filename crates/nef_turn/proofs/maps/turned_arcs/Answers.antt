@@ -1,5 +1,5 @@
 -- Each arc has its image, at its place, and the sorted images are the turned arcs, in order.
-use Rattle.nef_turn.proofs.Prelude.{◌≡◌, ◌<◌, ◌≤◌, List, length, get_or, sym, subst, SArc, read-at, AreImages, IsSArcImage}
+use Rattle.nef_turn.proofs.Prelude.{◌≡◌, ◌<◌, ◌≤◌, List, length, get_or, sym, subst, SArc, is-at_read, AreImages, IsSArcImage}
 use Rattle.nef_turn.proofs.Images.{images-none, images-step, images-end}
 use Rattle.nef_turn.proofs.TurnedArcs.{ends-within, arcs-apart, arcs-sorted}
 use Rattle.nef_turn.proofs.maps.turned_arcs.Goals as goal
@@ -14,7 +14,7 @@ turned_arc-requires c =
     let m = c.args.map.now in let i = c.loop-arc.arc-index in let a = c.arc-item.result in let all = c.as_slice-arc-items.ensures.all in
     record {
       ends = ends-within c.args.turn.now.number m c.requires.shaped c.args.numbers.now c.requires.numbers i a
-          (read-at m.arcs i a (subst (λ (l : List SArc). i < length l) all c.loop-arc-test.true) (subst (λ (l : List SArc). a ≡ get_or l i a) all c.arc-item.is));
+          (is-at_read m.arcs i a (subst (λ (l : List SArc). i < length l) all c.loop-arc-test.true) (subst (λ (l : List SArc). a ≡ get_or l i a) all c.arc-item.is));
     }
 
 pub loop-arc-preserved : goal.loop-arc-preserved

@@ -1,5 +1,5 @@
 -- Each vertex has its image, at its place, and the sorted images are the turned vertices.
-use Rattle.nef_turn.proofs.Prelude.{List, map, sym, subst, rules, ranks_by, answers_always, is_lt, point_of, map_of, vertex_of, Vertex, IsOrder, read-at, AreTurnedVertices, AreImages, IsVertexImage}
+use Rattle.nef_turn.proofs.Prelude.{List, map, sym, subst, rules, ranks_by, answers_always, is_lt, point_of, map_of, vertex_of, Vertex, IsOrder, is-at_read, AreTurnedVertices, AreImages, IsVertexImage}
 use Rattle.nef_cand.proofs.Order.{answers-less}
 use Rattle.law_turns.proofs.TurnedLists.{lists-turned}
 use Rattle.nef_turn.proofs.Images.{images-none, images-step, images-end}
@@ -15,7 +15,7 @@ loop-vertex-init c =
 pub turned_map-requires : goal.turned_map-requires
 turned_map-requires c =
     let i = c.loop-vertex.vertex-index in let v = c.vertex-item.result in
-    record { map = c.requires.least i v (read-at c.args.vertices.now i v c.loop-vertex-test.true c.vertex-item.is) }
+    record { map = c.requires.least i v (is-at_read c.args.vertices.now i v c.loop-vertex-test.true c.vertex-item.is) }
 
 pub loop-vertex-preserved : goal.loop-vertex-preserved
 loop-vertex-preserved c =

@@ -1,4 +1,4 @@
-use Rattle.nef_volumes.proofs.Prelude.{arith, ap, ◌∙◌, svertex_of, map-at, at-from_get, vertex_of, side_cell}
+use Rattle.nef_volumes.proofs.Prelude.{arith, ap, ◌∙◌, svertex_of, map-is_at, vertex_of, side_cell}
 use Rattle.nef_volumes.proofs.ReadVertex.{vertex-there}
 use Rattle.nef_volumes.proofs.EndsFound.{svertex-within, none-around}
 use Rattle.nef_volumes.proofs.numbers.around_cell.Goals as goal
@@ -19,7 +19,7 @@ returns-in-Some c =
         svertex_of sv,
         c.in-Some.field-0,
         vertex-there c.args.c.now c.args.vertex u c.at.ensures.element,
-        map-at svertex_of u.map.svertices c.args.svertex sv (at-from_get u.map.svertices c.args.svertex sv c.at-2.ensures.element),
+        map-is_at svertex_of u.map.svertices c.args.svertex sv c.at-2.ensures.element,
         c.in-Some.is,
         c.cell.ensures.cell ∙ ap (side_cell c.args.vertex) c.around_side.ensures.number,
       );

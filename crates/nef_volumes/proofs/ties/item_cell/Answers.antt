@@ -1,4 +1,4 @@
-use Rattle.nef_volumes.proofs.Prelude.{subst, ap, ◌∙◌, IsAt, items, Vertex, map_of, at-within, vertex_of, complex_of, side_cell}
+use Rattle.nef_volumes.proofs.Prelude.{subst, ap, ◌∙◌, IsAt, items, Vertex, map_of, is-at_within, vertex_of, complex_of, side_cell}
 use Rattle.nef_volumes.proofs.ReadVertex.{vertex-there, vertex-read, vertex-within}
 use Rattle.nef_volumes.proofs.ItemTies.{item-there}
 use Rattle.nef_volumes.proofs.ties.item_cell.Goals as goal
@@ -12,7 +12,7 @@ pub item_side-requires : goal.item_side-requires
 item_side-requires c =
     let r = item-there (complex_of c.args.c.now) c.args.item.now c.requires.within in
     let one = vertex-read c.args.c.now c.args.item.now.row c.at.result.now r.0 c.at.ensures.element r.2 in
-    record { within = at-within (items (map_of c.at.result.now.map)) c.args.item.now.column r.1 (subst (λ (v : Vertex). IsAt (items v.map) c.args.item.now.column r.1) one r.3) }
+    record { within = is-at_within (items (map_of c.at.result.now.map)) c.args.item.now.column r.1 (subst (λ (v : Vertex). IsAt (items v.map) c.args.item.now.column r.1) one r.3) }
 
 pub cell-requires : goal.cell-requires
 cell-requires c =

@@ -1,4 +1,4 @@
-use Rattle.nef_volumes.proofs.Prelude.{List, ℕ, arith, sym, subst, length-map, at-some, vertex_of, complex_of, HasSfaces}
+use Rattle.nef_volumes.proofs.Prelude.{List, ℕ, arith, sym, subst, length-map, is-at_some, vertex_of, complex_of, HasSfaces}
 use Rattle.nef_volumes.proofs.SfaceTies.{below-none, below-more, sface-tied}
 use Rattle.nef_volumes.proofs.ReadVertex.{vertex-within}
 use Rattle.nef_volumes.proofs.ties.sface_ties.Goals as goal
@@ -14,7 +14,7 @@ add_sfaces-requires-clause-numbers c =
     let C = complex_of c.args.c.now in
     let i = c.loop-vertex.vertex in
     let m = length-map c.args.c.now.vertices vertex_of in
-    let v = at-some C.vertices i (omega (arith, m, c.loop-vertex-test.true, c.len-vertex-end.ensures.len)) in
+    let v = is-at_some C.vertices i (omega (arith, m, c.loop-vertex-test.true, c.len-vertex-end.ensures.len)) in
     subst (λ (ns : List ℕ). HasSfaces C i ns) (sym c.as_slice.ensures.all) (v.0, v.1, c.requires.sfaces.row i v.0 c.at.result.now v.1 c.at.ensures.element)
 
 pub loop-vertex-init : goal.loop-vertex-init

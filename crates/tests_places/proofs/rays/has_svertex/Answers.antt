@@ -1,4 +1,4 @@
-use Rattle.tests_places.proofs.Prelude.{◌≡◌, List, arith, rules, sym, subst, SVertex, at-within, IsAt, none-more}
+use Rattle.tests_places.proofs.Prelude.{◌≡◌, List, arith, rules, sym, subst, SVertex, is-at_within, IsAt, none-more}
 use Rattle.tests_places.proofs.rays.has_svertex.Goals as goal
 
 pub loop-svertex-preserved : goal.loop-svertex-preserved
@@ -11,6 +11,6 @@ pub returns : goal.returns
 returns c = record {
   none = λ e j u a.
       let hs = c.as_slice-svertex-items.result.now in
-      let l = at-within hs j u (subst (λ (r : List SVertex). IsAt r j u) (sym c.as_slice-svertex-items.ensures.all) a) in
+      let l = is-at_within hs j u (subst (λ (r : List SVertex). IsAt r j u) (sym c.as_slice-svertex-items.ensures.all) a) in
       c.loop-svertex.invariant j u (let t = c.loop-svertex-test.false in omega (arith, l, t)) a;
 }

@@ -1,4 +1,4 @@
-use Rattle.tests_places.proofs.Prelude.{form_of, vector_of, hit_point, got-at, are-items}
+use Rattle.tests_places.proofs.Prelude.{form_of, vector_of, hit_point, are-items}
 use Rattle.nef_facets.proofs.WayInward.{small-back}
 use Rattle.tests_places.proofs.Directions.{no-svertex_at}
 use Rattle.tests_places.proofs.rays.met_against.Goals as goal
@@ -12,4 +12,4 @@ first_along_dir-requires-clause-small c = small-back (vector_of c.plane_dir-d.re
 pub first_along_dir-requires-clause-no_svertex : goal.first_along_dir-requires-clause-no_svertex
 first_along_dir-requires-clause-no_svertex c =
     let C = c.args.c.now in let v = c.at.result.now in
-    no-svertex_at C c.args.vertex v (got-at C.vertices c.args.vertex v c.at.ensures.element) (hit_point c.hit_at-p.result) c.back-e.result c.hit_at-p.ensures.same (c.has_no_svertex.ensures.none c.if-has_no_svertex.true)
+    no-svertex_at C c.args.vertex v c.at.ensures.element (hit_point c.hit_at-p.result) c.back-e.result c.hit_at-p.ensures.same (c.has_no_svertex.ensures.none c.if-has_no_svertex.true)

@@ -1,4 +1,4 @@
-use Rattle.tests_places.proofs.Prelude.{◌≡◌, rules, sym, ◌∙◌, inl, inr, form_at, normal_of, plane_dir, form_of, hit_point, vector_of, Zero, zero_sign, got-at, are-items, SameDirection-turned}
+use Rattle.tests_places.proofs.Prelude.{◌≡◌, rules, sym, ◌∙◌, inl, inr, form_at, normal_of, plane_dir, form_of, hit_point, vector_of, Zero, zero_sign, are-items, SameDirection-turned}
 use Rattle.tests_places.proofs.Directions.{no-svertex_at}
 use Rattle.tests_places.proofs.rays.met_from_vertex.Goals as goal
 
@@ -8,7 +8,7 @@ first_along_dir-requires-clause-items c = are-items c.args.c.now (form_of c.args
 pub first_along_dir-requires-clause-no_svertex : goal.first_along_dir-requires-clause-no_svertex
 first_along_dir-requires-clause-no_svertex c =
     let C = c.args.c.now in let v = c.at.result.now in
-    no-svertex_at C c.args.vertex v (got-at C.vertices c.args.vertex v c.at.ensures.element) (hit_point c.hit_at-p.result) c.plane_dir-d.result c.hit_at-p.ensures.same (c.has_no_svertex.ensures.none (search (rules, c.if-not-has_no_svertex.false)))
+    no-svertex_at C c.args.vertex v c.at.ensures.element (hit_point c.hit_at-p.result) c.plane_dir-d.result c.hit_at-p.ensures.same (c.has_no_svertex.ensures.none (search (rules, c.if-not-has_no_svertex.false)))
 
 pub first_in_plane-requires-clause-on : goal.first_in_plane-requires-clause-on
 first_in_plane-requires-clause-on c =

@@ -1,4 +1,4 @@
-use Rattle.nef_complex.proofs.Prelude.{◌≡◌, List, refl, ap, sym, subst, ◌∙◌, Plane, Edge, Vertex, AreVertexHolders, AreItemFlags, HaveEnds, Skeleton, skeleton, points_of}
+use Rattle.nef_complex.proofs.Prelude.{◌≡◌, List, refl, ap, sym, subst, ◌∙◌, Plane, Edge, Vertex, AreVertexHolders, AreItemFlags, HaveEnds, IndexedLists, indexed_lists, points_of}
 use Rattle.nef_complex.proofs.IndexSteps.{item-carrier}
 use Rattle.nef_complex.proofs.complex.Complex.of.Goals as goal
 
@@ -6,8 +6,8 @@ use Rattle.nef_complex.proofs.complex.Complex.of.Goals as goal
 of-two : {A B : Type 0} (P : A → B → Type 0) (a c : A) (b d : B) → a ≡ c → b ≡ d → P a b → P c d
 of-two P a c b d e f p = subst (P c) f (subst (λ x. P x b) e p)
 
-of-three : (x : Skeleton) (hs gs : List Plane) (vs us : List Vertex) (es ds : List Edge) → hs ≡ gs → vs ≡ us → es ≡ ds → x ≡ skeleton hs vs es → x ≡ skeleton gs us ds
-of-three x hs gs vs us es ds a b d e = of-two (λ ks ws. x ≡ skeleton ks ws ds) hs gs vs us a b (subst (λ fs. x ≡ skeleton hs vs fs) d e)
+of-three : (x : IndexedLists) (hs gs : List Plane) (vs us : List Vertex) (es ds : List Edge) → hs ≡ gs → vs ≡ us → es ≡ ds → x ≡ indexed_lists hs vs es → x ≡ indexed_lists gs us ds
+of-three x hs gs vs us es ds a b d e = of-two (λ ks ws. x ≡ indexed_lists ks ws ds) hs gs vs us a b (subst (λ fs. x ≡ indexed_lists hs vs fs) d e)
 
 pub index_of-requires : goal.index_of-requires
 index_of-requires c =
@@ -21,8 +21,8 @@ index_of-requires c =
 
 pub item_flags-requires : goal.item_flags-requires
 item_flags-requires c = record {
-  carriers = ap (λ (x : Skeleton). x.carriers) c.in_ok-index.ensures.index ∙ c.as_slice.ensures.all ∙ sym c.as_slice-4.ensures.all;
-  points = ap (λ (x : Skeleton). x.points) c.in_ok-index.ensures.index ∙ ap points_of (c.as_slice-2.ensures.all ∙ sym c.as_slice-5.ensures.all);
+  carriers = ap (λ (x : IndexedLists). x.carriers) c.in_ok-index.ensures.index ∙ c.as_slice.ensures.all ∙ sym c.as_slice-4.ensures.all;
+  points = ap (λ (x : IndexedLists). x.points) c.in_ok-index.ensures.index ∙ ap points_of (c.as_slice-2.ensures.all ∙ sym c.as_slice-5.ensures.all);
 }
 
 pub returns-clause-flagged : goal.returns-clause-flagged

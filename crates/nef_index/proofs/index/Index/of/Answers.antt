@@ -1,6 +1,6 @@
 use Rattle.nef_index.proofs.Prelude.{sym, subst, ◌∙◌, AreCommonRows, HavePeaks, ArePointSpans, AreRowsOfOnce, HaveEnds}
 use Rattle.nef_index.specs.Index.{IsIndex}
-use Rattle.nef_index.specs.Skeleton.{Skeleton}
+use Rattle.nef_index.specs.Skeleton.{IndexedLists}
 use Rattle.nef_index.proofs.CommonRows.{holders-rise, ends-rows, edges-held}
 use Rattle.nef_index.proofs.Turned.{points-once, edges-once, carrier-points, carrier-edges}
 use Rattle.nef_index.proofs.index.Index.of.Goals as goal
@@ -31,7 +31,7 @@ invariant_of-result g c =
     let o = c.in_ok-on_carrier.ensures in let t = c.in_ok-in_carrier.ensures in let q = c.in_ok-carriers.ensures in
     let E = edges-held hs ps c.args.at_point G.rows es rows (subst (λ ds. AreCommonRows c.args.at_point ds rows) (sym G.edges) c.in_ok-at_edge.ensures.common) in
     subst
-    (λ (s : Skeleton). IsIndex (record { at_point = c.args.at_point; at_edge = rows; on_carrier = on; in_carrier = within; points = c.args.points; carriers = c.in_ok-carriers.carriers; clusters = c.in_ok-carriers.clusters; peaks = peaks; told = record { skeleton = s } }))
+    (λ (s : IndexedLists). IsIndex (record { at_point = c.args.at_point; at_edge = rows; on_carrier = on; in_carrier = within; points = c.args.points; carriers = c.in_ok-carriers.carriers; clusters = c.in_ok-carriers.clusters; peaks = peaks; told = record { skeleton = s } }))
     (sym c.new-told.ensures)
     (record {
       at_point = G.rows;

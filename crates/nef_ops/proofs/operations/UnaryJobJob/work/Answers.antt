@@ -1,4 +1,4 @@
-use Rattle.nef_ops.proofs.Prelude.{[], IfOk-weaker, point_of, unary_set, got-at}
+use Rattle.nef_ops.proofs.Prelude.{[], IfOk-weaker, point_of, unary_set}
 use Rattle.nef_ops.proofs.Gathered.{vertex-right}
 use Rattle.nef_ops.proofs.operations.UnaryJobJob.work.Goals as goal
 
@@ -11,5 +11,5 @@ pub returns : goal.returns
 returns c =
     let j = c.args.self.now in let v = c.at-vertex.result.now in
     IfOk-weaker c.of.result _ _ (λ o told s S.
-    vertex-right s j.complex.now S j.op c.args.job v c.in_ok-map.map o (got-at j.complex.now.vertices c.args.job v c.at-vertex.ensures.element)
+    vertex-right s j.complex.now S j.op c.args.job v c.in_ok-map.map o c.at-vertex.ensures.element
     (λ p. told [] [] (unary_set j.op s) p) (c.in_ok-map.ensures.cone s (point_of v.point))) c.of.ensures.outcome

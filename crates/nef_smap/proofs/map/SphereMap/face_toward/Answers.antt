@@ -3,7 +3,7 @@ use mir.Val.{bool_byte}
 use Rattle.nef_smap.proofs.MapLists.{length-items, item-sloop}
 use Rattle.nef_smap.proofs.FreeSeen.{bare-seen, circle-off, circle-above, circle-below, side-chosen}
 use Rattle.nef_smap.proofs.map.SphereMap.face_toward.Goals as goal
-use Rattle.nef_smap.proofs.Lists.{at-within}
+use Rattle.nef_space.proofs.Lists.{is-at_within}
 
 pub item_side-requires : goal.item_side-requires
 item_side-requires c =
@@ -22,7 +22,7 @@ returns-in-Some c =
     let h = item-sloop m.arcs m.sloop 0 l (sym none) c.in-Some.is in
     let one : length (items M) ≡ length m.arcs + bool_byte (is_some m.sloop) = length-items m.arcs m.sloop in
     let some : bool_byte (is_some m.sloop) ≡ 1 = ap (λ o. bool_byte (is_some o)) c.in-Some.is in
-    let only : (i : ℕ) (x : Item) → IsAt (items M) i x → i ≡ 0 = λ i x a. let w = at-within (items M) i x a in omega arith in
+    let only : (i : ℕ) (x : Item) → IsAt (items M) i x → i ≡ 0 = λ i x a. let w = is-at_within (items M) i x a in omega arith in
     let V = c.requires.map.valid.shaped in
     let F = c.requires.free in
     let s = c.item_side.ensures.side in

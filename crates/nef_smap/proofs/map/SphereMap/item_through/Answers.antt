@@ -1,4 +1,4 @@
-use Rattle.nef_smap.proofs.Prelude.{arith, sym, ◌∙◌, subst, not_true, Vector, SameDirection, vector_of, Item, items, item_normal, OnItem, at-one, item_of, map_of}
+use Rattle.nef_smap.proofs.Prelude.{arith, sym, ◌∙◌, subst, not_true, Vector, SameDirection, vector_of, Item, items, item_normal, OnItem, is-at_one, item_of, map_of}
 use Rattle.nef_smap.proofs.Found.{none-more, none-of_all}
 use Rattle.nef_smap.proofs.map.SphereMap.item_through.Goals.{else-is_same-via-then-is_same+else-item_holds, else-is_same-via-else-is_same}
 use Rattle.nef_smap.proofs.map.SphereMap.item_through.Goals as goal
@@ -8,7 +8,7 @@ returns-then-item_holds c =
     let M = map_of c.args.self.now in
     let x = item_of c.item_at.result in
     let r = c.item_holds.ensures.on in
-    let same = at-one (items M) c.loop-number.number r.0 x r.1 c.item_at.ensures.item in
+    let same = is-at_one (items M) c.loop-number.number r.0 x r.1 c.item_at.ensures.item in
     record {
       item = (
         x,
@@ -27,7 +27,7 @@ loop-number-preserved c =
     let off : SameDirection (item_normal x) n × OnItem M x d → ⊥ = elim c.else-is_same.branch [
       | else-is_same-via-then-is_same+else-item_holds w ↦ λ p.
           let r = w.item_holds.ensures.on in
-          let same = at-one (items M) c.loop-number.number r.0 x r.1 c.item_at.ensures.item in
+          let same = is-at_one (items M) c.loop-number.number r.0 x r.1 c.item_at.ensures.item in
           not_true (sym w.if-item_holds.false ∙ r.2.1 (subst (λ (y : Item). OnItem M y d) (sym same) p.1))
       | else-is_same-via-else-is_same w ↦ λ p. not_true (sym w.if-is_same.false ∙ c.is_same.ensures.direction.1 (subst (λ (v : Vector). SameDirection v n) (sym c.normal.ensures.normal) p.0))
     ] in
