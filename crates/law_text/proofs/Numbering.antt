@@ -1,6 +1,5 @@
 -- The numbers of classes by first appearance are the only ones.
 use Rattle.law_text.proofs.Prelude.{◌≡◌, ℕ, zero, suc, ◌<◌, ◌≤◌, pos, ◌⊎◌, inl, inr, ⊎_elim, [], ◌∷◌, arith, refl, sym, ap, subst, ints, NumbersClasses, IsBelow}
-use Rattle.nef_classes.proofs.Places.{less-or-not}
 
 -- the place l in row j comes before the place k in row i
 abbrev pub IsEarlier : ℕ → ℕ → ℕ → ℕ → Type 0
@@ -28,6 +27,9 @@ three-ways zero zero = inr (inl refl)
 three-ways zero (suc n) = inl (omega arith)
 three-ways (suc m) zero = inr (inr (omega arith))
 three-ways (suc m) (suc n) = ⊎_elim (λ h. inl (omega arith)) (λ r. ⊎_elim (λ e. inr (inl (ap suc e))) (λ h. inr (inr (omega arith))) r) (three-ways m n)
+
+less-or-not : (m n : ℕ) → (m < n) ⊎ (n ≤ m)
+less-or-not m n = ⊎_elim (λ h. inl h) (λ r. ⊎_elim (λ e. inr (omega arith)) (λ h. inr (omega arith)) r) (three-ways m n)
 
 -- N and M number the same things, which stand at places in rows; what has a number below low in one has the same in the other
 pub numbers-one : {X : Type 0} (Link Before : X → X → Type 0) (low : ℕ) (N M : X → ℕ → Type 0) (Place : X → ℕ → ℕ → Type 0)

@@ -68,9 +68,6 @@ each-svertex l k = each-listed (svertex k) (axis_slot k.x k.y) (order k.x k.y) (
 pub svertex-at : (l : Label) (k : FrameCorner) (a : Axis) → IsAt (octant l k).svertices (axis_slot k.x k.y a) (svertex k a)
 svertex-at l k a = map-is_at (svertex k) (order k.x k.y) (axis_slot k.x k.y a) a (each-slot (λ j o. slice_get (order j.x j.y) (axis_slot j.x j.y o)) (λ j o. Some o) refl k a)
 
-pub each-arc : (l : Label) (k : FrameCorner) (P : ℕ → Arc → Type 0) → ((a : Axis) → P (slot a) (arc l k a)) → (n : ℕ) (c : Arc) → IsAt (octant l k).arcs n c → P n c
-each-arc l k = each-listed (arc l k) slot axes_down refl
-
 pub each-item : (l : Label) (k : FrameCorner) (P : ℕ → Item → Type 0) → ((a : Axis) → P (slot a) (arc_item (arc l k a))) → (n : ℕ) (x : Item) → IsAt (items (octant l k)) n x → P n x
 each-item l k = each-listed (λ a. arc_item (arc l k a)) slot axes_down refl
 

@@ -37,10 +37,6 @@ pub numbers-plain : (ns : List ℕ) → ArePlain (numbers ns)
 numbers-plain [] = tt
 numbers-plain (n ∷ ns) = (decimal-plain n, numbers-plain ns)
 
-pub all-signed-plain : (zs : List ℤ) → ArePlain (signed_numbers zs)
-all-signed-plain [] = tt
-all-signed-plain (z ∷ zs) = (signed-plain z, all-signed-plain zs)
-
 -- ---- labels
 pub label-plain : (l : Label) → IsPlainWord (label_word l)
 label-plain In = (omega arith, tt)

@@ -18,13 +18,6 @@ order-more {A} Below xs y o f i k x z l a b = by (is-at_more xs y i x a) (is-at_
     by (inr c) (inr d) = absurd (let e = c.0 in let g = d.0 in omega arith)
 
 module _ (vs : List Vertex) (J : AreJoined (map vertex_of vs)) where
-  pub edges-none : AreEdges vs (IsEarlierSvertex 0 0) []
-  edges-none = record { edges = λ k e a. absurd (is-at_none a); complete = λ e E q. absurd (none e.low e.low_svertex q); ordered = λ i k x y l a b. absurd (is-at_none a) }
-    where
-      none : (j m : ℕ) → IsEarlierSvertex 0 0 j m → ⊥
-      none j m (inl h) = omega arith
-      none j m (inr h) = let z = h.1 in omega arith
-
   -- the lower end of an edge as the program has it
   low-end : (e : PlainEdge) → IsEdge (map vertex_of vs) e → (v : Vertex) × (s : SVertex) × IsAt vs e.low v × IsAt v.map.svertices e.low_svertex s × IsNormal (vector_of s.dir)
   low-end e E =

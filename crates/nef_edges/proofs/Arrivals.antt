@@ -42,13 +42,6 @@ module _ (vs : List Vertex) where
   pub arriving-weaken : (P Q : ℕ → ℕ → Type 0) (hs : List EdgeEnd) → AreArriving vs P hs → ((j m : ℕ) (v : Vertex) (s : SVertex) → IsAt vs j v → IsAt v.map.svertices m s → Q j m → P j m) → AreArriving vs Q hs
   arriving-weaken P Q hs a f = record { each = a.each; all = λ j m v s b c n q. a.all j m v s b c n (f j m v s b c q) }
 
-  pub arriving-none : AreArriving vs (IsEarlierSvertex 0 0) []
-  arriving-none = record { each = λ k h a. absurd (is-at_none a); all = λ j m v s b c up q. absurd (none j m q) }
-    where
-      none : (j m : ℕ) → IsEarlierSvertex 0 0 j m → ⊥
-      none j m (inl h) = omega arith
-      none j m (inr h) = let z = h.1 in omega arith
-
   -- a svertex that an edge doesn't arrive along
   pub arriving-pass : (i k : ℕ) (hs : List EdgeEnd) (v : Vertex) (s : SVertex) → AreArriving vs (IsEarlierSvertex i k) hs → IsAt vs i v → IsAt v.map.svertices k s → (IsNormal (opposite (vector_of s.dir)) → ⊥) → AreArriving vs (IsEarlierSvertex i (k + 1)) hs
   arriving-pass i k hs v s a b c n = record { each = a.each; all = all }

@@ -52,12 +52,6 @@ from_opposite d e w = record { parallel = (each d.y d.z e.y e.z w.parallel.0, ea
     each : (a b c d : ℤ) → a *ℤ neg_ℤ d -ℤ b *ℤ neg_ℤ c ≡ pos 0 → a *ℤ d -ℤ b *ℤ c ≡ pos 0
     each a b c d e = ring (a ∷ b ∷ c ∷ d ∷ []) (at 0 ⊗ at 3 ⊖ at 1 ⊗ at 2) (neg (at 0 ⊗ neg (at 3) ⊖ at 1 ⊗ neg (at 2))) tt ∙ ap neg_ℤ e
 
-pub opposite-self : (d : Vector) → SameDirection d d → IsOpposite d (opposite d)
-opposite-self d w = record { parallel = (each d.y d.z, each d.z d.x, each d.x d.y); backward = let h = w.forward in let r = dot-opposite d d in omega (arith, ints) }
-  where
-    each : (a b : ℤ) → a *ℤ neg_ℤ b -ℤ b *ℤ neg_ℤ a ≡ pos 0
-    each a b = ring (a ∷ b ∷ []) (at 0 ⊗ neg (at 1) ⊖ at 1 ⊗ neg (at 0)) (num (pos 0)) tt
-
 -- two directions opposite to one are the same
 pub opposites-same : (d a b : Vector) → IsOpposite d a → IsOpposite d b → SameDirection a b
 opposites-same d a b g h = turned (SameDirection-trans (opposite a) d (opposite b) (SameDirection-turned d (opposite a) (to_opposite d a g)) (to_opposite d b h))

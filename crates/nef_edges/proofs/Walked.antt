@@ -33,13 +33,6 @@ pub part-trans : (ns ms ls : List ℕ) → IsPart ns ms → IsPart ms ls → IsP
 part-trans ns ms ls f g j k a = let l = f j k a in g l.0 k l.1
 
 module _ (vs : List Vertex) where
-  pub laid-none : (ns : List ℕ) → AreLaid vs (IsEarlierSvertex 0 0) [] ns 0
-  laid-none ns = record { each = λ k e a. absurd (is-at_none a); matched = λ k e a. absurd (is-at_none a); all = λ i a v s b c n q. absurd (none i a q); ordered = λ i k x y l a b. absurd (is-at_none a) }
-    where
-      none : (j m : ℕ) → IsEarlierSvertex 0 0 j m → ⊥
-      none j m (inl h) = omega arith
-      none j m (inr h) = let z = h.1 in omega arith
-
   -- more of them are told as loose
   pub laid-part : (C : ℕ → ℕ → Type 0) (es : List Edge) (ns ms : List ℕ) → IsPart ns ms → AreLaid vs C es ns 0 → AreLaid vs C es ms 0
   laid-part C es ns ms f A = record {

@@ -37,11 +37,6 @@ path-more : (ns : List ℕ) (start : ℕ) (xs : List ℕ) (now y : ℕ) → IsPa
 path-more ns start [] now y e a = (e, a)
 path-more ns start (j ∷ ks) now y (e, s) a = (e, steps-more ns j ks now y s a)
 
--- what a number of the list is led to by
-path-before : (ns : List ℕ) (start : ℕ) (xs : List ℕ) (now m x : ℕ) → IsPath ns start xs now → IsAt xs (suc m) x → (p : ℕ) × IsAt xs m p × IsAt ns p x
-path-before ns start [] now m x e a = cc
-path-before ns start (j ∷ ks) now m x (e, s) a = steps-before ns j ks now m x s a
-
 pub record IsWalk (ns : List ℕ) (start : ℕ) (old : List Bool) (xs : List ℕ) (now : ℕ) (bs : List Bool) : Type 0 where
   pub path : IsPath ns start xs now
   pub marked : AreMarked xs old bs

@@ -35,11 +35,6 @@ module _ (s : Set) (c : Complex) (S : ShowsSet s c) (h : Plane) (y : SpacePoint)
       let m = facet-behind s C S.shows (form_of h) y h.normal on d axis.0 axis.1 F in
       at-meet m.0 m.1.place (opposite d) m.1.meets (plane-ahead (form_of h) y m.1.place d m.1.ahead axis.1 on) m.2.0 m.2.1
 
--- a point of the plane that is none of the listed vertices is none
-pub unlisted : (c : Complex) (h : Form) (y : SpacePoint) (ns : List ℕ) → AreNumbersWith (LiesOn c.vertices h) ns → form_at h y ≡ pos 0
-    → ((i k : ℕ) → IsAt ns i k → IsVertexPoint (complex_of c) k y → ⊥) → (k : ℕ) → IsVertexPoint (complex_of c) k y → ⊥
-unlisted c h y ns N on none k (v, a, e) = let i = N.all k (lies c h k v a (level-same h y v.point (same-point_sym v.point y e) on)) in none i.0 k i.1 (v, a, e)
-
 -- a point that is no vertex and lies on none of the listed edges is none that the plane meets
 pub unmet : (c : Complex) (h : Form) (y : SpacePoint) (ns : List ℕ) → AreNumbersWith (EdgeLiesIn c.vertices c.edges h) ns → ((k : ℕ) → IsVertexPoint (complex_of c) k y → ⊥)
     → ((i k : ℕ) → IsAt ns i k → IsEdgePoint (complex_of c) k y → ⊥) → (m : PlaneMeet) → Meets (complex_of c) h m y → ⊥

@@ -89,12 +89,6 @@ module _ {X : Type 0} where
   pub ready_after : (size : ℕ) (fits : ℕ → X → Type 0) (first second : ℕ → Option ℕ) (numbers : List ℕ) (old new : List (Option X)) → AreReady size fits first second numbers old → HasWorked size fits old new → AreReady size fits first second numbers new
   ready_after size fits first second numbers old new r w = record { sound = w.sound; each = λ k d low. let e = r.each k d low in (e.0, ready_still size fits (first _) (second _) old new w.sound w.still e.1) }
 
-  -- where a result is kept, the place holds one
-  pub kept_holds : (list : List (Option X)) (i : ℕ) (d : Option X) → IsKept list i → slice_index_or list i d ≡ None → ⊥
-  kept_holds [] i d h e = none_differs h.0 h.1
-  kept_holds (x ∷ xs) zero d h e = none_differs h.0 (sym e ∙ h.1)
-  kept_holds (x ∷ xs) (suc i) d h e = kept_holds xs i d h e
-
   mid : (ys rest : List (Option X)) (o : Option X) → kept (ys ++ o ∷ rest) (length ys) ≡ o
   mid [] rest o = refl
   mid (y ∷ ys) rest o = mid ys rest o

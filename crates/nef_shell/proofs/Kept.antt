@@ -159,9 +159,6 @@ module _ {Z : Type 0} where
   pub held-still : (version : TextVersion) (steps : List Step) (old new : List (Option (Box Held Z))) → AreStill version old new → AreHeld version steps old → AreHeld version steps new
   held-still version steps old new still held k b at = let (a, was, stays) = still.held k b at in stays (value_set steps k) (held k a was)
 
-  pub still-none : (version : TextVersion) (list : List (Option (Box Held Z))) → AreStill version list list
-  still-none version list = record { count = refl; there = λ k h. h; held = λ k b at. (b, at, λ s h. h) }
-
   -- something is worked of what is kept at one place
   pub still-put : (version : TextVersion) (list : List (Option (Box Held Z))) (n : ℕ) (a b : Box Held Z) → slice_get list n ≡ Some (Some a) → ((s : Set) → IsHeld version s a.value → IsHeld version s b.value) → AreStill version list (slice_set (slice_set list n None) n (Some b))
   still-put version list n a b at stays = record {

@@ -65,14 +65,6 @@ module _ {X : Type 0} (steps : List Step) (values : List (Option X)) where
       let same : c ≡ s = cc in
       record { step = s; at = at; makes = subst (λ (z : Step). MakesValue z.task) same makes; awaited = awaited; first = first; second = second }
 
--- a later one more
-pub late-more : (now : ℕ) (old : List Early) (e : Early) → now ≤ e.value → AreLate now old → AreLate now (old ++ e ∷ [])
-late-more now old e low late n d at = elim (old-or-last old e n d at) [ inl o ↦ late n d o | inr l ↦ subst (λ (z : Early). now ≤ z.value) (sym l.1) low ]
-
--- the index has the number of the last one, or none
-pub index-none : (now : ℕ) (index : List (Option ℕ)) (early : List Early) → IsIndex now index early → IsIndex now (index ++ None ∷ []) early
-index-none now index early is o n at = elim (old-or-last index None o (Some n) at) [ inl was ↦ is o n was | inr last ↦ (let f : Some n ≡ None = last.1 in cc) ]
-
 pub index-more : (now : ℕ) (index : List (Option ℕ)) (old : List Early) (e : Early) → IsIndex now index old → e.value ≡ now + length index → IsIndex now (index ++ Some (length old) ∷ []) (old ++ e ∷ [])
 index-more now index old e is place o n at = elim (old-or-last index (Some (length old)) o (Some n) at) [
   | inl was ↦ at-more old e n (now + o) (is o n was)
@@ -80,16 +72,6 @@ index-more now index old e is place o n at = elim (old-or-last index (Some (leng
       let number : length old ≡ n = cc in
       (e, subst (λ z. slice_get (old ++ e ∷ []) z ≡ Some e) number (at-last old e), place ∙ ap (λ z. now + z) (sym here))
 ]
-
--- whether the complex of an operand is there tells that it is kept
-pub operand-there : {Z : Type 0} (list : List (Option (Box Held Z))) (operand : Option ℕ) → is_some (complex_at list operand) ≡ true → IfSome operand (IsThere list)
-operand-there list None e = tt
-operand-there {Z} list (Some k) e = go (slice_get list k) refl e
-  where
-    go : (o : Option (Option (Box Held Z))) → slice_get list k ≡ o → is_some (option_and_then complex_in o) ≡ true → IsThere list k
-    go None at e = absurd (let f : false ≡ true = e in cc)
-    go (Some None) at e = absurd (let f : false ≡ true = e in cc)
-    go (Some (Some c)) at e = (c, at)
 
 -- ---- what is needed
 need-below : {X : Type 0} (values : List (Option X)) (early : List Early) (n : ℕ) (operand need : Option ℕ) → IsOperandKept values early n operand need → IfSome need (λ k. k < n)

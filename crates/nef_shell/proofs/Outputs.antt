@@ -61,11 +61,6 @@ front-at version nodes steps i s first before after output within at so_far grow
 pub ends-before : {A : Type 0} (version : TextVersion) (nodes : List Node) (cs : List Command) (before : Option (List ℕ)) (faults : ℕ) (r : Result A Status) → r ≡ Err OutOfMemory → WorkEnds version nodes cs before before faults faults r
 ends-before version nodes cs before faults r is = rw is (record { done = tt; quiet = tt; stopped = refl; front = (0, [], refl, grows_within-none before []) })
 
--- the work of one step ends as that of the same step
-pub ends-alike : {A : Type 0} (version : TextVersion) (nodes : List Node) (s d : Step) (before after : Option (List ℕ)) (faults faults' : ℕ) (r : Result A Status) → Some s ≡ Some d → WorkEnds version nodes (asked_values (s ∷ [])) before after faults faults' r
-    → WorkEnds version nodes (asked_values (d ∷ [])) before after faults faults' r
-ends-alike version nodes s d before after faults faults' r e ends = let same : s ≡ d = cc in subst (λ z. WorkEnds version nodes (asked_values (z ∷ [])) before after faults faults' r) same ends
-
 -- the output of one command
 pub one-output : (version : TextVersion) (nodes : List Node) (c : Command) (piece : List ℕ) → IsPiece version nodes c piece → IsOutput version nodes (c ∷ []) piece
 one-output version nodes c piece is = (piece, [], is, refl, sym (append-nil piece))

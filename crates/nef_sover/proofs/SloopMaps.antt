@@ -2,9 +2,6 @@
 use Rattle.nef_sover.proofs.Prelude.{◌≡◌, ℕ, zero, suc, pos, ◌≤ℤ◌, List, [], Some, None, arith, sym, subst, ints, by_order, normal_limit, Vector, IsAtMost, IsDirection, IsNormal, Label, vector_of, IsPrimitive, IsAt, Item, items, item_normal, Ordered, sloop_map, sloop-valid, SVertex, SLoop, sloop_of, IsSphereMap, dir-primitive, is-at_none, is-at_first}
 use Rattle.nef_smap.specs.declared.map.SArc.{SArc}
 
-pub normal-by : (n : Vector) → IsDirection n → pos 0 ≤ℤ n.x → pos 0 ≤ℤ n.y → pos 0 ≤ℤ n.z → IsNormal n
-normal-by n h x y z = record { first = x; second = λ e. y; third = λ e f. by_order n.z (pos 0) (λ l. absurd (omega (arith, ints))) (λ g. absurd (h (e, f, g))) (λ l. l) }
-
 module _ (k : Label) (s : SLoop) (N : IsNormal (vector_of s.normal)) (small : IsAtMost normal_limit (vector_of s.normal)) where
   only : (P : Vector → Type 0) → P (vector_of s.normal) → (i : ℕ) (x : Item) → IsAt (items (sloop_map k (sloop_of s))) i x → P (item_normal x)
   only P p zero x e = subst (λ (y : Item). P (item_normal y)) (is-at_first e) p
@@ -20,8 +17,3 @@ module _ (k : Label) (s : SLoop) (N : IsNormal (vector_of s.normal)) (small : Is
 
   plain : IsSphereMap (record { mark = k; svertices = []; arcs = []; sloop = Some s; ground = None })
   plain = record { valid = sloop-valid k (sloop_of s) N; ordered = ordered; small = record { svertices = λ i v a. absurd (is-at_none a); normals = only (IsAtMost normal_limit) small } }
-
-  pub sloop-map : (vs : List SVertex) (as' : List SArc) → vs ≡ [] → as' ≡ [] → IsSphereMap (record { mark = k; svertices = vs; arcs = as'; sloop = Some s; ground = None })
-  sloop-map vs as' p q =
-      subst (λ (us : List SVertex). IsSphereMap (record { mark = k; svertices = us; arcs = as'; sloop = Some s; ground = None })) (sym p)
-      (subst (λ (bs : List SArc). IsSphereMap (record { mark = k; svertices = []; arcs = bs; sloop = Some s; ground = None })) (sym q) plain)

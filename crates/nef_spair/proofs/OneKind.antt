@@ -69,9 +69,6 @@ module _ (M : Map) where
   fits InVolume h L s p C = volume-dimension M s p C h
 
 -- ---- what the fields of a map say
-pub none-made : (vs : List SVertex) → vs ≡ [] → map svertex_of vs ≡ []
-none-made vs e = ap (map svertex_of) e
-
 pub none-was : (vs : List SVertex) → map svertex_of vs ≡ [] → vs ≡ []
 none-was [] e = refl
 none-was (v ∷ vs) e = let i : svertex_of v ∷ map svertex_of vs ≡ [] = e in absurd (cc)

@@ -23,10 +23,6 @@ pub Each-append : {A : Type 0} (P : A → Type 0) (xs ys : List A) → Each P xs
 Each-append P [] ys h k = k
 Each-append P (x ∷ xs) ys h k = (h.0, Each-append P xs ys h.1 k)
 
-each-all : {A : Type 0} (P : A → Type 0) (xs : List A) → Each P xs → All P xs
-each-all P [] h = All-nil P
-each-all P (x ∷ xs) h = All-cons P x xs h.0 (each-all P xs h.1)
-
 -- a word of a text: it isn't empty, and has neither a blank nor a line's end nor a comment mark
 abbrev pub IsByte : ℕ → Type 0
 IsByte b = 35 < b
@@ -220,9 +216,6 @@ digits-some k n =
     let more = digit_glyph false (n % 10) ∷ [] in
     let p : IsGood more = (omega arith, (glyph-byte (n % 10), tt)) in
     either-good (nat_eq (n / 10) 0) more (digits_onto k 10 false (n / 10) more) p (digits-more k (n / 10) more p)
-
-unfolding digits
-spelled n = refl
 
 pub decimal-good : (n : ℕ) → IsGood (decimal n)
 decimal-good n = subst IsGood (spelled n) (digits-some 63 n)

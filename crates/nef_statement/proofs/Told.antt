@@ -97,7 +97,6 @@ silent : {X : Type 0} (spelled : X → List ℕ) → ((x : X) → Tells (spelled
 silent spelled h [] = nothing
 silent spelled h (x ∷ xs) = tells-both (spelled x) (flat_map spelled xs) (λ t. t) (λ t. t) (h x) (silent spelled h xs)
 
--- ---- svertices
 -- ---- directions and points
 direction-read : (z : ℤ) → nat_abs z ≤ direction_limit → number_or_zero (signed_decimal z) ≡ z
 direction-read z h = let l : direction_limit < 2 ^ 63 = omega arith in signed-read z (omega (arith, l, h))
@@ -113,9 +112,6 @@ dir-read d =
     ap (λ n. vector n (number_or_zero (signed_decimal d.y)) (number_or_zero (signed_decimal d.z))) (direction-read d.x d.x_small)
     ∙ ap (λ n. vector d.x n (number_or_zero (signed_decimal d.z))) (direction-read d.y d.y_small)
     ∙ ap (λ n. vector d.x d.y n) (direction-read d.z d.z_small)
-
-dir-good : (d : Dir) → AreGood (signed_numbers (d.x ∷ d.y ∷ d.z ∷ []))
-dir-good d = (signed-good d.x, (signed-good d.y, (signed-good d.z, tt)))
 
 positive-prop : (n : ℕ) → IsProp (0 < n)
 positive-prop n = hlevel props

@@ -3,13 +3,6 @@ use Rattle.law_text.proofs.existence.Prelude.{◌≡◌, ℕ, ◌<◌, ◌≤◌
 use native.Mathlib.Nat.{pos_of_dvd_of_pos}
 use Rattle.law_text.proofs.existence.Reduced.{Reduced, reduce-by}
 
--- what divides a number that isn't zero is positive
-divisor-some : (k : ℕ) (x : ℤ) → (x ≡ pos 0 → ⊥) → k ∣ nat_abs x → 0 < k
-divisor-some k x n d = by (nat_abs x) refl
-  where
-    by : (m : ℕ) → nat_abs x ≡ m → 0 < k
-    by m e = ⊎_elim (λ f. absurd (n (omega (arith, ints, e, f)))) (λ o. ⊎_elim (λ l. pos_of_dvd_of_pos d (omega (arith, e, l))) (λ l. absurd (omega (arith, l))) o) (cases_order 0 m)
-
 module _ (f : Form) (S : IsSmallForm f) where
   positive : (h : ℕ) → DividesAll h (form_numbers f) → 0 < h
   positive h d = by (cases_order h 0)
