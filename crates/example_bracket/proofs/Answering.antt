@@ -1,5 +1,5 @@
 -- What the answers to questions say of a set.
-use Rattle.example_bracket.proofs.Prelude.{◌≡◌, ◌↔◌, Bool, Result, Ok, Err, IfOk, refl, subst, SpacePoint, InFrame, Set, Holds, Vector, HasLabel, Label, Out, Not, In}
+use Rattle.example_bracket.proofs.Prelude.{◌≡◌, ◌↔◌, Bool, refl, subst, SpacePoint, InFrame, Set, Holds, Vector, HasLabel, Label, Out, Not, In}
 use Rattle.nef_ray.specs.Ends.{IsRayEnd}
 use Rattle.nef_ray.proofs.OneEnd.{one-end}
 use Rattle.example_bracket.specs.Answers.{IsRayClear}
@@ -13,8 +13,3 @@ label-inside s p Out f h = (λ e. absurd (cc), λ g. absurd (h f))
 -- the label at the end of a ray is Out just where nothing else comes before
 pub end-clear : (s : Set) (p : SpacePoint) (d : Vector) (q : SpacePoint) (a : Bool) (l : Label) → IsRayEnd s p d q a l → (l ≡ Out) ↔ IsRayClear s p d
 end-clear s p d q a l e = (λ o. (q, a, subst (λ (m : Label). IsRayEnd s p d q a m) o e), λ c. let one = one-end s p d q c.0 a c.1 l Out e c.2 in one.2)
-
--- what a call gives, if it gives something
-pub if-ok : {X E : Type 0} {P Q : X → Type 0} (r : Result X E) → ((x : X) → P x → Q x) → IfOk r P → IfOk r Q
-if-ok (Ok x) f p = f x p
-if-ok (Err e) f p = tt

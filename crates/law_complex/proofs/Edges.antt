@@ -1,8 +1,9 @@
 -- The points of a set with one flat direction are those strictly between the ends of edges.
 use Rattle.law_complex.proofs.Prelude.{◌≡◌, ℕ, zero, suc, pos, arith, refl, sym, inl, inr, ⊎_elim, ◌↔◌, subst, sign, HasLabel, Germ, Flat, FlatDim, IsVertex, IsEven, SpacePoint, toward, IsBetween, Set, Vector, zero_vector, opposite, dot, cross, IsZero, IsDirection, SameDirection, Label, carriers, NearGerm, IsOnSegment, Drop, label_of, germ_of, Flat-from_cone, FlatCone-from_flat, Germ-zero, signs-same, same-point_sym, slope-same, germs-by_cell, Flat-by_germs, FlatDim-by_germs, flat-germ, flat-plane, flat-line, germ-nearby, flat-toward, even-germs, labels-by_germs, span-1, span-3, flat_dim-of, near-by_signs, flat-by_signs, between-inner, start, start-close, start-between, start-toward, even-until, reach_all, between-same, is-at_one, dir-at, label-unique, by_side, NearPlain, NearStraight, Cone, IsAt, Map, MapVertex, MapLabel, at_svertex, NearLabel, dir_of, Item, items, Vertex, Edge, Complex, HasEnds, IsEdge, Corner, IsCorner, Shows, cross-turned, parallel-both, SameDirection-turned, SameDirection-trans, dir-self, direction-left}
 use Rattle.law_near.proofs.Topology.{near-germ_zero}
-use Rattle.law_complex.proofs.Ways.{between-way, between-rest, between-outer, same-itself}
+use Rattle.law_complex.proofs.Ways.{between-way, between-rest, between-outer}
 use Rattle.law_complex.proofs.Cones.{germ-label, near-germ, near-label, FlatAre, plane-sides}
+use Rattle.nef_space.proofs.Elementary.{same-itself}
 
 -- ---- at points close to p toward d, where the germs are those near d
 module _ (M : Map) (s : Set) (p : SpacePoint) (K : Cone M s p) (d : Vector) (some : IsDirection d) (q : SpacePoint) (near : (e : Vector) (l : Label) → Germ s q e l ↔ NearGerm s p d e l) where

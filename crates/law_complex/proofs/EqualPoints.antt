@@ -1,7 +1,8 @@
 -- Equal points lie at the same places of a complex.
 use Rattle.law_complex.proofs.Prelude.{◌≡◌, ℕ, ◌*◌, ◌≤◌, ℤ, pos, ◌*ℤ◌, neg_ℤ, nat_abs, arith, inl, inr, ⊎_elim, ◌∷◌, subst, [], ints, mul_le_right, cancel_le, ring, at, num, neg, ◌⊗◌, half_side, SpacePoint, Form, SamePoint, InClosedFrame, toward, IsAhead, IsBetween, Set, Vector, SameDirection, opposite, between-same, carriers, SameGerms, germs-by_cell, Flat-by_germs, FlatDim-by_germs, signs-same, same-point_sym, Map, Item, OnItem, on-direction, OnItem-by_signs, Vertex, Complex, Corner, IsFlatIn, PlaneMeet, IsVertexPoint, IsEdgePoint, IsOnEdges, IsFacetPoint, at_vertex, on_edge, in_facet, IsSkeletonPoint, IsFirstInPlane, HasCorner, vector-same, SameDirection-turned, dir-self, dir-signs}
 use Rattle.law_complex.proofs.FacetEdges.{ahead-same, ahead-back}
-use Rattle.law_complex.proofs.Ways.{same-itself, same-point_trans}
+use Rattle.law_complex.proofs.Ways.{same-point_trans}
+use Rattle.nef_space.proofs.Elementary.{same-itself}
 
 -- from an equal point the way is the same
 pub ahead-from : (p q y : SpacePoint) (d : Vector) → SamePoint p q → IsAhead p d y → IsAhead q d y

@@ -2,13 +2,14 @@
 use Rattle.law_complex.proofs.Prelude.{◌≡◌, ℕ, pos, arith, refl, sym, ◌∙◌, ⊎_elim, subst, ints, sign, HasLabel, Germ, Flat, FlatDim, SpacePoint, Form, form_at, normal_of, slope, SamePoint, toward, IsBetween, Set, Vector, opposite, dot, IsDirection, IsNormal, SameDirection, Drop, IsFlatBelow, SameGerms, even-germs, between-turned, between-inner, flat_way-end, even-until, between-same, by_side, IsAt, Item, arc_item, item_normal, item_pos, item_mark, item_neg, dir_of, is-at_one, at-arc, level-same, Vertex, Edge, Complex, Corner, HasEnds, IsCorner, Shows, IsVertexPoint, IsEdgePoint, PlaneMeet, meets_vertex, meets_edge, Meets, LiesIn, IsFirstInPlane, IsCornerAt, IsFlatIn, dot-comm, cross-turned, SameDirection-turned, SameDirection-trans, in-span, dot-opposite, level-way, direction-left, direction-right}
 use Rattle.law_complex.proofs.Cones.{FlatAre, near-label}
 use Rattle.law_complex.proofs.Planes.{plane-way}
-use Rattle.law_complex.proofs.Ways.{between-way, between-start, between-ends, same-itself}
+use Rattle.law_complex.proofs.Ways.{between-way, between-start, between-ends}
 use Rattle.law_complex.proofs.Edges.{near_point, near-between, near-germs, edge-way, corner-one}
 use Rattle.law_complex.proofs.FacetSides.{sided-carried, flats-carried}
 use Rattle.law_complex.proofs.FacetWays.{plane-ahead, even-by, even-to, two-off, meets-on, end-meets}
 use Rattle.law_complex.proofs.FacetCorners.{ItemAt, item-at}
 use Rattle.law_complex.proofs.FacetPoints.{IsInFacetOf, in-facet, beside-vertex}
 use Rattle.law_complex.proofs.FacetEdges.{ahead-back, ahead-same, low-end, way-is, arc-beside, sided-beside}
+use Rattle.nef_space.proofs.Elementary.{same-itself}
 
 -- the lower end of an edge of a plane leads along the plane
 low-level : (s : Set) (C : Complex) (S : Shows s C) (h : Form) (i : ℕ) (e : Edge) (v w : Vertex) (z : SpacePoint) → (a : IsAt C.edges i e) (H : HasEnds C e v w) (b : IsBetween v.point z w.point) → LiesIn C h i

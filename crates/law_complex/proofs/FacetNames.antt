@@ -4,7 +4,6 @@ use Rattle.std.specs.Ordering.{int_eq}
 use Rattle.std.proofs.lemmas.Bool.Decides.{Decides-int_eq}
 use Rattle.law_complex.proofs.Cones.{FlatAre}
 use Rattle.law_complex.proofs.Planes.{plane-way}
-use Rattle.law_complex.proofs.Ways.{same-itself}
 use Rattle.law_complex.proofs.FacetWays.{two-off}
 use Rattle.law_complex.proofs.FacetPoints.{facet-point}
 use Rattle.law_complex.proofs.Skeletons.{FacetAt}
@@ -12,7 +11,7 @@ use Rattle.law_complex.proofs.FacetEnds.{item-seen, facet-behind}
 use Rattle.law_complex.proofs.FacetAngles.{through-at, through-slope}
 use Rattle.law_complex.proofs.FacetSight.{sees-vertex}
 use Rattle.law_sphere.proofs.Builder.{normal-either}
-use Rattle.law_near.proofs.PointOrder.{weight}
+use Rattle.nef_space.proofs.Elementary.{same-itself, weight-positive}
 
 -- ---- the plane of an item
 scaled-nought : (k x : ℤ) → pos 0 <ℤ k → x *ℤ k ≡ pos 0 → x ≡ pos 0
@@ -29,7 +28,7 @@ normal-scaled n k h N = record {
 pub through-level : (n d : Vector) (p : SpacePoint) → (dot n d ≡ pos 0) ↔ (slope (plane_through n p) d ≡ pos 0)
 through-level n d p = (
   λ e. through-slope n p d ∙ ap (λ r. pos p.w *ℤ r) e ∙ ring (pos p.w ∷ []) (at 0 ⊗ num (pos 0)) (num (pos 0)) tt,
-  λ e. scaled-nought (pos p.w) (dot n d) (weight p) (ring (dot n d ∷ pos p.w ∷ []) (at 0 ⊗ at 1) (at 1 ⊗ at 0) tt ∙ sym (through-slope n p d) ∙ e),
+  λ e. scaled-nought (pos p.w) (dot n d) (weight-positive p) (ring (dot n d ∷ pos p.w ∷ []) (at 0 ⊗ at 1) (at 1 ⊗ at 0) tt ∙ sym (through-slope n p d) ∙ e),
 )
 
 flats-through : (s : Set) (y p : SpacePoint) (n : Vector) → FlatAre s y n → (d : Vector) → Flat s y d ↔ (slope (plane_through n p) d ≡ pos 0)
@@ -93,7 +92,7 @@ module _ (s : Set) (C : Complex) (S : Shows s C) where
       let N = (S.cones k.vertex v c.vertex).valid.shaped.normals k.item x c.item in
       let F = facet-point s C S k v x y c P in
       let axis = axis-in n (normal-direction n N) in
-      let m = facet-behind s C S h y (normal-scaled n (pos p.w) (weight p) N) (through-at n p y ∙ on-level v.map x (toward p y) P.on_item) (plane_axis n) axis.0 ((through-level n (plane_axis n) p).0 axis.1)
+      let m = facet-behind s C S h y (normal-scaled n (pos p.w) (weight-positive p) N) (through-at n p y ∙ on-level v.map x (toward p y) P.on_item) (plane_axis n) axis.0 ((through-level n (plane_axis n) p).0 axis.1)
       (F.dim, flats-through s y p n F.flat) in
       (m.2.0, (m.0, m.1, m.2.1))
 
@@ -116,7 +115,7 @@ module _ (s : Set) (C : Complex) (S : Shows s C) where
       found n N flat =
           let h = plane_through n y in
           let on = through-at n y y ∙ dot-zero n (toward y y) (point-toward y y (same-itself y)) in
-          let B = beside h (normal-scaled n (pos y.w) (weight y) N) y on (f, flats-through s y y n flat) in
+          let B = beside h (normal-scaled n (pos y.w) (weight-positive y) N) y on (f, flats-through s y y n flat) in
           (B.corner, B.vertex, B.item, B.is_corner, B.facet_point)
 
 -- the law of facet points

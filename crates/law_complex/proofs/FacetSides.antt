@@ -37,14 +37,6 @@ module _ (s : Set) (q : SpacePoint) (n : Vector) (a m b : Label) (all : IsSided 
   pub sided-label : HasLabel s q m
   sided-label = (Germ-zero s q zero_vector m (refl, refl, refl)).0 (subst (λ (t : Sign). Germ s q zero_vector (by_side a m b t)) (ap sign (dot-zero n zero_vector (refl, refl, refl))) (all zero_vector))
 
-  pub sided-differ : FlatDim s q 2 → a ≡ m → b ≡ m → ⊥
-  sided-differ two e f = one-label-not_two s q m (λ v. subst (Germ s q v) (by (sign (dot n v))) (all v)) two
-    where
-      by : (t : Sign) → by_side a m b t ≡ m
-      by plus = e
-      by nought = refl
-      by minus = f
-
   module _ (some : IsDirection n) (differ : a ≡ m → b ≡ m → ⊥) where
     back-is : dot n (opposite n) ≡ neg_ℤ (dot n n)
     back-is = ring (n.x ∷ n.y ∷ n.z ∷ []) (at 0 ⊗ neg (at 0) ⊕ at 1 ⊗ neg (at 1) ⊕ at 2 ⊗ neg (at 2)) (neg (at 0 ⊗ at 0 ⊕ at 1 ⊗ at 1 ⊕ at 2 ⊗ at 2)) tt

@@ -1,12 +1,13 @@
 -- Each facet point sees a vertex: of the vertices in the triangle with a point of an edge that it sees and an end of the edge, it sees that of the least angle or one before it.
 use Rattle.law_complex.proofs.Prelude.{◌≡◌, ℕ, zero, suc, ℤ, pos, ◌<ℤ◌, ◌≤ℤ◌, arith, refl, ap, sym, ◌∙◌, ◌⊎◌, inl, inr, ⊎_elim, List, ◌∷◌, subst, [], ints, sign, by_order, nought-is, nought-or, FlatDim, SpacePoint, Form, form_at, normal_of, SamePoint, toward, IsBetween, Set, Vector, cross, IsDirection, Drop, Decided, decided-both, sign-same, same-point_sym, span-1, between-turned, even-until, flat_way-end, between-same, point-toward, toward-point, IsAt, positive-or, same-plus, circle-point, turn-last, Vertex, Complex, Shows, IsEdgePoint, IsOnEdges, IsFlatIn, dot-zero, triple-dot, cross-turned, dir-self, parallel-in_plane, direction-left, is-at_none, is-at_first}
 use Rattle.law_complex.proofs.Planes.{plane-way}
-use Rattle.law_complex.proofs.Ways.{between-way, between-start, same-itself}
+use Rattle.law_complex.proofs.Ways.{between-way, between-start}
 use Rattle.law_complex.proofs.Edges.{near_point, near-between}
 use Rattle.law_complex.proofs.FacetWays.{plane-ahead, below-on, ends-lie}
 use Rattle.law_complex.proofs.FacetEdges.{ahead-same, not-along}
 use Rattle.law_complex.proofs.FacetAngles.{cross-back, aligned, angle, turn_form, turn-at, angle-turned, angle-self, angle-inside, angle-trans, between-plus, between-level, between-level_minus}
 use Rattle.law_complex.proofs.FacetTriangle.{HalfEdge, below-or, edge-halves, plane-between, ends-inside}
+use Rattle.nef_space.proofs.Elementary.{same-itself}
 
 -- a vertex of the plane that y sees within its facet
 pub record Visible (s : Set) (C : Complex) (h : Form) (y : SpacePoint) : Type 0 where

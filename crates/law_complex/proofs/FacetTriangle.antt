@@ -4,8 +4,9 @@ use Rattle.nef_space.proofs.Order.{sign}
 use Rattle.law_complex.proofs.Planes.{plane-way}
 use Rattle.law_complex.proofs.Ways.{between-way, between-outer, between-start, between-ends}
 use Rattle.law_complex.proofs.Edges.{edge-points, edge-way}
-use Rattle.law_complex.proofs.FacetWays.{dim-same, even-by, plane-onward, plane-back}
+use Rattle.law_complex.proofs.FacetWays.{even-by, plane-onward, plane-back}
 use Rattle.law_complex.proofs.FacetAngles.{same-by, same-by-minus, zero-by, cross-back, aligned, through-slope, angle, turn_form, turn-at, angle-turned, angle-self, angle-start, angle-inside, angle-before, between-plus, between-minus, cut-at}
+use Rattle.law_near.proofs.Same.{dim-same}
 
 pub below-or : (x : ℤ) → (x <ℤ pos 0) ⊎ (pos 0 ≤ℤ x)
 below-or x = by_order x (pos 0) (λ l. inl l) (λ e. inr (omega (arith, ints))) (λ l. inr (omega (arith, ints)))

@@ -1,10 +1,11 @@
 -- Ways within a plane: a flat way within a facet ends at a vertex or at an edge of the plane, and up to its end there is one cone.
-use Rattle.law_complex.proofs.Prelude.{◌≡◌, ℕ, zero, suc, ℤ, pos, ◌-ℤ◌, ◌*ℤ◌, arith, sym, ◌∙◌, inl, inr, ⊎_elim, ◌∷◌, subst, [], ints, cases_order, at, num, ◌⊖◌, ◌⊗◌, given, none, follows_times, Flat, FlatDim, IsEven, SpacePoint, Form, form_at, normal_of, slope, SamePoint, toward, IsBetween, Set, Vector, IsDirection, SameDirection, carriers, IsFlatBelow, Drop, signs-same, same-point_sym, germs-by_cell, FlatDim-by_germs, FlatDim-one, Flat-by_germs, Flat-from_cone, FlatCone-from_flat, even-germs, flat-nearby, flat_dim-of, between-turned, between-inner, start, start-close, start-between, even-until, reach_all, slope-toward, toward-point, point-toward, IsAt, Vertex, Edge, Complex, HasEnds, Shows, IsEdgePoint, IsOnEdges, PlaneMeet, meets_vertex, meets_edge, Meets, LiesIn, SameDirection-turned, level-way}
+use Rattle.law_complex.proofs.Prelude.{◌≡◌, ℕ, zero, suc, ℤ, pos, ◌-ℤ◌, ◌*ℤ◌, arith, sym, ◌∙◌, inl, inr, ⊎_elim, ◌∷◌, subst, [], ints, cases_order, at, num, ◌⊖◌, ◌⊗◌, given, none, follows_times, Flat, FlatDim, IsEven, SpacePoint, Form, form_at, normal_of, slope, toward, IsBetween, Set, Vector, IsDirection, SameDirection, carriers, IsFlatBelow, Drop, same-point_sym, FlatDim-one, Flat-by_germs, Flat-from_cone, FlatCone-from_flat, even-germs, flat-nearby, flat_dim-of, between-turned, between-inner, start, start-close, start-between, even-until, reach_all, slope-toward, toward-point, point-toward, IsAt, Vertex, Edge, Complex, HasEnds, Shows, IsEdgePoint, IsOnEdges, PlaneMeet, meets_vertex, meets_edge, Meets, LiesIn, SameDirection-turned, level-way}
 use Rattle.law_near.proofs.Skeleton.{flat_dim-nearby}
 use Rattle.law_complex.proofs.Cones.{FlatAre}
 use Rattle.law_complex.proofs.Ways.{between-way}
 use Rattle.law_complex.proofs.Edges.{edge-points, edge-way}
 use Rattle.law_complex.proofs.Joining.{edges-complete}
+use Rattle.law_near.proofs.Same.{dim-same}
 
 -- ---- points of a plane
 -- where the way from p to q lies in the plane, the one point lies in it where the other does
@@ -33,8 +34,6 @@ plane-ends h p q z b l on =
     (low, plane-onward h p q l low)
 
 -- ---- flat ways
-pub dim-same : (s : Set) (p q : SpacePoint) (k : ℕ) → SamePoint p q → FlatDim s p k → FlatDim s q k
-dim-same s p q k e = FlatDim-by_germs s s p q (germs-by_cell s p q (signs-same (carriers s) p q e)) k
 
 -- the number is even on a segment with equal ends where it is at the ends and between
 pub even-by : (s : Set) (k : ℕ) (p q : SpacePoint) → FlatDim s p k → ((r : SpacePoint) → IsBetween p r q → FlatDim s r k) → FlatDim s q k → IsEven s k p q

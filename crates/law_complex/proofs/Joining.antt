@@ -1,8 +1,9 @@
 -- Two vertices between which one direction is flat are the ends of an edge; so each point with one flat direction lies on an edge, and each svertex is an end of one.
 use Rattle.law_complex.proofs.Prelude.{◌≡◌, ℕ, ◌<◌, ℤ, pos, ◌-ℤ◌, ◌*ℤ◌, neg_ℤ, arith, refl, ap, sym, ◌∙◌, ◌⊎◌, inl, inr, ⊎_elim, ◌∷◌, subst, [], ints, cases_order, Sign, minus, nought, plus, sign, ring, at, num, neg, ◌⊕◌, ◌⊖◌, ◌⊗◌, Germ, FlatDim, IsVertex, SpacePoint, SamePoint, toward, IsBetween, Set, Vector, dot, cross, IsZero, IsDirection, SameDirection, IsOpposite, Label, label_of, FlatDim-one, FlatDim-by_germs, germs-by_cell, flat-germ, span-1, between-turned, ray-cell, carriers, reach_all, between-same, toward-point, point-toward, same-point_sym, signs-same, start-close, flat_way-end, edge-around, WayEnd, by_side, NearPlain, NearStraight, Least, Cone, IsAt, Map, MapVertex, MapLabel, Matched, neither-svertex, label-unique, is-at_one, circle-point, Vertex, Edge, Complex, IsEdge, Shows, IsEdgePoint, zero-decided, self-pos, SameDirection-turned, SameDirection-trans, dir-self, in-span, dot-comm, direction-right, IsOpposite-same}
 use Rattle.law_complex.proofs.Cones.{near-germ, sided-two}
-use Rattle.law_complex.proofs.Ways.{between-way, between-ends, between-cases, same-itself, onward, onward-way}
+use Rattle.law_complex.proofs.Ways.{between-way, between-ends, between-cases, onward, onward-way}
 use Rattle.law_complex.proofs.Edges.{near_point, near-between, near-germs, near-flat, way-near, near-one, label-near}
+use Rattle.nef_space.proofs.Elementary.{same-itself}
 
 -- ---- a direction of a map is a svertex where close to p one direction is flat
 module _ (s : Set) (p : SpacePoint) (M : Map) (K : Cone M s p) (L : Least M) (d : Vector) (y : SpacePoint) (w : SameDirection (toward p y) d) (one : FlatDim s (near_point s p y) 1) where

@@ -1,4 +1,5 @@
 pub mod Prelude
+pub mod Equal
 pub mod Cones
 pub mod Ways
 pub mod Edges

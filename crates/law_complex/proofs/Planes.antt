@@ -1,9 +1,10 @@
 -- Forms of one plane are nought at the same points and along the same directions.
-use Rattle.law_complex.proofs.Prelude.{◌≡◌, ℤ, pos, ◌+ℤ◌, ◌*ℤ◌, sym, ◌∙◌, ⊎_elim, ◌∷◌, [], ring, at, num, ◌⊕◌, ◌⊖◌, ◌⊗◌, given, none, follows, SpacePoint, Form, form_at, slope, toward, Vector, product-off, SamePlane, nought-or, square_pos}
+use Rattle.law_complex.proofs.Prelude.{◌≡◌, ℤ, pos, ◌+ℤ◌, ◌*ℤ◌, sym, ◌∙◌, ⊎_elim, ◌∷◌, [], ring, at, num, ◌⊕◌, ◌⊖◌, ◌⊗◌, given, none, follows, SpacePoint, Form, form_at, slope, toward, Vector, SamePlane, nought-or, IsZero, cross, normal_of, arith, ints}
+use Rattle.nef_space.proofs.Elementary.{nought-factor}
 
-nought-factor : (a x : ℤ) → (x ≡ pos 0 → ⊥) → a *ℤ x ≡ pos 0 → a ≡ pos 0
-nought-factor a x f e = ⊎_elim (λ z. z) (λ n. absurd (product-off (x *ℤ x) a (square_pos x f) n
-    (follows (a ∷ x ∷ []) (at 1 ⊗ at 1 ⊗ at 0) (num (pos 0)) (given (at 1) (at 0 ⊗ at 1) (num (pos 0)) e none) tt))) (nought-or a)
+-- their normals are parallel
+pub same-parallel : (g h : Form) → SamePlane g h → IsZero (cross (normal_of g) (normal_of h))
+same-parallel g h S = (let e = S.bc in omega (arith, ints, e), let e = S.ac in omega (arith, ints, e), let e = S.ab in omega (arith, ints, e))
 
 -- where the one plane's form is nought in x, y, z, w, so is the other's
 same-nought : (g h : Form) → SamePlane g h → (x y z w : ℤ) → g.a *ℤ x +ℤ g.b *ℤ y +ℤ g.c *ℤ z +ℤ g.d *ℤ w ≡ pos 0 → h.a *ℤ x +ℤ h.b *ℤ y +ℤ h.c *ℤ z +ℤ h.d *ℤ w ≡ pos 0

@@ -1,10 +1,12 @@
 -- The skeleton points of a complex that shows a set are those where not all directions are flat; the labels between them are theirs.
-use Rattle.law_complex.proofs.Prelude.{◌≡◌, ℕ, zero, suc, ◌<◌, ℤ, pos, ◌+ℤ◌, ◌*ℤ◌, arith, refl, ap, sym, ◌∙◌, ◌⊎◌, inl, inr, ⊎_elim, ◌↔◌, List, ◌∷◌, subst, [], ints, Sign, minus, nought, plus, sign, sign-plus, sign-minus, by_order, ring, at, num, ◌⊕◌, ◌⊗◌, HasLabel, Germ, Flat, FlatDim, IsEven, SpacePoint, SamePoint, InFrame, InClosedFrame, toward, IsAhead, IsBetween, Set, Holds, Vector, vector, dot, IsDirection, SameDirection, Label, Out, In, carriers, IsOnSegment, IsFlatBelow, Drop, SameGerms, label_of, InFrame-decided, Germ-unique, label-one, Label-cells, germ-toward, signs-same, same-point_sym, germs-by_cell, FlatDim-by_germs, FlatDim-one, even-germs, labels-by_germs, span-3, flat_dim-of, between-turned, between-inner, start-close, start-toward, even-until, beyond, halfway, halfway-between, halfway-outside, leads, leads-somewhere, way_factor, way_factor-some, reach_all, toward-point, point-toward, factor-same, by_side, IsAt, MapVertex, Item, item_normal, item_pos, item_mark, item_neg, dir_of, MapLabel, NearLabel, label-exists, near-exists, is-at_one, dir-at, Vertex, Edge, Complex, Corner, IsCorner, Shows, IsFacetPoint, Spot, at_vertex, on_edge, in_facet, IsSpot, IsSkeletonPoint, SameDirection-trans, direction-left}
+use Rattle.law_complex.proofs.Prelude.{◌≡◌, ℕ, zero, suc, ◌<◌, ℤ, pos, ◌+ℤ◌, ◌*ℤ◌, arith, refl, ap, sym, ◌∙◌, ◌⊎◌, inl, inr, ⊎_elim, ◌↔◌, List, ◌∷◌, subst, [], ints, Sign, minus, nought, plus, sign, sign-plus, sign-minus, by_order, ring, at, num, ◌⊕◌, ◌⊗◌, HasLabel, Germ, Flat, FlatDim, IsEven, SpacePoint, SamePoint, InFrame, toward, IsAhead, IsBetween, Set, Holds, Vector, vector, dot, IsDirection, Label, Out, In, carriers, IsOnSegment, IsFlatBelow, Drop, SameGerms, label_of, InFrame-decided, Germ-unique, label-one, Label-cells, germ-toward, signs-same, same-point_sym, germs-by_cell, FlatDim-one, even-germs, labels-by_germs, span-3, flat_dim-of, between-turned, between-inner, start-close, start-toward, even-until, beyond, halfway, halfway-between, halfway-outside, leads, leads-somewhere, way_factor, way_factor-some, reach_all, toward-point, point-toward, factor-same, by_side, IsAt, MapVertex, Item, item_normal, item_pos, item_mark, item_neg, dir_of, MapLabel, NearLabel, label-exists, near-exists, is-at_one, dir-at, Vertex, Edge, Complex, Corner, IsCorner, Shows, IsFacetPoint, Spot, at_vertex, on_edge, in_facet, IsSpot, IsSkeletonPoint, SameDirection-trans, direction-left}
 use Rattle.law_complex.specs.Belongs.{SpotMark, ItemLabel, Towards, Belongs, on_skeleton, off_skeleton}
 use Rattle.law_complex.proofs.Cones.{label-germ}
 use Rattle.law_complex.proofs.Ways.{between-way}
 use Rattle.law_complex.proofs.Edges.{near_point, near-between, edge-points, corner-one}
 use Rattle.law_complex.proofs.Joining.{edges-complete}
+use Rattle.nef_space.proofs.Elementary.{frame-closed}
+use Rattle.law_near.proofs.Same.{dim-same}
 
 -- only listed svertices have a way
 pub dir-listed : (vs : List MapVertex) (k : ℕ) → IsDirection (dir_of vs k) → (u : MapVertex) × IsAt vs k u
@@ -23,13 +25,26 @@ FacetAt s C = (k : Corner) (v : Vertex) (x : Item) (y : SpacePoint) → IsCorner
 abbrev pub FacetOf : Set → Complex → Type 0
 FacetOf s C = (y : SpacePoint) → FlatDim s y 2 → (k : Corner) × (v : Vertex) × (x : Item) × IsCorner C k v x × IsFacetPoint C v x y
 
-module _ (s : Set) (C : Complex) (S : Shows s C) (facet-at : FacetAt s C) (facet-of : FacetOf s C) where
-  dim-same : (p q : SpacePoint) (k : ℕ) → SamePoint p q → FlatDim s p k → FlatDim s q k
-  dim-same p q k e = FlatDim-by_germs s s p q (germs-by_cell s p q (signs-same (carriers s) p q e)) k
+-- a point outside of the frame lies ahead
+pub beyond-ahead : (p : SpacePoint) (d : Vector) → IsDirection d → IsAhead p d (beyond p d)
+beyond-ahead p d i = factor-same (toward p (beyond p d)) d (record {
+  k = 1;
+  l = way_factor p;
+  some_k = omega arith;
+  some_l = way_factor-some p;
+  is_x = each (toward p (beyond p d)).x d.x (ap (λ (v : Vector). v.x) (leads p d));
+  is_y = each (toward p (beyond p d)).y d.y (ap (λ (v : Vector). v.y) (leads p d));
+  is_z = each (toward p (beyond p d)).z d.z (ap (λ (v : Vector). v.z) (leads p d));
+  is_w = ring (pos (way_factor p) ∷ []) (num (pos 1) ⊗ num (pos 0)) (at 0 ⊗ num (pos 0)) tt;
+}) (leads-somewhere p d i)
+  where
+    each : (x e : ℤ) → x ≡ pos (way_factor p) *ℤ e +ℤ pos 0 *ℤ e → pos 1 *ℤ x ≡ pos (way_factor p) *ℤ e
+    each x e h = ap (λ r. pos 1 *ℤ r) h ∙ ring (pos (way_factor p) ∷ e ∷ []) (num (pos 1) ⊗ (at 0 ⊗ at 1 ⊕ num (pos 0) ⊗ at 1)) (at 0 ⊗ at 1) tt
 
+module _ (s : Set) (C : Complex) (S : Shows s C) (facet-at : FacetAt s C) (facet-of : FacetOf s C) where
   -- a skeleton point has fewer than three flat directions
   pub spot-dim : (o : Spot) (y : SpacePoint) → IsSpot C o y → (j : ℕ) × (j < 3) × FlatDim s y j
-  spot-dim (at_vertex k) y (v, a, e) = (0, omega arith, dim-same v.point y 0 e (S.vertices k v a))
+  spot-dim (at_vertex k) y (v, a, e) = (0, omega arith, dim-same s v.point y 0 e (S.vertices k v a))
   spot-dim (on_edge k) y (e, v, w, a, H, b) = (1, omega arith, (edge-points s C k e v w y S a H b).0)
   spot-dim (in_facet k) y (v, x, a, F) = (2, omega arith, (facet-at k v x y a F).0)
 
@@ -100,8 +115,6 @@ module _ (s : Set) (C : Complex) (S : Shows s C) (facet-at : FacetAt s C) (facet
       (λ l. (item_pos x, (v, x, a, inl (l, refl))))
 
   -- ---- free ways
-  same-dims : (p q : SpacePoint) → SameGerms s p q → (k : ℕ) → FlatDim s p k → FlatDim s q k
-  same-dims p q g k = FlatDim-by_germs s s p q g k
 
   -- along a way without skeleton points the label is that of its start, as far as y
   pub free-way : (p y : SpacePoint) (l : Label) → (IsSkeletonPoint C p → ⊥) → (SamePoint p y → ⊥) → ((q : SpacePoint) → IsBetween p q y → IsSkeletonPoint C q → ⊥) → HasLabel s p l → Germ s y (toward y p) l
@@ -115,9 +128,9 @@ module _ (s : Set) (C : Complex) (S : Shows s C) (facet-at : FacetAt s C) (facet
       subst (λ (d : Vector). Germ s y d l) (start-toward (reach_all (carriers s) y) y p) (germ-toward s l y q (start-close (reach_all (carriers s) y) y p) g)
     where
       at-point : (q : SpacePoint) → IsBetween p q y → (r : SpacePoint) → IsOnSegment p r q → FlatDim s r 3
-      at-point q c r (inl e) = dim-same p r 3 (same-point_sym r p e) (free-flat p off)
+      at-point q c r (inl e) = dim-same s p r 3 (same-point_sym r p e) (free-flat p off)
       at-point q c r (inr (inl b)) = free-flat r (clear r (between-inner p q y r c b))
-      at-point q c r (inr (inr e)) = dim-same q r 3 (same-point_sym r q e) (free-flat q (clear q c))
+      at-point q c r (inr (inr e)) = dim-same s q r 3 (same-point_sym r q e) (free-flat q (clear q c))
 
   -- from a point of the frame off the skeleton every way ends at a skeleton point
   pub record WayDown (p : SpacePoint) (d : Vector) : Type 0 where
@@ -127,38 +140,20 @@ module _ (s : Set) (C : Complex) (S : Shows s C) (facet-at : FacetAt s C) (facet
     pub ahead : IsAhead p d place
     pub clear : (q : SpacePoint) → IsBetween p q place → IsSkeletonPoint C q → ⊥
 
-  beyond-way : (p : SpacePoint) (d : Vector) → IsDirection d → SameDirection (toward p (beyond p d)) d
-  beyond-way p d i = factor-same (toward p (beyond p d)) d (record {
-    k = 1;
-    l = way_factor p;
-    some_k = omega arith;
-    some_l = way_factor-some p;
-    is_x = each (toward p (beyond p d)).x d.x (ap (λ (v : Vector). v.x) (leads p d));
-    is_y = each (toward p (beyond p d)).y d.y (ap (λ (v : Vector). v.y) (leads p d));
-    is_z = each (toward p (beyond p d)).z d.z (ap (λ (v : Vector). v.z) (leads p d));
-    is_w = ring (pos (way_factor p) ∷ []) (num (pos 1) ⊗ num (pos 0)) (at 0 ⊗ num (pos 0)) tt;
-  }) (leads-somewhere p d i)
-    where
-      each : (x e : ℤ) → x ≡ pos (way_factor p) *ℤ e +ℤ pos 0 *ℤ e → pos 1 *ℤ x ≡ pos (way_factor p) *ℤ e
-      each x e h = ap (λ r. pos 1 *ℤ r) h ∙ ring (pos (way_factor p) ∷ e ∷ []) (num (pos 1) ⊗ (at 0 ⊗ at 1 ⊕ num (pos 0) ⊗ at 1)) (at 0 ⊗ at 1) tt
-
   pub way-ends : (p : SpacePoint) (d : Vector) → IsDirection d → InFrame p → (IsSkeletonPoint C p → ⊥) → WayDown p d
   way-ends p d i inside off = by (even-until s 3 p (beyond p d) (free-flat p off) (let h = (free-flat p off).0 in span-3 s p h.0 h.1 h.2 (toward p (beyond p d)) h.3 h.4 h.5 h.6))
     where
-      closed : (r : SpacePoint) → InFrame r → InClosedFrame r
-      closed r j = record { along_x = (let h = j.along_x in omega arith); along_y = (let h = j.along_y in omega arith); along_z = (let h = j.along_z in omega arith) }
-
       by : ((r : SpacePoint) → IsBetween p r (beyond p d) → FlatDim s r 3) ⊎ Drop s 3 p (beyond p d) → WayDown p d
       by (inl all) =
           let r = halfway p d in
           let b = halfway-between p d (leads-somewhere p d i) in
           let even : IsEven s 3 p r = λ u on. at-point r b u on in
-          absurd (halfway-outside p d i (closed r (in-there r (even-germs s 3 p r even))))
+          absurd (halfway-outside p d i (frame-closed r (in-there r (even-germs s 3 p r even))))
         where
           at-point : (r : SpacePoint) → IsBetween p r (beyond p d) → (u : SpacePoint) → IsOnSegment p u r → FlatDim s u 3
-          at-point r b u (inl e) = dim-same p u 3 (same-point_sym u p e) (free-flat p off)
+          at-point r b u (inl e) = dim-same s p u 3 (same-point_sym u p e) (free-flat p off)
           at-point r b u (inr (inl c)) = all u (between-inner p r (beyond p d) u b c)
-          at-point r b u (inr (inr e)) = dim-same r u 3 (same-point_sym u r e) (all r b)
+          at-point r b u (inr (inr e)) = dim-same s r u 3 (same-point_sym u r e) (all r b)
 
           in-there : (r : SpacePoint) → SameGerms s p r → InFrame r
           in-there r same = ⊎_elim (λ j. j) (λ o. absurd ((labels-by_germs s p r same Out).1 o inside)) (InFrame-decided r)
@@ -169,7 +164,7 @@ module _ (s : Set) (C : Complex) (S : Shows s C) (facet-at : FacetAt s C) (facet
             place = x;
             spot = o.0;
             is_spot = o.1;
-            ahead = SameDirection-trans (toward p x) (toward p (beyond p d)) d (between-way p x (beyond p d) c.between) (beyond-way p d i);
+            ahead = SameDirection-trans (toward p x) (toward p (beyond p d)) d (between-way p x (beyond p d) c.between) (beyond-ahead p d i);
             clear = λ q b z. skeleton-not_flat q z (c.even_before q b);
           }
         where
@@ -187,7 +182,7 @@ module _ (s : Set) (C : Complex) (S : Shows s C) (facet-at : FacetAt s C) (facet
       there (on_skeleton o i m) = (spot-mark o p i In m).1
       there (off_skeleton o y v t) =
           let l = label_of s p in
-          let apart : SamePoint p y → ⊥ = λ e. skeleton-not_flat y (o, v.spot) (dim-same p y 3 e (free-flat p v.off)) in
+          let apart : SamePoint p y → ⊥ = λ e. skeleton-not_flat y (o, v.spot) (dim-same s p y 3 e (free-flat p v.off)) in
           let g = free-way p y l.0 v.off apart v.clear l.1 in
           (subst (HasLabel s p) (Germ-unique s y (toward y p) l.0 In g (spot-toward o y v.spot (toward y p) In t)) l.1).1
 

@@ -1,5 +1,5 @@
 -- Directions from point to point along a segment.
-use Rattle.law_complex.proofs.Prelude.{◌≡◌, ℕ, ◌*◌, ℤ, pos, neg_ℤ, ◌+ℤ◌, ◌-ℤ◌, ◌*ℤ◌, arith, refl, ◌⊎◌, inl, inr, ⊎_elim, ◌∷◌, [], mul-pos, ring, at, num, neg, ◌⊕◌, ◌⊖◌, ◌⊗◌, ints, given, none, follows, SpacePoint, step, SamePoint, toward, IsBetween, Vector, SameDirection, IsDirection, SameUpToFactor, of_point, of_direction, from-start, point-factor, factor-point, same-trans, past-mixed, before-at-after, factor-same, mixed-of, between-of, between-turned, between-inner, SameDirection-turned, SameDirection-trans, direction-left, direction-right}
+use Rattle.law_complex.proofs.Prelude.{◌≡◌, ℕ, ◌*◌, ℤ, pos, neg_ℤ, ◌+ℤ◌, ◌-ℤ◌, ◌*ℤ◌, arith, ◌⊎◌, inl, inr, ⊎_elim, ◌∷◌, [], mul-pos, ring, at, num, neg, ◌⊕◌, ◌⊖◌, ◌⊗◌, ints, given, none, follows, SpacePoint, step, SamePoint, toward, IsBetween, Vector, SameDirection, IsDirection, SameUpToFactor, of_point, of_direction, from-start, point-factor, factor-point, same-trans, past-mixed, before-at-after, factor-same, mixed-of, between-of, between-turned, between-inner, SameDirection-turned, SameDirection-trans, direction-left, direction-right}
 
 -- from p the point u between p and q lies in the direction of q
 pub between-way : (p u q : SpacePoint) → IsBetween p u q → SameDirection (toward p u) (toward p q)
@@ -33,10 +33,6 @@ between-ends p u q b = direction-right (toward p u) (toward p q) (between-way p 
 
 pub between-start : (p u q : SpacePoint) → IsBetween p u q → IsDirection (toward p u)
 between-start p u q b = direction-left (toward p u) (toward u q) b
-
--- each point is the same as itself
-pub same-itself : (p : SpacePoint) → SamePoint p p
-same-itself p = record { along_x = refl; along_y = refl; along_z = refl }
 
 pub same-point_trans : (p q r : SpacePoint) → SamePoint p q → SamePoint q r → SamePoint p r
 same-point_trans p q r e f = factor-point p r (same-trans (of_point p) (of_point q) (of_point r) (point-factor p q e) (point-factor q r f))

@@ -1,10 +1,11 @@
 -- Points and sets with the same germs have the same flat directions.
-use Rattle.law_near.proofs.Prelude.{◌+ℤ◌, ◌≡◌, ℕ, zero, suc, ◌+◌, ◌-◌, ◌<◌, ℤ, pos, ◌-ℤ◌, ◌*ℤ◌, arith, refl, ◌∙◌, ◌⊎◌, inl, inr, ◌↔◌, List, ◌∷◌, subst, [], ints, cases_order, ring, at, num, ◌⊕◌, ◌⊖◌, ◌⊗◌, given, none, follows, SpacePoint, form, step, toward, Vector, blend, IsZero, cross, triple, zero_vector, Set, HasLabel, SameSet, Germ, Flat, HasFlat, FlatDim, IsEven, IsEvenPath, Joined, Label, carriers, SameSigns, slide, NearGerm, SameCone, SameNear, vector-same}
+use Rattle.law_near.proofs.Prelude.{◌+ℤ◌, ◌≡◌, ℕ, zero, suc, ◌+◌, ◌-◌, ◌<◌, ℤ, pos, ◌*ℤ◌, arith, refl, ◌∙◌, ◌⊎◌, inl, inr, ◌↔◌, List, ◌∷◌, subst, [], ints, cases_order, ring, at, ◌⊕◌, ◌⊖◌, ◌⊗◌, none, SpacePoint, form, step, toward, Vector, blend, IsZero, cross, triple, zero_vector, Set, HasLabel, SameSet, Germ, Flat, HasFlat, FlatDim, IsEven, IsEvenPath, Joined, Label, carriers, SameSigns, slide, NearGerm, SameCone, SameNear, vector-same}
 use Rattle.law_near.proofs.Near.{weaken, stride, step-within, reach_all}
 use Rattle.law_near.proofs.Cells.{same-sym, reach-some}
 use Rattle.law_near.proofs.Flats.{germ-toward, label-toward, Flat-from_cone, FlatCone-from_flat}
 use Rattle.law_near.proofs.Rays.{Germ-cells, within-self, slope-zero, Germ-zero}
 use Rattle.law_near.proofs.Combine.{shorter}
+use Rattle.nef_space.proofs.Elementary.{minor-nought}
 
 -- ---- flat directions by the germs
 pub Flat-by_germs : (s t : Set) (p q : SpacePoint) → ((v : Vector) (l : Label) → Germ s p v l ↔ Germ t q v l) → (d : Vector) → Flat s p d → Flat t q d
@@ -100,11 +101,8 @@ fewer-3 s p (d, e, c, i, g, h, j) = (d, e, (λ z. i (none z)), g, h)
 fewer-2 : (s : Set) (p : SpacePoint) → HasFlat s p 2 → HasFlat s p 1
 fewer-2 s p (d, e, i, g, h) = (d, (λ z. i (none z)), g)
   where
-    one : (a b x y : ℤ) → x ≡ pos 0 → y ≡ pos 0 → x *ℤ a -ℤ y *ℤ b ≡ pos 0
-    one a b x y e f = follows (a ∷ b ∷ x ∷ y ∷ []) (at 2 ⊗ at 0 ⊖ at 3 ⊗ at 1) (num (pos 0)) (given (at 0) (at 2) (num (pos 0)) e (given (num (pos 0) ⊖ at 1) (at 3) (num (pos 0)) f none)) tt
-
     none : IsZero d → IsZero (cross d e)
-    none z = (one e.z e.y d.y d.z z.1 z.2, one e.x e.z d.z d.x z.2 z.0, one e.y e.x d.x d.y z.0 z.1)
+    none z = (minor-nought e.z e.y d.y d.z z.1 z.2, minor-nought e.x e.z d.z d.x z.2 z.0, minor-nought e.y e.x d.x d.y z.0 z.1)
 
 fewer : (s : Set) (p : SpacePoint) (k : ℕ) → HasFlat s p (suc k) → HasFlat s p k
 fewer s p zero h = tt

@@ -1,8 +1,8 @@
 -- Points at which all carriers have the same signs lie in the same sets.
 use Rattle.law_near.proofs.Prelude.{◌≡◌, ℕ, ◌+◌, ◌*◌, ◌<◌, ℤ, pos, negsuc, ◌-ℤ◌, ◌*ℤ◌, neg_ℤ, ◌≤ℤ◌, nat_abs, arith, refl, ap, sym, ◌∙◌, ◌⊎◌, inl, inr, ⊎_elim, ◌↔◌, List, ◌∷◌, Bool, true, false, [], ints, ring, at, num, ◌⊖◌, ◌⊗◌, Sign, minus, nought, plus, sign, sign-minus, plus-is, minus-is, nought-is, sign-scaled, SpacePoint, Form, form_at, slope, Ratio, step, toward, Within, InFrame, Vector, Set, Interior, Closure, InHalf, halves, half_side, Lies, sign_at, side, frame, SameSigns, lies-left, lies-right}
 use Rattle.nef_space.specs.Sets.{Holds}
-use Rattle.law_near.proofs.Sums.{some-pos}
 use Rattle.law_near.proofs.Near.{reach_all, keeps-all as keeps-form, slope-toward, weaken, stride, step-within, ray-level}
+use Rattle.nef_space.proofs.Elementary.{counted-positive}
 
 -- q keeps the signs of those forms that are not nought at p
 abbrev pub KeepsPointSigns : List Form → SpacePoint → SpacePoint → Type 0
@@ -27,7 +27,7 @@ is_nought plus = inr (λ e. cc)
 -- toward q the slope of a form that is nought at p has the sign of the form at q
 slope-level : (h : Form) (p q : SpacePoint) → form_at h p ≡ pos 0 → sign (slope h (toward p q)) ≡ sign_at h q
 slope-level h p q z = ap sign (slope-toward h p q ∙ ap (λ r. pos p.w *ℤ form_at h q -ℤ pos q.w *ℤ r) z ∙ ring (pos p.w ∷ form_at h q ∷ pos q.w ∷ []) (at 0 ⊗ at 1 ⊖ at 2 ⊗ num (pos 0)) (at 0 ⊗ at 1) tt)
-    ∙ sign-scaled (pos p.w) (form_at h q) (some-pos p.w p.proper)
+    ∙ sign-scaled (pos p.w) (form_at h q) (counted-positive p.w p.proper)
 
 pub record Copy (hs : List Form) (n : ℕ) (q r' : SpacePoint) : Type 0 where
   pub at_place : SpacePoint

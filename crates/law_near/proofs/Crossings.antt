@@ -2,7 +2,8 @@
 use Rattle.law_near.proofs.Prelude.{◌≡◌, ℕ, zero, suc, ◌<◌, ℤ, pos, negsuc, ◌+ℤ◌, ◌-ℤ◌, ◌*ℤ◌, nat_abs, arith, refl, ap, sym, ◌∙◌, ◌⊎◌, List, ◌∷◌, Bool, true, false, [], ints, ring, at, num, ◌⊕◌, ◌⊖◌, ◌⊗◌, Sign, minus, nought, plus, sign, sign-plus, sign-minus, sign-scaled, sign_of_product, mul_pos, mul_nonneg, Form}
 use Rattle.nef_space.proofs.Order.{sign_times, Lies}
 use Rattle.law_near.proofs.Counting.{count, find-passing, count-less}
-use Rattle.law_near.proofs.Sums.{Homogeneous, form_on, mix, IsMixed, SameFormSigns, form-mix, form-sum, mixed-mix, some-pos}
+use Rattle.law_near.proofs.Sums.{Homogeneous, form_on, mix, IsMixed, SameFormSigns, form-mix, form-sum, mixed-mix}
+use Rattle.nef_space.proofs.Elementary.{counted-positive}
 
 -- ---- signs along a segment
 abbrev pub opposite_signs : Sign → Sign → Bool
@@ -41,7 +42,7 @@ abbrev pub crosses : Form → Homogeneous → Homogeneous → Bool
 crosses h p q = opposite_signs (sign_on h p) (sign_on h q)
 
 pub sign-mixed : (h : Form) (p r q : Homogeneous) → IsMixed p r q → crosses h p q ≡ false → sign_on h r ≡ joint (sign_on h p) (sign_on h q)
-sign-mixed h p r q m c = sym (sign-scaled (pos m.k) (form_on h r) (some-pos m.k m.some_k)) ∙ ap sign (form-sum h m.k r m.i p m.j q m.sum) ∙ sign-inside (form_on h p) (form_on h q) m.i m.j m.some_i m.some_j c
+sign-mixed h p r q m c = sym (sign-scaled (pos m.k) (form_on h r) (counted-positive m.k m.some_k)) ∙ ap sign (form-sum h m.k r m.i p m.j q m.sum) ∙ sign-inside (form_on h p) (form_on h q) m.i m.j m.some_i m.some_j c
 
 abbrev pub CrossesNone : List Form → Homogeneous → Homogeneous → Type 0
 CrossesNone hs p q = (h : Form) → Lies hs h → crosses h p q ≡ false

@@ -1,5 +1,5 @@
 -- The vertices of a set and the cones there determine the set.
-use Rattle.law_near.proofs.Prelude.{◌≡◌, ℕ, zero, suc, ◌+◌, ◌-◌, ◌<◌, ◌≤◌, ℤ, pos, ◌-ℤ◌, ◌*ℤ◌, arith, refl, ◌⊎◌, inl, inr, ⊎_elim, ◌↔◌, subst, ints, cases_lt, SpacePoint, Within, InFrame, InClosedFrame, toward, IsBetween, Vector, vector, zero_vector, IsDirection, Set, SameSet, Germ, Flat, HasFlat, FlatDim, IsVertex, IsEven, Label, Out, carriers, SameCone, IsOnSegment, IsFlatBelow, Drop, SameGerms, direction-left, direction-right}
+use Rattle.law_near.proofs.Prelude.{◌≡◌, ℕ, zero, suc, ◌+◌, ◌-◌, ◌<◌, ◌≤◌, ℤ, pos, ◌-ℤ◌, ◌*ℤ◌, arith, refl, ◌⊎◌, inl, inr, ⊎_elim, ◌↔◌, subst, ints, cases_lt, SpacePoint, Within, InFrame, toward, IsBetween, Vector, vector, zero_vector, IsDirection, Set, SameSet, Germ, Flat, HasFlat, FlatDim, IsVertex, IsEven, Label, Out, carriers, SameCone, IsOnSegment, IsFlatBelow, Drop, SameGerms, direction-left, direction-right}
 use Rattle.law_near.proofs.Near.{weaken, reach_all}
 use Rattle.law_near.proofs.Germs.{Germ-unique}
 use Rattle.law_near.proofs.Decided.{InFrame-decided}
@@ -10,6 +10,7 @@ use Rattle.law_near.proofs.FlatDecided.{flat_dim-of}
 use Rattle.law_near.proofs.Even.{germ-nearby, flat-way, even-germs, labels-by_germs, span-3}
 use Rattle.law_near.proofs.Skeleton.{flat_dim-nearby}
 use Rattle.law_near.proofs.Edges.{start, start-close, start-between, start-toward, flat_way-end, even-until, beyond, halfway, halfway-between, halfway-outside, leads-somewhere}
+use Rattle.nef_space.proofs.Elementary.{frame-closed}
 
 -- ---- cones that agree
 cone-of_germs : (s t : Set) (p : SpacePoint) → ((v : Vector) (l : Label) → Germ s p v l ↔ Germ t p v l) → SameCone s t p
@@ -48,13 +49,6 @@ descent s k p some few f = by (let e : k ≡ (k - 1) + 1 = omega arith in HasFla
         let e = flat_way-end s k p d few f i flat in
         record { at_place = e.at_place; leads = direction-left (toward p e.at_place) d e.is_ahead; even_before = e.even_before; drops = e.drops }
 
-not-closed : (r : SpacePoint) → InFrame r → InClosedFrame r
-not-closed r i = record {
-  along_x = (let h = i.along_x in omega arith);
-  along_y = (let h = i.along_y in omega arith);
-  along_z = (let h = i.along_z in omega arith);
-}
-
 abbrev x_way : Vector
 x_way = vector (pos 1) (pos 0) (pos 0)
 
@@ -74,7 +68,7 @@ descent-3 s p i f = by (even-until s 3 p (beyond p x_way) f (let h = f.0 in span
         let r = halfway p x_way in
         let b = halfway-between p x_way leads-on in
         let even : IsEven s 3 p r = λ u on. at-point r b u on in
-        absurd (halfway-outside p x_way is-one (not-closed r (in-there r (even-germs s 3 p r even))))
+        absurd (halfway-outside p x_way is-one (frame-closed r (in-there r (even-germs s 3 p r even))))
       where
         at-point : (r : SpacePoint) → IsBetween p r (beyond p x_way) → (u : SpacePoint) → IsOnSegment p u r → FlatDim s u 3
         at-point r b u (inl e) = FlatDim-by_germs s s p u (germs-by_cell s p u (signs-same (carriers s) p u (same-point_sym u p e))) 3 f

@@ -1,6 +1,6 @@
 -- Products of vectors of three numbers, and directions that are the same up to a positive factor.
 use Rattle.law_near.proofs.Prelude.{◌≡◌, ℤ, pos, ◌*ℤ◌, ◌<ℤ◌, nat_abs, arith, ap, sym, ◌∙◌, ◌∷◌, ◌↔◌, [], ints, ring, at, num, ◌⊕◌, ◌⊖◌, ◌⊗◌, follows, given, none, mul_pos, cancel_lt, cancel_eq, pos-abs, abs-pos, Vector, dot, IsDirection, SameDirection, SameUpToFactor, of_direction, self-pos, direction-left, direction-right}
-use Rattle.law_near.proofs.Sums.{some-pos}
+use Rattle.nef_space.proofs.Elementary.{counted-positive}
 
 -- parallel vectors: (b.b) a = (a.b) b
 module _ (a b : Vector) (s : SameDirection a b) where
@@ -35,7 +35,7 @@ module _ (a b : Vector) (s : SameDirection a b) where
 -- ---- and back
 module _ (a b : Vector) (s : SameUpToFactor (of_direction a) (of_direction b)) (n : IsDirection a) where
   factor-zero : (x : ℤ) → pos s.l *ℤ x ≡ pos 0 → x ≡ pos 0
-  factor-zero x e = cancel_eq x (pos 0) (pos s.l) (some-pos s.l s.some_l) (ring (x ∷ pos s.l ∷ []) (at 0 ⊗ at 1) (at 1 ⊗ at 0) tt ∙ e ∙ ring (pos s.l ∷ []) (num (pos 0)) (num (pos 0) ⊗ at 0) tt)
+  factor-zero x e = cancel_eq x (pos 0) (pos s.l) (counted-positive s.l s.some_l) (ring (x ∷ pos s.l ∷ []) (at 0 ⊗ at 1) (at 1 ⊗ at 0) tt ∙ e ∙ ring (pos s.l ∷ []) (num (pos 0)) (num (pos 0) ⊗ at 0) tt)
 
   pub factor-same : SameDirection a b
   factor-same =
@@ -49,10 +49,10 @@ module _ (a b : Vector) (s : SameUpToFactor (of_direction a) (of_direction b)) (
       -- l (a.b) = k (a.a)
       let f = follows xs ((at 0 ⊗ at 3 ⊕ at 1 ⊗ at 4 ⊕ at 2 ⊗ at 5) ⊗ l) (k ⊗ (at 0 ⊗ at 0 ⊕ at 1 ⊗ at 1 ⊕ at 2 ⊗ at 2))
       (given (o ⊖ at 0) (k ⊗ at 0) (l ⊗ at 3) s.is_x (given (o ⊖ at 1) (k ⊗ at 1) (l ⊗ at 4) s.is_y (given (o ⊖ at 2) (k ⊗ at 2) (l ⊗ at 5) s.is_z none))) tt in
-      let g = mul_pos (pos s.k) (dot a a) (some-pos s.k s.some_k) (self-pos a n) in
+      let g = mul_pos (pos s.k) (dot a a) (counted-positive s.k s.some_k) (self-pos a n) in
       record {
         parallel = (factor-zero _ x, factor-zero _ y, factor-zero _ z);
-        forward = cancel_lt (pos 0) (dot a b) (pos s.l) (some-pos s.l s.some_l) (omega (arith, ints));
+        forward = cancel_lt (pos 0) (dot a b) (pos s.l) (counted-positive s.l s.some_l) (omega (arith, ints));
       }
 
 -- THE SAME DIRECTION IS THE SAME UP TO A POSITIVE FACTOR

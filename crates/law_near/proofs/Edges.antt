@@ -1,5 +1,5 @@
 -- Along a flat direction the number of flat directions stays until it drops; so each edge ends at two vertices.
-use Rattle.law_near.proofs.Prelude.{◌≡◌, ℕ, zero, suc, ◌+◌, ◌*◌, ◌<◌, ◌≤◌, ℤ, pos, negsuc, ◌+ℤ◌, ◌-ℤ◌, ◌*ℤ◌, neg_ℤ, nat_abs, arith, refl, ap, sym, ◌∙◌, ◌⊎◌, inl, inr, ⊎_elim, ◌∷◌, subst, [], ints, unsigned_abs-mul, cases_order, mul-le, mul-pos, le-mul_of_pos_right, ring, at, num, neg, ◌⊕◌, ◌⊖◌, ◌⊗◌, given, none, follows, follows_times, half_side, SpacePoint, step, Within, SamePoint, InClosedFrame, toward, IsBetween, Vector, opposite, IsDirection, SameDirection, Set, Flat, FlatDim, IsVertex, carriers, combination, FirstChange, IsFlatBelow, Drop, WayEnd, EdgeAround, SameUpToFactor, of_point, of_direction, nought-or, zero-decided, vector-same, direction-left, direction-right}
+use Rattle.law_near.proofs.Prelude.{◌≡◌, ℕ, ◌+◌, ◌*◌, ◌<◌, ◌≤◌, ℤ, pos, negsuc, ◌+ℤ◌, ◌-ℤ◌, ◌*ℤ◌, neg_ℤ, nat_abs, arith, refl, ap, sym, ◌∙◌, ◌⊎◌, inl, inr, ⊎_elim, ◌∷◌, subst, [], ints, unsigned_abs-mul, mul-le, mul-pos, le-mul_of_pos_right, ring, at, num, neg, ◌⊕◌, ◌⊖◌, ◌⊗◌, given, none, follows, follows_times, half_side, SpacePoint, step, Within, SamePoint, InClosedFrame, toward, IsBetween, Vector, opposite, IsDirection, SameDirection, Set, Flat, FlatDim, IsVertex, carriers, combination, FirstChange, IsFlatBelow, Drop, WayEnd, EdgeAround, SameUpToFactor, of_point, of_direction, nought-or, zero-decided, vector-same, direction-left, direction-right}
 use Rattle.law_near.proofs.Near.{reach_all}
 use Rattle.law_near.proofs.Flats.{Flat-from_cone, FlatCone-from_flat}
 use Rattle.law_near.proofs.Rays.{signs-same, slope-same, same-point_sym}
@@ -15,6 +15,8 @@ use Rattle.law_near.proofs.Between.{mixed-of, between-of, between-mix, between-t
 use Rattle.law_near.proofs.FirstChange.{first-change}
 use Rattle.law_near.proofs.Even.{germ-nearby, flat-way, flat-divided}
 use Rattle.law_near.proofs.Skeleton.{flat_dim-nearby}
+use Rattle.nef_space.proofs.Vectors.{neg-zero}
+use Rattle.nef_space.proofs.Elementary.{less-unless, size-positive, once-opposite}
 
 -- ---- a point on the way from x to y that is close to x
 abbrev pub start : ℕ → SpacePoint → SpacePoint → SpacePoint
@@ -110,10 +112,7 @@ even-until s k p q f way = ⊎_elim (λ all. inl all) (λ c. by c c.on_segment c
         let j = flat_dim-of s x in
         let r = back x b in
         let l = flat_dim-nearby s x r (start-close (reach_all (carriers s) x) x p) k j.0 j.1 (c.stands_before r (back-between x b)) in
-        inr (record { at_place = x; between = b; even_before = c.stands_before; drops = (j.0, lower j.0 k l (λ e. n (subst (FlatDim s x) e j.1)), j.1) })
-      where
-        lower : (j k : ℕ) → j ≤ k → (j ≡ k → ⊥) → j < k
-        lower j k l n = ⊎_elim (λ e. absurd (n e)) (λ d. ⊎_elim (λ h. h) (λ h. absurd (omega arith)) d) (cases_order j k)
+        inr (record { at_place = x; between = b; even_before = c.stands_before; drops = (j.0, less-unless j.0 k l (λ e. n (subst (FlatDim s x) e j.1)), j.1) })
     by c on (inr (g, (y, b, fails))) =
         let x = c.at_place in
         let n = reach_all (carriers s) x in
@@ -128,16 +127,11 @@ too-far x e w a some n big h =
     let m = pos a *ℤ pos w *ℤ e in
     let i = ring (x ∷ pos a ∷ pos w ∷ e ∷ []) (num (pos 1) ⊗ at 0 ⊕ num (pos 1) ⊗ (at 0 ⊗ num (pos 1) ⊕ num (pos 2) ⊗ at 1 ⊗ at 2 ⊗ at 3)) (num (pos 2) ⊗ at 0 ⊕ num (pos 2) ⊗ (at 1 ⊗ at 2 ⊗ at 3)) tt in
     let j : nat_abs m ≡ a * w * nat_abs e = unsigned_abs-mul (pos a *ℤ pos w) e ∙ ap (λ r. r * nat_abs e) (unsigned_abs-mul (pos a) (pos w)) in
-    let k : a * w ≤ a * w * nat_abs e = le-mul_of_pos_right (a * w) (positive-size e n) in
+    let k : a * w ≤ a * w * nat_abs e = le-mul_of_pos_right (a * w) (size-positive e n) in
     let l = mul-le (nat_abs x + half_side + 1) w a w (omega arith) (omega arith) in
     let o : nat_abs x ≤ nat_abs x * w = le-mul_of_pos_right (nat_abs x) some in
     too-large x m (nat_abs m) (half_side * w) (subst (λ (z : ℤ). nat_abs z ≤ half_side * (1 * w + 1 * (w * 1))) i h) (omega arith) refl (omega arith)
   where
-    positive-size : (e : ℤ) → (e ≡ pos 0 → ⊥) → 0 < nat_abs e
-    positive-size (pos zero) n = absurd (n refl)
-    positive-size (pos (suc k)) n = omega arith
-    positive-size (negsuc k) n = omega arith
-
     too-large : (x m : ℤ) (c b : ℕ) → nat_abs (pos 2 *ℤ x +ℤ pos 2 *ℤ m) ≤ half_side * (1 * w + 1 * (w * 1)) → half_side * (1 * w + 1 * (w * 1)) ≡ 2 * b → nat_abs m ≡ c → nat_abs x + b < c → ⊥
     too-large x m c b h e g l = omega (arith, ints)
 
@@ -240,16 +234,10 @@ pub edge-around : (s : Set) (p : SpacePoint) → FlatDim s p 1 → EdgeAround s 
 edge-around s p one = by one.0
   where
     by : (d : Vector) × IsDirection d × Flat s p d → EdgeAround s p
-    by (d, some, flat) = ends (way-end s 1 (omega arith) p d one some flat) (way-end s 1 (omega arith) p (opposite d) one (λ z. some (zero-back d.x z.0, zero-back d.y z.1, zero-back d.z z.2)) (flat-back flat))
+    by (d, some, flat) = ends (way-end s 1 (omega arith) p d one some flat) (way-end s 1 (omega arith) p (opposite d) one (λ z. some (neg-zero d.x z.0, neg-zero d.y z.1, neg-zero d.z z.2)) (flat-back flat))
       where
-        zero-back : (x : ℤ) → neg_ℤ x ≡ pos 0 → x ≡ pos 0
-        zero-back x e = omega (arith, ints)
-
         flat-back : Flat s p d → Flat s p (opposite d)
-        flat-back f = subst (Flat s p) (vector-same (combination (negsuc 0) d (pos 0) d) (opposite d) (turned d.x) (turned d.y) (turned d.z)) (flat-combination s p d d (negsuc 0) (pos 0) f f)
-          where
-            turned : (x : ℤ) → negsuc 0 *ℤ x +ℤ pos 0 *ℤ x ≡ neg_ℤ x
-            turned x = omega (arith, ints)
+        flat-back f = subst (Flat s p) (vector-same (combination (negsuc 0) d (pos 0) d) (opposite d) (once-opposite d.x) (once-opposite d.y) (once-opposite d.z)) (flat-combination s p d d (negsuc 0) (pos 0) f f)
 
         ends : End s 1 p d → End s 1 p (opposite d) → EdgeAround s p
         ends a b = record { source = b.at_place; target = a.at_place; source_is_vertex = vertex b; target_is_vertex = vertex a; between = middle; even = even }

@@ -44,6 +44,3 @@ pub far-same : (hs : List Form) (d e : Homogeneous) (k l : ℕ) → form_amount 
 far-same hs d e k l a b h m = ⊎_elim
     (λ z. far-level hs d e k a h z ∙ sym (far-level hs d e l b h z))
     (λ f. far-keeps hs d e k a h m f ∙ sym (far-keeps hs d e l b h m f)) (nought-or (form_on h d))
-
-pub keeps-trans : (hs : List Form) (c d e : Homogeneous) → KeepsFormSigns hs c d → KeepsFormSigns hs d e → KeepsFormSigns hs c e
-keeps-trans hs c d e f g h l z = let s = f h l z in g h l (same-off (form_on h c) (form_on h d) s z) ∙ s

@@ -1,11 +1,12 @@
 -- Along a segment: what is settled is the same at both ends; the first change of a decided predicate, and the first point of a closed one.
-use Rattle.law_near.proofs.Prelude.{ℕ, ◌+◌, ◌*◌, ◌<◌, arith, refl, ◌⊎◌, inl, inr, ⊎_elim, List, SpacePoint, Form, Within, SamePoint, toward, IsBetween, of_point, OnPoints, IsSettled, FirstChange, FirstPoint, direction-left}
+use Rattle.law_near.proofs.Prelude.{ℕ, ◌+◌, ◌*◌, ◌<◌, arith, ◌⊎◌, inl, inr, ⊎_elim, List, SpacePoint, Form, Within, SamePoint, toward, IsBetween, of_point, OnPoints, IsSettled, FirstChange, FirstPoint, direction-left}
 use Rattle.law_near.proofs.Sums.{same-sym, mixed-mix, mixed-inner, on-past, on-after}
 use Rattle.law_near.proofs.Mixed.{between-is, between-same, factor-point, points-on, point-toward, end-zero}
 use Rattle.law_near.proofs.Points.{mix_point, mix-close, far, settled-segment_points, PointChange, first-change_or_points}
 use Rattle.law_near.proofs.Cells.{Cells, same-sym as signs-sym}
 use Rattle.law_near.proofs.Rays.{signs-same, same-point_sym}
 use Rattle.law_near.proofs.Between.{between-mix, between-inner}
+use Rattle.nef_space.proofs.Elementary.{same-itself}
 
 -- what is settled along a segment is the same at both ends
 pub settled-along : (hs : List Form) (P : SpacePoint → Type 0) → Cells hs P → (p q : SpacePoint) → IsSettled P p q → P p → P q
@@ -34,9 +35,6 @@ module _ (hs : List Form) (P : SpacePoint → Type 0) (C : Cells hs P) (D : (r :
   pub first-change : (p q : SpacePoint) → P p → ((r : SpacePoint) → IsBetween p r q → P r) ⊎ FirstChange P p q
   first-change p q h = ⊎_elim (λ f. inl f) (λ c. by c c.on) (first-change_or_points hs P p q (λ r s a b same. C r s same) (λ r a. D r) h)
     where
-      itself : (r : SpacePoint) → SamePoint r r
-      itself r = record { along_x = refl; along_y = refl; along_z = refl }
-
       by : (c : PointChange P p q) → OnPoints p c.place q → ((r : SpacePoint) → IsBetween p r q → P r) ⊎ FirstChange P p q
       by c (inl s) = inr (record {
         at_place = c.place;
@@ -50,7 +48,7 @@ module _ (hs : List Form) (P : SpacePoint → Type 0) (C : Cells hs P) (D : (r :
         stands_before = c.before;
         change = ⊎_elim (λ f. inl (f, b)) (λ g. let t = g.1 in inr (g.0, room p q c.place t.0 t.1 t.2 t.3 P t.4)) c.change;
       })
-      by c (inr (inr s)) = inl (λ r b. c.before r (between-same p r q p r c.place (itself p) (itself r) (same-point_sym c.place q s) b))
+      by c (inr (inr s)) = inl (λ r b. c.before r (between-same p r q p r c.place (same-itself p) (same-itself r) (same-point_sym c.place q s) b))
 
 -- the first point at which a closed predicate holds
 module _ (hs : List Form) (P : SpacePoint → Type 0) (C : Cells hs P) (D : (r : SpacePoint) → P r ⊎ (P r → ⊥))

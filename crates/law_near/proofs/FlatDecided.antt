@@ -1,5 +1,5 @@
 -- The flat directions of a point are decided, and so is how many independent ones there are.
-use Rattle.law_near.proofs.Prelude.{◌≡◌, ℕ, ◌+◌, ◌<◌, ◌≤◌, ℤ, pos, negsuc, ◌+ℤ◌, ◌*ℤ◌, neg_ℤ, nat_abs, arith, refl, ap, sym, ◌∙◌, ◌⊎◌, inl, inr, ⊎_elim, ◌↔◌, List, ◌∷◌, ◌++◌, subst, [], ints, cases_order, sign_times, Lies, ring, at, num, neg, ◌⊕◌, ◌⊖◌, ◌⊗◌, given, none, follows, nought-is, sign-plus, sign_of_product, nought-or, SpacePoint, Form, form, slope, Vector, blend, dot, cross, IsZero, IsDirection, Set, Germ, Flat, FlatDim, Label, sign_at, carriers, SameSlopes, SameSlopesAt, slide, NearGerm, FlatCone, lies-left, lies-right, vector-same, triple-dot, parallel-both, triple-in_plane}
+use Rattle.law_near.proofs.Prelude.{◌≡◌, ℕ, ◌+◌, ◌<◌, ◌≤◌, ℤ, pos, negsuc, ◌+ℤ◌, ◌*ℤ◌, neg_ℤ, nat_abs, arith, refl, ap, sym, ◌∙◌, ◌⊎◌, inl, inr, ⊎_elim, ◌↔◌, List, ◌∷◌, ◌++◌, subst, [], ints, sign_times, Lies, ring, at, num, neg, ◌⊕◌, ◌⊖◌, ◌⊗◌, given, none, follows, nought-is, sign-plus, sign_of_product, nought-or, SpacePoint, Form, form, slope, Vector, blend, dot, cross, IsZero, IsDirection, Set, Germ, Flat, FlatDim, Label, sign_at, carriers, SameSlopes, SameSlopesAt, slide, NearGerm, FlatCone, lies-left, lies-right, vector-same, triple-dot, parallel-both, triple-in_plane}
 use Rattle.nef_space.specs.Signs.{nought, sign}
 use Rattle.law_near.proofs.Cells.{is_nought}
 use Rattle.law_near.proofs.Germs.{Germ-unique}
@@ -8,6 +8,7 @@ use Rattle.law_near.proofs.Decided.{Decided, germ_of, every, decided-both, decid
 use Rattle.law_near.proofs.Alike.{FlatDim-one}
 use Rattle.law_near.proofs.NearGerms.{steep, steep-one, sign-large}
 use Rattle.law_near.proofs.Decisions.{representatives, near-germ_of, near-germ_one, same-label_or}
+use Rattle.std.proofs.lemmas.Bool.{cases_eq}
 
 -- ---- what decides the germs near a direction
 -- d and d' lead to the same sides, and e and e' do where d doesn't decide
@@ -215,7 +216,4 @@ flat_dim-of s p = first (find-flat s p numbers)
 pub flat_dim-decided : (s : Set) (p : SpacePoint) (k : ℕ) → Decided (FlatDim s p k)
 flat_dim-decided s p k =
     let j = flat_dim-of s p in
-    ⊎_elim (λ e. inl (subst (FlatDim s p) e j.1)) (λ n. inr (λ f. n (FlatDim-one s p j.0 k j.1 f))) (same-or j.0 k)
-  where
-    same-or : (m n : ℕ) → (m ≡ n) ⊎ (m ≡ n → ⊥)
-    same-or m n = ⊎_elim (λ e. inl e) (λ d. inr (λ e. ⊎_elim (λ l. omega arith) (λ l. omega arith) d)) (cases_order m n)
+    ⊎_elim (λ e. inl (subst (FlatDim s p) e j.1)) (λ n. inr (λ f. n (FlatDim-one s p j.0 k j.1 f))) (cases_eq j.0 k)

@@ -3,6 +3,7 @@ use Rattle.law_near.proofs.Prelude.{◌≡◌, ◌+◌, ◌*◌, ℤ, pos, negsu
 use Rattle.nef_space.specs.Signs.{Sign, minus, nought, plus}
 use Rattle.law_near.proofs.Near.{stride, step-within, reach_all}
 use Rattle.law_near.proofs.Cells.{reach-some, keeps-all, coordinate-in, InFrame-cells}
+use Rattle.nef_space.proofs.Elementary.{minus-not_nought, plus-not_nought}
 
 -- ---- the sides at a point
 x-sides : (p : SpacePoint) → InFrame p → (sign_at (side (pos 1) (pos 0) (pos 0)) p ≡ minus) × (sign_at (side (negsuc 0) (pos 0) (pos 0)) p ≡ minus)
@@ -29,10 +30,7 @@ frame-minus p i h (inr (inr (inr (inr (inr (inr e)))))) = absurd e
 
 -- ---- the frame is open
 pub frame-near : (p q : SpacePoint) → InFrame p → Within (reach_all frame p) p q → InFrame q
-frame-near p q i c = InFrame-cells frame (λ h l. l) p q (λ h l. sym (keeps-all frame p q c h l (λ o. differ (sign_at h p) (frame-minus p i h l) o))) i
-  where
-    differ : (s : Sign) → s ≡ minus → s ≡ nought → ⊥
-    differ s e f = cc
+frame-near p q i c = InFrame-cells frame (λ h l. l) p q (λ h l. sym (keeps-all frame p q c h l (λ o. minus-not_nought (sign_at h p) (frame-minus p i h l) o))) i
 
 pub no-germ_out : (s : Set) (p : SpacePoint) (d : Vector) → InFrame p → Germ s p d Out → ⊥
 no-germ_out s p d i (n, some, f) =
@@ -71,10 +69,7 @@ still-outside p n q c i =
     differ (sign_at b.side_of p) (sign_at b.side_of q) b.above (frame-minus q i b.side_of b.listed) (λ o. keeps-all frame p q c b.side_of b.listed o)
   where
     differ : (s t : Sign) → s ≡ plus → t ≡ minus → ((s ≡ nought → ⊥) → t ≡ s) → ⊥
-    differ s t e f g = let k = g (λ o. none s e o) in cc
-      where
-        none : (s : Sign) → s ≡ plus → s ≡ nought → ⊥
-        none s e o = cc
+    differ s t e f g = let k = g (λ o. plus-not_nought s e o) in cc
 
 both-out : (s : Set) (q r : SpacePoint) → (InFrame q → ⊥) → (InFrame r → ⊥) → (l : Label) → HasLabel s q l ↔ HasLabel s r l
 both-out s q r m n Out = (λ h. n, λ h. m)

@@ -7,6 +7,7 @@ pub mod FirstVector
 pub mod Far
 pub mod Near
 pub mod Directions
+pub mod Normals
 pub mod Mixed
 pub mod Generic
 pub mod Representatives
@@ -20,6 +21,8 @@ pub mod Decided
 pub mod Rays
 pub mod Combine
 pub mod Alike
+pub mod Same
+pub mod SameSets
 pub mod Frames
 pub mod NearGerms
 pub mod Decisions

@@ -1,8 +1,9 @@
 -- Points that are the same, and points strictly between two others, as sums of homogeneous vectors.
 use Rattle.law_near.proofs.Prelude.{◌≡◌, ◌+◌, ◌*◌, ℤ, pos, ◌+ℤ◌, ◌-ℤ◌, ◌*ℤ◌, arith, ◌⊎◌, inl, inr, ⊎_elim, List, ◌∷◌, ◌↔◌, [], ints, mul-pos, ring, at, num, ◌⊕◌, ◌⊖◌, ◌⊗◌, follows, follows_times, given, none, IsZero, SpacePoint, SamePoint, toward, IsBetween, zero-decided, zero-dot}
 pub use Rattle.law_near.specs.Homogeneous.{of_point, of_direction, OnPoints}
-use Rattle.law_near.proofs.Sums.{SameUpToFactor, IsMixed, OnSegment, some-pos, same-sym, same-refl, same-trans, mixed-same, mixed-itself, on-cases, on-same, on-start, on-end, on-mixed}
+use Rattle.law_near.proofs.Sums.{SameUpToFactor, IsMixed, OnSegment, same-sym, same-refl, same-trans, mixed-same, mixed-itself, on-cases, on-same, on-start, on-end, on-mixed}
 use Rattle.law_near.proofs.Directions.{same-factor, factor-same}
+use Rattle.nef_space.proofs.Elementary.{counted-positive}
 
 -- ---- the same point
 pub point-factor : (p q : SpacePoint) → SamePoint p q → SameUpToFactor (of_point p) (of_point q)
@@ -25,7 +26,7 @@ factor-point p q s = record { along_x = one p.x q.x s.is_x; along_y = one p.y q.
   where
     one : (x y : ℤ) → pos s.k *ℤ x ≡ pos s.l *ℤ y → x *ℤ pos q.w ≡ y *ℤ pos p.w
     one x y e = follows_times (x ∷ y ∷ pos p.w ∷ pos q.w ∷ pos s.k ∷ pos s.l ∷ []) (at 5) (at 0 ⊗ at 3) (at 1 ⊗ at 2)
-        (given (at 2) (at 4 ⊗ at 0) (at 5 ⊗ at 1) e (given (num (pos 0) ⊖ at 0) (at 4 ⊗ at 2) (at 5 ⊗ at 3) s.is_w none)) (some-pos s.l s.some_l) tt
+        (given (at 2) (at 4 ⊗ at 0) (at 5 ⊗ at 1) e (given (num (pos 0) ⊖ at 0) (at 4 ⊗ at 2) (at 5 ⊗ at 3) s.is_w none)) (counted-positive s.l s.some_l) tt
 
 -- THE SAME POINT IS THE SAME UP TO A POSITIVE FACTOR
 pub same-point : (p q : SpacePoint) → SamePoint p q ↔ SameUpToFactor (of_point p) (of_point q)
@@ -107,7 +108,7 @@ module _ (p r q : SpacePoint) (m : IsMixed (of_point p) (of_point r) (of_point q
       one x y u e z =
           let t = u *ℤ pos p.w -ℤ x *ℤ pos r.w in let w = y *ℤ pos p.w -ℤ x *ℤ pos q.w in
           follows_times (t ∷ w ∷ pos m.k ∷ pos m.j ∷ []) (at 3) (at 1) (num (pos 0))
-          (given (num (pos 0) ⊖ num (pos 1)) (at 2 ⊗ at 0) (at 3 ⊗ at 1) (from-start x y u e) (given (at 2) (at 0) (num (pos 0)) z none)) (some-pos m.j m.some_j) tt
+          (given (num (pos 0) ⊖ num (pos 1)) (at 2 ⊗ at 0) (at 3 ⊗ at 1) (from-start x y u e) (given (at 2) (at 0) (num (pos 0)) z none)) (counted-positive m.j m.some_j) tt
 
   -- and if q is p, so is r
   pub end-zero : IsZero (toward p q) → IsZero (toward p r)
@@ -117,7 +118,7 @@ module _ (p r q : SpacePoint) (m : IsMixed (of_point p) (of_point r) (of_point q
       one x y u e z =
           let t = u *ℤ pos p.w -ℤ x *ℤ pos r.w in let w = y *ℤ pos p.w -ℤ x *ℤ pos q.w in
           follows_times (t ∷ w ∷ pos m.k ∷ pos m.j ∷ []) (at 2) (at 0) (num (pos 0))
-          (given (num (pos 1)) (at 2 ⊗ at 0) (at 3 ⊗ at 1) (from-start x y u e) (given (at 3) (at 1) (num (pos 0)) z none)) (some-pos m.k m.some_k) tt
+          (given (num (pos 1)) (at 2 ⊗ at 0) (at 3 ⊗ at 1) (from-start x y u e) (given (at 3) (at 1) (num (pos 0)) z none)) (counted-positive m.k m.some_k) tt
 
 -- STRICTLY BETWEEN TWO POINTS THAT AREN'T THE SAME ARE THE POINTS i p + j q
 pub between-is : (p r q : SpacePoint) → IsBetween p r q ↔ IsMixed (of_point p) (of_point r) (of_point q) × (SamePoint p q → ⊥)

@@ -1,9 +1,7 @@
 -- The order of points by their coordinates: it goes on, no point is below an equal one, and equal points stand in the same order.
 use Rattle.law_near.proofs.Prelude.{◌≡◌, ℤ, pos, ◌*ℤ◌, ◌<ℤ◌, arith, ap, ◌∙◌, inl, inr, ◌∷◌, [], ints, cancel_lt, mul_lt_right, ring, at, ◌⊗◌, SpacePoint, SamePoint, IsPointBelow}
 use Rattle.nef_space.proofs.Fractions.{fraction-trans, fraction-eq-trans}
-
-pub weight : (p : SpacePoint) → pos 0 <ℤ pos p.w
-weight p = let h = p.proper in omega (arith, ints)
+use Rattle.nef_space.proofs.Elementary.{same-itself, weight-positive}
 
 -- a/b < c/d = e/f gives a/b < e/f
 less_equal : (a b c d e f : ℤ) → pos 0 <ℤ d → pos 0 <ℤ f → (a *ℤ d) <ℤ (c *ℤ b) → c *ℤ f ≡ e *ℤ d → (a *ℤ f) <ℤ (e *ℤ b)
@@ -30,16 +28,16 @@ equal_less a b c d e f hb hd k h =
 
 module _ (p q r : SpacePoint) where
   less : (a c e : ℤ) → (a *ℤ pos q.w) <ℤ (c *ℤ pos p.w) → (c *ℤ pos r.w) <ℤ (e *ℤ pos q.w) → (a *ℤ pos r.w) <ℤ (e *ℤ pos p.w)
-  less a c e h k = fraction-trans a (pos p.w) c (pos q.w) e (pos r.w) (weight p) (weight q) (weight r) h k
+  less a c e h k = fraction-trans a (pos p.w) c (pos q.w) e (pos r.w) (weight-positive p) (weight-positive q) (weight-positive r) h k
 
   less_same : (a c e : ℤ) → (a *ℤ pos q.w) <ℤ (c *ℤ pos p.w) → c *ℤ pos r.w ≡ e *ℤ pos q.w → (a *ℤ pos r.w) <ℤ (e *ℤ pos p.w)
-  less_same a c e h k = less_equal a (pos p.w) c (pos q.w) e (pos r.w) (weight q) (weight r) h k
+  less_same a c e h k = less_equal a (pos p.w) c (pos q.w) e (pos r.w) (weight-positive q) (weight-positive r) h k
 
   same_less : (a c e : ℤ) → a *ℤ pos q.w ≡ c *ℤ pos p.w → (c *ℤ pos r.w) <ℤ (e *ℤ pos q.w) → (a *ℤ pos r.w) <ℤ (e *ℤ pos p.w)
-  same_less a c e h k = equal_less a (pos p.w) c (pos q.w) e (pos r.w) (weight p) (weight q) h k
+  same_less a c e h k = equal_less a (pos p.w) c (pos q.w) e (pos r.w) (weight-positive p) (weight-positive q) h k
 
   same : (a c e : ℤ) → a *ℤ pos q.w ≡ c *ℤ pos p.w → c *ℤ pos r.w ≡ e *ℤ pos q.w → a *ℤ pos r.w ≡ e *ℤ pos p.w
-  same a c e h k = fraction-eq-trans a (pos p.w) c (pos q.w) e (pos r.w) (weight q) h k
+  same a c e h k = fraction-eq-trans a (pos p.w) c (pos q.w) e (pos r.w) (weight-positive q) h k
 
   pub point_below-trans : IsPointBelow p q → IsPointBelow q r → IsPointBelow p r
   point_below-trans (inl h) (inl k) = inl (less p.x q.x r.x h k)
@@ -69,3 +67,6 @@ point_below-apart p q (inl h) s = let e = s.along_x in omega (arith, ints)
 point_below-apart p q (inr (a, inl h)) s = let e = s.along_y in omega (arith, ints)
 point_below-apart p q (inr (a, inr (c, inl h))) s = let e = s.along_z in omega (arith, ints)
 point_below-apart p q (inr (a, inr (c, inr h))) s = absurd h.1
+
+pub point_below-one_way : (p q : SpacePoint) → IsPointBelow p q → IsPointBelow q p → ⊥
+point_below-one_way p q h k = point_below-apart p p (point_below-trans p q p h k) (same-itself p)

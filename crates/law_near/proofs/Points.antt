@@ -1,10 +1,11 @@
 -- Segments of points and of directions: what is settled along them, and the first change.
 use Rattle.law_near.proofs.Prelude.{◌≡◌, ℕ, zero, suc, ◌+◌, ◌*◌, ◌<◌, ◌≤◌, ℤ, pos, ◌+ℤ◌, ◌-ℤ◌, ◌*ℤ◌, ◌<ℤ◌, nat_abs, arith, refl, ap, sym, ◌∙◌, ◌⊎◌, inl, inr, ⊎_elim, ◌↔◌, List, ◌∷◌, subst, [], ints, mul-pos, le-mul_of_pos_right, ring, at, num, ◌⊕◌, ◌⊖◌, ◌⊗◌, follows, given, none, sign, cancel_lt, cancel_eq, abs-pos, each, lies-each, Vector, vector, dot, blend, SpacePoint, Form, NearNumber, Within, SamePoint, IsBetween, of_point, of_direction, direction_form, homogeneous, OnPoints, OnWay, IsPassed, sign_at}
 use Rattle.nef_space.proofs.Order.{Lies}
-use Rattle.law_near.proofs.Sums.{Homogeneous, form_on, SameUpToFactor, IsMixed, OnSegment, some-pos, same-refl, same-sym, sign-same, mixed-same, on-same, on-start, on-mixed, on-convex}
+use Rattle.law_near.proofs.Sums.{Homogeneous, form_on, SameUpToFactor, IsMixed, OnSegment, same-refl, same-sym, sign-same, mixed-same, on-same, on-start, on-mixed, on-convex}
 use Rattle.law_near.proofs.Mixed.{between-is, point-factor, factor-point, on-points}
 use Rattle.law_near.proofs.Segment.{SettledToward, Cells, Settled, settled-segment}
 use Rattle.law_near.proofs.FirstVector.{Change, ChangeAt, change-at, DecidedOnSegment, first-change_or, first-change}
+use Rattle.nef_space.proofs.Elementary.{counted-positive}
 
 -- ---- vectors of a segment of points are points
 weight-one : (x y : ℕ) (i j : ℕ) → 0 < x → 0 < y → 0 < i + j → 0 < i * x + j * y
@@ -19,7 +20,7 @@ weight-of p q x m =
     let b : pos m.k *ℤ x.w ≡ pos (m.i * p.w + m.j * q.w) = e in
     let c = ring (pos m.k ∷ x.w ∷ []) (at 1 ⊗ at 0) (at 0 ⊗ at 1) tt in
     let d = ring (pos m.k ∷ []) (num (pos 0) ⊗ at 0) (num (pos 0)) tt in
-    cancel_lt (pos 0) x.w (pos m.k) (some-pos m.k m.some_k) (omega (arith, ints))
+    cancel_lt (pos 0) x.w (pos m.k) (counted-positive m.k m.some_k) (omega (arith, ints))
 
 pub homogeneous-same : (u v : Homogeneous) → u.x ≡ v.x → u.y ≡ v.y → u.z ≡ v.z → u.w ≡ v.w → u ≡ v
 homogeneous-same u v a b c d =
@@ -232,7 +233,7 @@ module _ (ns : List Vector) (P : Vector → Type 0) (d e : Vector) (C : WayCells
   weightless : (x : Homogeneous) → OnSegment (of_direction d) x (of_direction e) → x.w ≡ pos 0
   weightless x m =
       let a = m.sum.is_w in
-      cancel_eq x.w (pos 0) (pos m.k) (some-pos m.k m.some_k) (follows (x.w ∷ pos m.k ∷ pos m.i ∷ pos m.j ∷ []) (at 0 ⊗ at 1) (num (pos 0) ⊗ at 1)
+      cancel_eq x.w (pos 0) (pos m.k) (counted-positive m.k m.some_k) (follows (x.w ∷ pos m.k ∷ pos m.i ∷ pos m.j ∷ []) (at 0 ⊗ at 1) (num (pos 0) ⊗ at 1)
       (given (num (pos 1)) (at 1 ⊗ at 0) (at 2 ⊗ num (pos 0) ⊕ at 3 ⊗ num (pos 0)) a none) tt)
 
   abbrev W' : Homogeneous → Type 0

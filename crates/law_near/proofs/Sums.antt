@@ -1,10 +1,8 @@
 -- Sums of homogeneous vectors, and vectors that are equal up to a positive factor.
-use Rattle.law_near.proofs.Prelude.{◌≡◌, ℕ, zero, suc, ◌+◌, ◌-◌, ◌*◌, ◌<◌, ℤ, pos, ◌+ℤ◌, ◌*ℤ◌, ◌<ℤ◌, arith, refl, ap, sym, ◌∙◌, ◌⊎◌, inl, inr, List, ◌∷◌, [], ints, cases_order, mul-pos, ring, at, num, ◌⊕◌, ◌⊖◌, ◌⊗◌, follows, given, none, sign, sign-scaled, Form}
+use Rattle.law_near.proofs.Prelude.{◌≡◌, ℕ, zero, suc, ◌+◌, ◌-◌, ◌*◌, ◌<◌, ℤ, pos, ◌+ℤ◌, ◌*ℤ◌, arith, refl, ap, sym, ◌∙◌, ◌⊎◌, inl, inr, List, ◌∷◌, [], ints, cases_order, mul-pos, ring, at, num, ◌⊕◌, ◌⊖◌, ◌⊗◌, follows, given, none, sign, sign-scaled, Form}
 pub use Rattle.law_near.specs.Homogeneous.{Homogeneous, homogeneous, form_on, mix, IsSum, SameUpToFactor, IsMixed, OnSegment, SameFormSigns}
 use Rattle.nef_space.proofs.Ring.{one_times}
-
-pub some-pos : (k : ℕ) → 0 < k → pos 0 <ℤ pos k
-some-pos k h = omega (arith, ints)
+use Rattle.nef_space.proofs.Elementary.{counted-positive}
 
 -- ---- a form at a sum
 pub form-mix : (h : Form) (i : ℕ) (p : Homogeneous) (j : ℕ) (q : Homogeneous) → form_on h (mix i p j q) ≡ pos i *ℤ form_on h p +ℤ pos j *ℤ form_on h q
@@ -75,16 +73,13 @@ form-same h p q s =
 
 -- SIGNS OF FORMS DON'T SEE A POSITIVE FACTOR
 pub sign-same : (h : Form) (p q : Homogeneous) → SameUpToFactor p q → sign (form_on h p) ≡ sign (form_on h q)
-sign-same h p q s = sym (sign-scaled (pos s.k) (form_on h p) (some-pos s.k s.some_k)) ∙ ap sign (form-same h p q s) ∙ sign-scaled (pos s.l) (form_on h q) (some-pos s.l s.some_l)
+sign-same h p q s = sym (sign-scaled (pos s.k) (form_on h p) (counted-positive s.k s.some_k)) ∙ ap sign (form-same h p q s) ∙ sign-scaled (pos s.l) (form_on h q) (counted-positive s.l s.some_l)
 
 pub signs-same : (hs : List Form) (p q : Homogeneous) → SameUpToFactor p q → SameFormSigns hs p q
 signs-same hs p q s h l = sign-same h p q s
 
 pub signs-sym : (hs : List Form) (p q : Homogeneous) → SameFormSigns hs p q → SameFormSigns hs q p
 signs-sym hs p q s h l = sym (s h l)
-
-pub signs-trans : (hs : List Form) (p q r : Homogeneous) → SameFormSigns hs p q → SameFormSigns hs q r → SameFormSigns hs p r
-signs-trans hs p q r s t h l = s h l ∙ t h l
 
 -- ---- mixed vectors don't see it either
 respect-one : (x y u x' y' u' : ℤ) (k i j a a' b b' c c' : ℕ) → pos k *ℤ u ≡ pos i *ℤ x +ℤ pos j *ℤ y

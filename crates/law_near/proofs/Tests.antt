@@ -4,10 +4,7 @@ use Rattle.law_near.specs.FormLaws.{SegmentLaw, SegmentOfPoints, SegmentOfDirect
 use Rattle.law_near.proofs.Segment.{settled-segment}
 use Rattle.law_near.proofs.FirstVector.{first-change, change-unsettled}
 use Rattle.law_near.proofs.Points.{settled-segment_points, settled-segment_ways, first-change_points, first-change_ways}
-
-not-true : (b : Bool) → (b ≡ true → ⊥) → b ≡ false
-not-true true f = absurd (f refl)
-not-true false f = refl
+use Rattle.std.proofs.lemmas.Bool.{false_from_ne_true}
 
 not-false : (b : Bool) → b ≡ false → b ≡ true → ⊥
 not-false true e f = cc
@@ -39,7 +36,7 @@ first_change_law hs P p q c x y =
       vector = d.vector;
       on = d.on;
       before = d.before;
-      change = ⊎_elim (λ f. inl (not-true (P d.vector) f)) (λ g. let t = g.1 in inr (g.0, (t.0, t.1, t.2, λ r m. not-true (P r) (t.3 r m)))) d.change;
+      change = ⊎_elim (λ f. inl (false_from_ne_true (P d.vector) f)) (λ g. let t = g.1 in inr (g.0, (t.0, t.1, t.2, λ r m. false_from_ne_true (P r) (t.3 r m)))) d.change;
       unsettled = λ s. change-unsettled (λ v. P v ≡ true) p q d (λ z a. let t = s z a in (t.0, λ k l. (λ f. sym (t.1 k l) ∙ f, λ f. t.1 k l ∙ f)));
     }
 
@@ -50,7 +47,7 @@ first_change_at_points hs P p q c x y =
       place = d.place;
       on = d.on;
       before = d.before;
-      change = ⊎_elim (λ f. inl (not-true (P d.place) f)) (λ g. let t = g.1 in inr (g.0, (t.0, t.1, t.2, t.3, λ r m. not-true (P r) (t.4 r m)))) d.change;
+      change = ⊎_elim (λ f. inl (false_from_ne_true (P d.place) f)) (λ g. let t = g.1 in inr (g.0, (t.0, t.1, t.2, t.3, λ r m. false_from_ne_true (P r) (t.4 r m)))) d.change;
     }
 
 pub first_change_at_directions : FirstChangeAtDirections
@@ -60,5 +57,5 @@ first_change_at_directions ns P d e c x y =
       direction = u.direction;
       on = u.on;
       before = u.before;
-      change = ⊎_elim (λ f. inl (not-true (P u.direction) f)) (λ g. let t = g.1 in inr (g.0, (t.0, t.1, t.2, λ r m. not-true (P r) (t.3 r m)))) u.change;
+      change = ⊎_elim (λ f. inl (false_from_ne_true (P u.direction) f)) (λ g. let t = g.1 in inr (g.0, (t.0, t.1, t.2, λ r m. false_from_ne_true (P r) (t.3 r m)))) u.change;
     }

@@ -41,9 +41,6 @@ ends-of M V k a h =
       target_level = subst (λ (r : Vector). dot a.normal r ≡ pos 0) (sym f) b.level_target;
     }
 
-pub way-to : (u : Vector) (p q : Vector) → q ≡ p → SameDirection u p → SameDirection u q
-way-to u p q e w = subst (λ (r : Vector). SameDirection u r) (sym e) w
-
 -- levels go over to the same ways
 pub level-same : (n m d e : Vector) → SameDirection n m → SameDirection d e → dot n d ≡ pos 0 → dot m e ≡ pos 0
 level-same n m d e a w z = same-nought (dot n d) (dot m e) (ap sign (dot-comm m e) ∙ dir-signs n m e (direction-left n m a) a ∙ ap sign (dot-comm e n) ∙ dir-signs d e n (direction-left d e w) w) z

@@ -90,9 +90,6 @@ module _ (M N : Map) (V : Valid M) (W : Valid N) (L : Least M) (K : Least N) (s 
   there-pos : (e : Vector) (m : Label) → pos 0 <ℤ dot n e → NearLabel N d e m → item_pos x ≡ m
   there-pos e m h b = ap sides (sym (sign-plus (dot n e) h)) ∙ near-unique N W d e _ m (there e) b
 
-  there-mark : (e : Vector) (m : Label) → dot n e ≡ pos 0 → NearLabel N d e m → item_mark x ≡ m
-  there-mark e m h b = ap sides (sym (ap sign h)) ∙ near-unique N W d e _ m (there e) b
-
   there-neg : (e : Vector) (m : Label) → dot n e <ℤ pos 0 → NearLabel N d e m → item_neg x ≡ m
   there-neg e m h b = ap sides (sym (sign-minus (dot n e) h)) ∙ near-unique N W d e _ m (there e) b
 

@@ -1,7 +1,11 @@
 -- The kind of the least map of a set at a point is the dimension of the set's flat directions there.
-use Rattle.law_sphere.proofs.Prelude.{◌≡◌, pos, arith, sym, ◌∙◌, inl, inr, ⊎_elim, subst, ints, SpacePoint, Vector, IsDirection, cross, vector, dot, IsZero, Set, Label, Germ, Flat, FlatDim, HasFlat, Germ-unique, label-one, germ_of, FlatCone-from_flat, Flat-from_cone, comb, Map, MapLabel, Least, Cone, Full, FlatMap, IsInVolume, IsInFacet, IsOnEdge, dot-comm, zero-decided, dot-zero, self-pos, cross-turned, apart, parallel-trans, level_cross_second}
+use Rattle.law_sphere.proofs.Prelude.{pos, arith, sym, ◌∙◌, inl, inr, ⊎_elim, subst, ints, SpacePoint, Vector, IsDirection, cross, vector, IsZero, Set, Label, Germ, Flat, FlatDim, HasFlat, Germ-unique, label-one, germ_of, FlatCone-from_flat, Flat-from_cone, comb, Map, MapLabel, Least, Cone, Full, FlatMap, IsInVolume, IsInFacet, IsOnEdge, dot-comm, zero-decided, dot-zero, self-pos, cross-turned, apart, parallel-trans, level_cross_second}
 use Rattle.nef_space.proofs.ArithmeticExamples.{in_plane}
-use Rattle.law_near.proofs.Rays.{Germ-zero}
+use Rattle.law_near.proofs.Alike.{germs-by_cell}
+use Rattle.law_near.proofs.Germs.{Label-cells}
+use Rattle.law_near.proofs.Rays.{Germ-zero, signs-same}
+use Rattle.law_near.specs.Cells.{carriers}
+use Rattle.nef_space.specs.Points.{SamePoint}
 use Rattle.law_sphere.proofs.Vectors.{normal-is}
 use Rattle.law_sphere.proofs.Parallel.{circle-point}
 use Rattle.law_sphere.proofs.Direct.{cross-self}
@@ -9,14 +13,15 @@ use Rattle.law_sphere.proofs.Labels.{label-direction, label-unique}
 use Rattle.law_sphere.proofs.Arcs.{at-sloop}
 use Rattle.law_sphere.proofs.KindFlats.{volume-flat, facet-flat, facet-only}
 use Rattle.law_sphere.proofs.KindLaws.{KindOf, flat-kind, edge-flat, edge-only}
+use Rattle.nef_space.proofs.Vectors.{self-not_nought}
 
 module _ (M : Map) (s : Set) (p : SpacePoint) (C : Cone M s p) where
   -- the map's labels are the germs, toward nought too
-  germ-full : (e : Vector) (m : Label) → Full M e m → Germ s p e m
+  pub germ-full : (e : Vector) (m : Label) → Full M e m → Germ s p e m
   germ-full e m (inl z) = let g = germ_of s p e in subst (Germ s p e) (label-one s p g.0 M.mark ((Germ-zero s p e g.0 z.0).0 g.1) C.mark ∙ z.1) g.1
   germ-full e m (inr l) = let x = C.labels e (label-direction M e m l) in subst (Germ s p e) (label-unique M C.valid e x.0 m x.1 l) x.2
 
-  full-germ : (e : Vector) (m : Label) → Germ s p e m → Full M e m
+  pub full-germ : (e : Vector) (m : Label) → Germ s p e m → Full M e m
   full-germ e m g = ⊎_elim
       (λ z. inl (z, label-one s p M.mark m C.mark ((Germ-zero s p e m z).0 g)))
       (λ f. let x = C.labels e f in inr (subst (λ (r : Label). MapLabel M e r) (Germ-unique s p e x.0 m x.2 g) x.1))
@@ -54,12 +59,9 @@ module _ (M : Map) (s : Set) (p : SpacePoint) (C : Cone M s p) where
       two =
           let y = circle-point n hn in
           let o = y.1 in
-          let off = apart n n y.0 (some n hn) o.level o.direction in
-          let r = apart y.0 y.0 (cross y.0 n) (some y.0 o.direction) (dot-comm y.0 (cross y.0 n) ∙ cross-self y.0 n) (λ z. off (cross-turned y.0 n z)) in
+          let off = apart n n y.0 (self-not_nought n hn) o.level o.direction in
+          let r = apart y.0 y.0 (cross y.0 n) (self-not_nought y.0 o.direction) (dot-comm y.0 (cross y.0 n) ∙ cross-self y.0 n) (λ z. off (cross-turned y.0 n z)) in
           (y.0, cross y.0 n, r, flat-map y.0 (facet-flat M C.valid n K y.0 o.level), flat-map (cross y.0 n) (facet-flat M C.valid n K (cross y.0 n) (level_cross_second y.0 n)))
-        where
-          some : (v : Vector) → IsDirection v → dot v v ≡ pos 0 → ⊥
-          some v f z = let h = self-pos v f in omega (arith, ints)
 
       none : HasFlat s p 3 → ⊥
       none (d, e, f, t, x, y, z) =
@@ -77,3 +79,13 @@ module _ (M : Map) (s : Set) (p : SpacePoint) (C : Cone M s p) where
 
   pub vertex-dimension : Least M → (KindOf M → ⊥) → FlatDim s p 0
   vertex-dimension L n = (tt, λ x. n (flat-kind M C.valid L x.0 x.1 (map-flat x.0 x.2)))
+
+-- a point that is the same has the same cone
+pub cone-same : (M : Map) (s : Set) (p q : SpacePoint) → SamePoint p q → Cone M s p → Cone M s q
+cone-same M s p q e K =
+    let same = signs-same (carriers s) p q e in
+    record {
+      valid = K.valid;
+      mark = Label-cells s M.mark p q same K.mark;
+      labels = λ d f. let l = K.labels d f in (l.0, l.1, (germs-by_cell s p q same d l.0).0 l.2);
+    }

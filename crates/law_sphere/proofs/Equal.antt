@@ -112,7 +112,7 @@ arc-equal a b n s t f m g =
     ∙ ap (λ r. record { normal = b.normal; source = b.source; target = b.target; pos = b.pos; mark = r; neg = a.neg }) m
     ∙ ap (λ r. record { normal = b.normal; source = b.source; target = b.target; pos = b.pos; mark = b.mark; neg = r }) g
 
-sloop-equal : (a b : MapSloop) → a.normal ≡ b.normal → a.pos ≡ b.pos → a.mark ≡ b.mark → a.neg ≡ b.neg → a ≡ b
+pub sloop-equal : (a b : MapSloop) → a.normal ≡ b.normal → a.pos ≡ b.pos → a.mark ≡ b.mark → a.neg ≡ b.neg → a ≡ b
 sloop-equal a b n f m g =
     ap (λ r. record { normal = r; pos = a.pos; mark = a.mark; neg = a.neg }) n
     ∙ ap (λ r. record { normal = b.normal; pos = r; mark = a.mark; neg = a.neg }) f

@@ -12,7 +12,8 @@ use Rattle.law_sphere.proofs.Unique.{ground-label}
 use Rattle.law_sphere.proofs.Kind.{flat-sloop}
 use Rattle.law_sphere.proofs.Turn.{whole-passes}
 use Rattle.law_sphere.proofs.Walk.{cross-direction_right}
-use Rattle.law_sphere.proofs.Lists.{some-some, none-at}
+use Rattle.law_sphere.proofs.Lists.{none-at}
+use Rattle.std.proofs.lemmas.Option.{same_Some}
 
 -- ---- volumes
 pub volume-flat : (M : Map) → Valid M → IsInVolume M → (d : Vector) → FlatMap M d
@@ -32,7 +33,7 @@ module _ (M : Map) (V : Valid M) (l : MapSloop) (bare : M.svertices ≡ []) (has
 
   only-sloop : (k : ℕ) (x : Item) → IsAt (items M) k x → x ≡ sloop_item l
   only-sloop k (arc_item a) h = let r = ends-of M V.shaped k a (arc-at M.arcs M.sloop k a h) in absurd (none-at M.svertices a.source r.source bare r.has_source)
-  only-sloop k (sloop_item c) h = ap sloop_item (some-some c l (sym (sloop-at M.arcs M.sloop k c h) ∙ has))
+  only-sloop k (sloop_item c) h = ap sloop_item (same_Some c l (sym (sloop-at M.arcs M.sloop k c h) ∙ has))
 
   off-sloop_free : (w : Vector) → (dot l.normal w ≡ pos 0 → ⊥) → IsFree M w
   off-sloop_free w f = record {

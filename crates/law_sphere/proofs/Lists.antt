@@ -1,5 +1,8 @@
 -- Elements of lists: searching, joining, gathering.
-use Rattle.law_sphere.proofs.Prelude.{◌≡◌, ℕ, zero, suc, refl, sym, ap, ◌⊎◌, inl, inr, List, ◌∷◌, subst, Option, Some, [], Lies, lies-left, lies-right, IsAt, Decided, is-at_none, is-at_first, is-at_one}
+use Rattle.law_sphere.proofs.Prelude.{◌≡◌, ℕ, zero, suc, refl, sym, ap, ◌⊎◌, inl, inr, List, ◌∷◌, subst, Some, [], Lies, lies-left, lies-right, IsAt, Decided, is-at_none, is-at_first, ◌++◌, length}
+use Rattle.law_sphere.specs.Least.{InOrder}
+use Rattle.nef_space.proofs.Lists.{is-at_more, is-at_within}
+use Rattle.nef_space.proofs.Prelude.{arith}
 pub use Rattle.law_sphere.specs.Forms.{gather}
 
 pub record Found {A : Type 0} (xs : List A) (P : ℕ → A → Type 0) : Type 0 where
@@ -21,9 +24,6 @@ search_list {A} (y ∷ ys) P D = by (D zero y) (search_list ys (λ k x. P (suc k
     by (inr n) (inl f) = inl (record { number = suc f.number; element = f.element; listed = f.listed; holds = f.holds })
     by (inr n) (inr f) = inr (none_here n f)
 
-pub some-some : {A : Type 0} (x y : A) → ◌≡◌ {A = Option A} (Some x) (Some y) → x ≡ y
-some-some x y e = cc
-
 pub none-at : {A : Type 0} (xs : List A) (k : ℕ) (x : A) → xs ≡ [] → IsAt xs k x → ⊥
 none-at {A} xs k x e a = is-at_none (subst (λ (r : List A). IsAt r k x) e a)
 
@@ -42,6 +42,12 @@ at-lies [] k x a = absurd (is-at_none a)
 at-lies (y ∷ ys) zero x e = inl (is-at_first e)
 at-lies (y ∷ ys) (suc k) x a = inr (at-lies ys k x a)
 
-pub none-empty : {A : Type 0} (xs : List A) → ((k : ℕ) (x : A) → IsAt xs k x → ⊥) → xs ≡ []
-none-empty [] f = refl
-none-empty (y ∷ ys) f = absurd (f zero y refl)
+-- one more element that is above all others
+pub order-more : {A : Type 0} (Below : A → A → Type 0) (xs : List A) (y : A) → InOrder Below xs → ((k : ℕ) (x : A) → IsAt xs k x → Below x y) → InOrder Below (xs ++ y ∷ [])
+order-more {A} Below xs y o f i k x z l a b = by (is-at_more xs y i x a) (is-at_more xs y k z b)
+  where
+    by : IsAt xs i x ⊎ ((i ≡ length xs) × (y ≡ x)) → IsAt xs k z ⊎ ((k ≡ length xs) × (y ≡ z)) → Below x z
+    by (inl c) (inl d) = o i k x z l c d
+    by (inl c) (inr d) = subst (Below x) d.1 (f i x c)
+    by (inr c) (inl d) = absurd (let m = is-at_within xs k z d in let e = c.0 in omega arith)
+    by (inr c) (inr d) = absurd (let e = c.0 in let g = d.0 in omega arith)

@@ -17,9 +17,6 @@ left-ahead n d w a b h = record { parallel = level-both n d w a b; forward = h }
 -- ---- an arc close to one of its ends
 module _ (n s t d w : Vector) (hn : IsDirection n) (hs : IsDirection s) (ht : IsDirection t) (ls : dot n s ≡ pos 0) (lt : dot n t ≡ pos 0)
     (k : Keeps (arc_forms n s t) d w) (ld : dot n d ≡ pos 0) (off : IsZero (cross d w) → ⊥) (o : IsStrictlyOn n s t w) where
-  not_level : triple n d w ≡ pos 0 → ⊥
-  not_level z = off (parallel-in_plane n d w hn ld o.on_circle.level z)
-
   last-kept : triple n s d <ℤ pos 0 → triple n s w <ℤ pos 0
   last-kept h = subst (λ (r : ℤ). r <ℤ pos 0) (sym (triple-dot n s w)) (kept-minus (cross n s) d w (k (cross n s) (inr (inl refl))) (subst (λ (r : ℤ). r <ℤ pos 0) (triple-dot n s d) h))
 

@@ -1,5 +1,5 @@
 -- Where a direction lies, on a svertex or strictly on an arc, is decided, and stays where the signs of finitely many forms stay.
-use Rattle.law_sphere.proofs.Prelude.{◌≡◌, ℤ, pos, ◌<ℤ◌, arith, refl, sym, ◌∙◌, ◌⊎◌, inl, inr, ⊎_elim, List, ◌∷◌, ◌++◌, subst, [], ints, ring, at, num, ◌⊕◌, ◌⊖◌, ◌⊗◌, sign, by_order, nought-or, Lies, Vector, IsDirection, triple, cross, vector, dot, IsZero, SameDirection, IsOpposite, lies-left, lies-right, IsOnCircle, IsStrictlyOn, decided-not, decided-to, decided-both, decided-or, Decided, same-off, zero-decided, zero-dot, triple-dot, triple-middle, nought-if}
+use Rattle.law_sphere.proofs.Prelude.{◌≡◌, ℤ, pos, ◌<ℤ◌, arith, refl, sym, ◌∙◌, ◌⊎◌, inl, inr, ⊎_elim, List, ◌∷◌, ◌++◌, subst, [], ints, ring, at, num, ◌⊕◌, ◌⊖◌, ◌⊗◌, sign, by_order, nought-or, Vector, IsDirection, triple, cross, vector, dot, IsZero, SameDirection, IsOpposite, lies-left, lies-right, IsOnCircle, IsStrictlyOn, decided-not, decided-to, decided-both, decided-or, Decided, same-off, zero-decided, zero-dot, triple-dot, triple-middle, nought-if}
 pub use Rattle.law_sphere.specs.Forms.{axis_x, axis_y, axis_z, axes, row_x, row_y, row_z, point_forms, arc_forms}
 use Rattle.law_sphere.proofs.Vectors.{positive-or, negative-or, same-plus, same-minus}
 use Rattle.law_sphere.proofs.Generic.{SameSigns, Keeps}
@@ -71,9 +71,6 @@ axis_z-is d = ring (d.x ∷ d.y ∷ d.z ∷ []) (num (pos 0) ⊗ at 0 ⊕ num (p
 -- ---- what stays
 pub same-keeps : (gs : List Vector) (d e : Vector) → SameSigns gs d e → Keeps gs d e
 same-keeps gs d e s g l f = s g l
-
-pub keeps-sub : (gs hs : List Vector) (d e : Vector) → ((g : Vector) → Lies hs g → Lies gs g) → Keeps gs d e → Keeps hs d e
-keeps-sub gs hs d e sub k g l f = k g (sub g l) f
 
 -- where a form vanishes after, it vanished before
 pub kept-nought : (g d e : Vector) → ((dot g d ≡ pos 0 → ⊥) → sign (dot g e) ≡ sign (dot g d)) → dot g e ≡ pos 0 → dot g d ≡ pos 0

@@ -6,6 +6,7 @@ use Rattle.law_sphere.proofs.Lists.{Found, search_list}
 use Rattle.law_sphere.proofs.Forms.{forms, free-by_signs}
 use Rattle.law_sphere.proofs.Direct.{direct}
 use Rattle.law_sphere.proofs.StepOff.{outlook, outlook-free, outlook-clear, outlook-svertex}
+use Rattle.nef_space.proofs.Lists.{is-at_nowhere}
 
 -- ---- clear ways
 pub clear-turned : (M : Map) (a b : Vector) → IsClear M a b → IsFree M b → IsClear M b a
@@ -103,12 +104,8 @@ module _ (M : Map) (V : Shaped M) where
 
   by_ground : (d e : Vector) → IsFree M d → IsFree M e → ((k : ℕ) (x : Item) → IsAt (items M) k x → ⊥) → ((k : ℕ) (v : MapVertex) → IsAt M.svertices k v → ⊥) → SeesBoth M d e
   by_ground d e F G n s =
-      let r = V.ground_alone (empty M.svertices s) (empty-sloop M.arcs M.sloop n) in
+      let r = V.ground_alone (is-at_nowhere M.svertices s) (empty-sloop M.arcs M.sloop n) in
       record { side = whole; label = r.0; has = r.1; left = directly d (clear-self M d F) tt; right = directly e (clear-self M e G) tt }
-    where
-      empty : (vs : List MapVertex) → ((k : ℕ) (v : MapVertex) → IsAt vs k v → ⊥) → vs ≡ []
-      empty [] s = refl
-      empty (v ∷ vs) s = absurd (s zero v refl)
 
   -- one side sees both ends of a clear way
   pub sees_both : (d e : Vector) → IsClear M d e → IsFree M e → SeesBoth M d e

@@ -3,7 +3,7 @@ use Rattle.law_sphere.proofs.Prelude.{◌≡◌, ℕ, zero, suc, arith, refl, ap
 use Rattle.law_sphere.proofs.Generic.{amount, far-keeps, far-level}
 use Rattle.law_sphere.proofs.Walk.{between-direction}
 use Rattle.law_sphere.proofs.Built.{agrees-valid}
-use Rattle.law_sphere.proofs.Lists.{some-some}
+use Rattle.std.proofs.lemmas.Option.{same_Some}
 
 -- ---- one label
 abbrev pub ground_map : Label → Label → Map
@@ -30,7 +30,7 @@ ground-agrees k g F all one = record {
   beside = λ i x d e a o f. absurd (is-at_none a);
   lone = λ i v m e a q f. absurd (is-at_none a);
   free = λ d G m f e h. (1, λ i l. subst (F (blend i d 1 e)) (one d g m G.direction (all d G.direction) f) (all (blend i d 1 e) (between-direction d e i 1 (omega arith) h)));
-  ground = λ m d e h. subst (F d) (some-some g m e) (all d h);
+  ground = λ m d e h. subst (F d) (same_Some g m e) (all d h);
 }
 
 -- ---- one plane

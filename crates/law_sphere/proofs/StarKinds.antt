@@ -1,18 +1,7 @@
 -- A plain star says that the direction is plain, a straight star that it is straight.
-use Rattle.law_sphere.proofs.Prelude.{◌≡◌, ℕ, zero, suc, pos, ◌-ℤ◌, ◌*ℤ◌, ◌<ℤ◌, arith, refl, ap, sym, ◌∙◌, ◌⊎◌, inl, inr, ⊎_elim, List, ◌∷◌, subst, length, cond, [], ints, num, ◌⊖◌, ◌⊗◌, neg, follows, given, none, minus, nought, plus, sign, sign-plus, sign-minus, sign-scaled, Vector, IsDirection, cross, triple, dot, SameDirection, IsOpposite, IsNormal, Label, IsAt, Map, NearLabel, IsStrictlyOn, by_side, NearPlain, NearStraight, Ray, Star, ray_dir, across, OnRay, NextRay, StarLabel, on_ray, in_sector, in_only_sector, LeavesAxis, StarOf, IsPlain, IsStraight, dot-comm, self-pos, cross-turned, dir-signs, direction-left, cross_of, dir-self, dot_poly, from-opposite, level_cross_second, nought-if, numbers, opposite-cross, square-cross, poly_triple, vec, is-at_none, is-at_first}
+use Rattle.law_sphere.proofs.Prelude.{◌≡◌, ℕ, zero, suc, pos, ◌-ℤ◌, ◌*ℤ◌, ◌<ℤ◌, arith, refl, ap, sym, ◌∙◌, ◌⊎◌, inl, inr, ⊎_elim, List, ◌∷◌, subst, length, cond, [], ints, num, ◌⊖◌, ◌⊗◌, neg, follows, given, none, minus, nought, plus, sign, sign-plus, sign-minus, sign-scaled, Vector, IsDirection, cross, triple, dot, SameDirection, IsOpposite, IsNormal, Label, IsAt, Map, IsStrictlyOn, by_side, NearPlain, Ray, Star, ray_dir, across, OnRay, NextRay, StarLabel, on_ray, in_sector, in_only_sector, LeavesAxis, StarOf, IsPlain, IsStraight, dot-comm, self-pos, cross-turned, dir-signs, direction-left, cross_of, dir-self, dot_poly, from-opposite, level_cross_second, nought-if, numbers, opposite-cross, square-cross, poly_triple, vec, is-at_none, is-at_first}
 use Rattle.law_sphere.proofs.Vectors.{normal-direction}
 use Rattle.law_sphere.proofs.Lists.{none-at}
-
-pub plain-star : (t : Star) (M : Map) (d : Vector) → StarOf t M d → IsPlain t → NearPlain M d
-plain-star t M d S P = record { label = t.mark; at_d = S.mark; near = λ e f. by e (S.labels e f) }
-  where
-    only : (e : Vector) (l : Label) → StarLabel t e l → t.mark ≡ l
-    only e l (on_ray k r a o q) = absurd (none-at t.rays k r P.no_ray a)
-    only e l (in_sector k q r a n o s) = absurd (none-at t.rays k q P.no_ray a)
-    only e l (in_only_sector n s) = is-at_first (subst (λ (r : List Label). IsAt r zero l) P.one_sector s)
-
-    by : (e : Vector) → (l : Label) × StarLabel t e l × NearLabel M d e l → NearLabel M d e t.mark
-    by e (l, s, n) = subst (NearLabel M d e) (sym (only e l s)) n
 
 -- a plain direction has a plain star
 abbrev pub plain_star : Vector → Label → Star
@@ -127,18 +116,3 @@ module _ (t : Star) (rays : (k : ℕ) (r : Ray) → IsAt t.rays k r → LeavesAx
       by (inl c) (inr y) = let p = y.0 in let u = c.0 in let w = rays-length in absurd (omega arith)
       by (inr c) (inl y) = ⊎_elim (λ z. let p = z.0 in let u = c.0 in absurd (omega arith)) (λ z. let p = z.0 in let u = c.0 in absurd (omega arith)) (listed-one (suc k) r y)
       by (inr c) (inr y) = ⊎_elim (λ z. second-next c.1 z.1 (is-at_first (sym (subst (λ (i : ℕ). IsAt (K.pos ∷ K.neg ∷ []) i l) c.0 sector)))) (λ z. let p = z.0 in absurd (omega arith)) (listed-one zero r y.1)
-
-pub straight-star : (t : Star) (M : Map) (d : Vector) → IsDirection d → StarOf t M d → IsStraight t → NearStraight M d
-straight-star t M d h S K = record {
-  normal = K.first.normal;
-  direction = normal-direction K.first.normal (straight_star-normal t S.rays K axis);
-  level = subst (λ (r : Vector). dot K.first.normal r ≡ pos 0) S.axis (straight_star-level t S.rays K axis);
-  pos = K.pos;
-  label = t.mark;
-  neg = K.neg;
-  at_d = S.mark;
-  near = λ e f. let x = S.labels e f in subst (NearLabel M d e) (straight_star-label t S.rays K axis e x.0 x.1) x.2;
-}
-  where
-    axis : IsDirection t.axis
-    axis = subst IsDirection (sym S.axis) h

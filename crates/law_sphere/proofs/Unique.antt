@@ -1,5 +1,5 @@
 -- Two least maps with one label in every direction hold the same things.
-use Rattle.law_sphere.proofs.Prelude.{◌≡◌, ℕ, zero, arith, refl, ap, sym, ◌∙◌, ◌⊎◌, inl, inr, ⊎_elim, List, ◌∷◌, subst, Option, Some, None, [], ints, cases_lt, Vector, IsDirection, cross, dot, IsZero, SameDirection, Label, IsAt, MapVertex, MapSloop, Map, Item, arc_item, sloop_item, items, dir_of, IsFree, whole, directly, MapLabel, seen, HasArc, Valid, NearPlain, NearStraight, Least, SameLabels, MatchedArc, MatchedSvertex, MatchesInto, Decided, decided-or, same-nought, self-pos, cross-turned, SameDirection-turned, SameDirection-trans, dir-self, dir-signs, direction-left, apart, parallel-trans, is-at_none}
+use Rattle.law_sphere.proofs.Prelude.{◌≡◌, ℕ, arith, refl, ap, sym, ◌∙◌, ◌⊎◌, inl, inr, ⊎_elim, List, subst, Option, Some, None, [], ints, cases_lt, Vector, IsDirection, cross, dot, IsZero, SameDirection, Label, IsAt, MapVertex, MapSloop, Map, Item, arc_item, sloop_item, items, dir_of, IsFree, whole, directly, MapLabel, seen, HasArc, Valid, NearPlain, NearStraight, Least, SameLabels, MatchedArc, MatchedSvertex, MatchesInto, Decided, decided-or, same-nought, self-pos, cross-turned, SameDirection-turned, SameDirection-trans, dir-self, dir-signs, direction-left, apart, parallel-trans, is-at_none}
 use Rattle.law_sphere.proofs.Lists.{search_list}
 use Rattle.law_sphere.proofs.Places.{axis_x}
 use Rattle.law_sphere.proofs.Forms.{PlaceOf, svertex_place, item_place, free_place, place_of}
@@ -11,7 +11,7 @@ use Rattle.law_sphere.proofs.NearItems.{free-plain, item-straight}
 use Rattle.law_sphere.proofs.Compare.{labels-turned, near-carried, Matched, svertex-matched, svertex-mark}
 use Rattle.law_sphere.proofs.Arcs.{Ends, ends-of, sloop-at, arc-matched, sloop-matched}
 use Rattle.law_sphere.proofs.Lone.{near-same_way, near-lone}
-use Rattle.nef_space.proofs.Lists.{is-at_one}
+use Rattle.nef_space.proofs.Lists.{is-at_one, is-at_nowhere}
 
 pub eq-decided : (a b : ℕ) → Decided (a ≡ b)
 eq-decided a b = ⊎_elim (λ l. inr (λ e. omega arith)) (λ l. ⊎_elim (λ m. inr (λ e. omega arith)) (λ m. inl (omega arith)) (cases_lt b a)) (cases_lt a b)
@@ -95,12 +95,8 @@ ground-label M V m g d h =
 module _ (M N : Map) (V : Valid M) (W : Valid N) (L : Least M) (K : Least N) (s : SameLabels M N) where
   -- a map without svertices and sloop
   empty-carried : M.svertices ≡ [] → M.sloop ≡ None → (N.svertices ≡ []) × (N.sloop ≡ None)
-  empty-carried e f = (none-listed N.svertices (λ k u b. let r = svertex-matched N M W V K s k u b in is-at_none (subst (λ (q : List MapVertex). IsAt q r.number r.svertex) e r.listed)), no-sloop N.sloop refl)
+  empty-carried e f = (is-at_nowhere N.svertices (λ k u b. let r = svertex-matched N M W V K s k u b in is-at_none (subst (λ (q : List MapVertex). IsAt q r.number r.svertex) e r.listed)), no-sloop N.sloop refl)
     where
-      none-listed : (us : List MapVertex) → ((k : ℕ) (u : MapVertex) → IsAt us k u → ⊥) → us ≡ []
-      none-listed [] n = refl
-      none-listed (u ∷ us) n = absurd (n zero u refl)
-
       no-sloop : (o : Option MapSloop) → N.sloop ≡ o → N.sloop ≡ None
       no-sloop None q = q
       no-sloop (Some l) q = let r = sloop-matched N M W V K L (labels-turned M N V W s) l q in let z = r.listed in cc

@@ -1,7 +1,7 @@
 -- What is said of all corners of the frame, or of all axes, is one equation that computes.
-use Rattle.law_text.proofs.Prelude.{◌≡◌, ℕ, zero, suc, ◌+◌, ◌*◌, ◌<◌, ltb, ◌==◌, inl, inr, ⊎_elim, ℤ, pos, negsuc, ◌<ℤ◌, arith, refl, ap, Bool, true, false, cond, List, [], ◌∷◌, length, map, subst, ints, ltb-true, IsBelow, InOrder, IsAt, Both, of_three, each-three, is-at_some, map-is_at, is-at_map, FrameCorner, ends, Axis, on_x, on_y, on_z, is-at_none, is-at_first}
+use Rattle.law_text.proofs.Prelude.{◌≡◌, ℕ, zero, suc, ◌+◌, ◌*◌, ◌<◌, ltb, ◌==◌, inl, inr, ⊎_elim, ℤ, pos, negsuc, ◌<ℤ◌, arith, refl, ap, true, cond, List, [], ◌∷◌, length, map, subst, ints, ltb-true, IsBelow, InOrder, IsAt, Both, of_three, each-three, is-at_some, map-is_at, is-at_map, FrameCorner, ends, Axis, on_x, on_y, on_z, is-at_none, is-at_first}
 use Rattle.nef_case.specs.Between.{is_positive}
-use Rattle.law_text.proofs.Numbering.{three-ways}
+use Rattle.nef_space.proofs.Elementary.{three-ways}
 
 pub record OnAxes (A : Type 0) : Type 0 where
   pub z : A

@@ -1,10 +1,11 @@
 -- The edges of a set that holds all of the frame or nothing of it, written out.
-use Rattle.law_text.proofs.Prelude.{◌≡◌, ℕ, ◌+◌, ◌*◌, ◌<◌, ltb, ◌==◌, ◌&&◌, pos, neg_ℤ, arith, refl, sym, ap, Bool, true, false, cond, List, [], ◌∷◌, map, drop, subst, Some, slice_get, ints, ltb-true, lt-ltb, flat_map, IsBetween, IsAhead, toward, Vector, vector, dot, cross, IsZero, IsOpposite, SameDirection, Label, Out, point_of, InOrder, IsAt, MapVertex, Vertex, Edge, IsEdge, Edges, IsEdgeBelow, map-is_at, is-at_map, FrameCorner, ends, all_ends, Axis, on_x, on_y, on_z, is_high_on, corner_point}
+use Rattle.law_text.proofs.Prelude.{◌∙◌, ◌≡◌, ℕ, ◌+◌, ◌*◌, ◌<◌, ltb, ◌==◌, ◌&&◌, pos, neg_ℤ, arith, refl, sym, ap, Bool, true, false, cond, List, [], ◌∷◌, map, drop, subst, Some, slice_get, ints, ltb-true, lt-ltb, flat_map, IsBetween, IsAhead, toward, Vector, vector, dot, cross, IsZero, IsOpposite, SameDirection, Label, Out, point_of, InOrder, IsAt, MapVertex, Vertex, Edge, IsEdge, Edges, IsEdgeBelow, map-is_at, is-at_map, FrameCorner, ends, all_ends, Axis, on_x, on_y, on_z, is_high_on, corner_point}
 use Rattle.law_near.proofs.Near.{length_of}
 use Rattle.nef_case.specs.Between.{is_positive}
 use Rattle.law_text.proofs.Corners.{each-slot, each-pair, positive-is, is-positive, seek, pair-below, rising}
 use Rattle.law_text.proofs.Octants.{way, order, axis_slot, svertex, each-svertex, svertex-at}
 use Rattle.law_text.proofs.FrameVertices.{corner_vertex, number, frame_vertices, frame-vertex, each-vertex}
+use Rattle.std.proofs.lemmas.Bool.{false≢true}
 
 -- the corner at this end of the axis
 abbrev pub at_end : FrameCorner → Axis → Bool → FrameCorner
@@ -61,11 +62,9 @@ inward k a = way a (is_high_on k a)
 
 -- ---- the edges, and no other
 no-corner : (k : FrameCorner) (a : Axis) (j : FrameCorner) → IsBetween (point_of (corner_point (at_end k a false))) (point_of (corner_point j)) (point_of (corner_point (at_end k a true))) → ⊥
-no-corner k a j w = absurd (differ (positive-is (dot (lead (at_end k a false) j) (lead j (at_end k a true))) w.forward)
-    (each-pair (λ i b m o. is_positive (dot (lead (at_end i b false) m) (lead m (at_end i b true)))) (λ i b m o. false) refl k a j on_x))
-  where
-    differ : {b : Bool} → b ≡ true → b ≡ false → ⊥
-    differ e f = cc
+no-corner k a j w = false≢true (
+    sym (each-pair (λ i b m o. is_positive (dot (lead (at_end i b false) m) (lead m (at_end i b true)))) (λ i b m o. false) refl k a j on_x)
+    ∙ positive-is (dot (lead (at_end k a false) j) (lead j (at_end k a true))) w.forward)
 
 -- an svertex leads up to a corner with an opposite one along the edge alone
 abbrev leads_up : FrameCorner → Axis → FrameCorner → Axis → Bool

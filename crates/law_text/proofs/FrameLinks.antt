@@ -5,9 +5,10 @@ use Rattle.law_turns.proofs.Vectors.{turning, vector-back, back-vector}
 use Rattle.nef_volumes.proofs.FacetSides.{chain-pos, chain-neg}
 use Rattle.law_text.proofs.Corners.{each-pair, seek, of-four, on_axes, each-axis, each-slot}
 use Rattle.law_text.proofs.Octants.{next, axis_after, axis_slot, slot, source_of, target_of, axis_number, arc, octant, arc-at, item-at, lowest, turn_to, arc-turned, octant_turned}
-use Rattle.law_text.proofs.LowestCorner.{part, level-ray, none-positive, some-direction, quarter, each-ray, each-quarter, on-quarter, quarter-on, lowest-shaped}
+use Rattle.law_text.proofs.LowestCorner.{part, level-ray, some-direction, quarter, each-ray, each-quarter, on-quarter, quarter-on, lowest-shaped}
 use Rattle.law_text.proofs.FrameVertices.{corner_vertex, number, frame_vertices, frame-vertex}
 use Rattle.law_text.proofs.FrameEdges.{at_end, edge_at, edge_slot, frame_edges, edge-there}
+use Rattle.nef_space.proofs.Elementary.{nought-not_positive}
 
 abbrev pub frame_complex : Label → List Form → Complex
 frame_complex l hs = record { carriers = hs; vertices = frame_vertices l; edges = frame_edges }
@@ -61,9 +62,9 @@ module _ (l : Label) where
 
   deep-free : (d : Vector) → ((a : Axis) → pos 0 <ℤ part a d) → IsFree M d
   deep-free d f = record {
-    direction = λ z. none-positive (part on_x d) (dot-zero (axis_of on_x) d z) (f on_x);
-    off_svertices = each-ray l (λ n (v : MapVertex). SameDirection v.dir d → ⊥) (λ a w. none-positive (part (next a) d) (level-ray a d w).0 (f (next a)));
-    off_items = each-quarter l (λ n (x : Item). OnItem M x d → ⊥) (λ a o. none-positive (part a d) (on-quarter l a d o).0 (f a));
+    direction = λ z. nought-not_positive (part on_x d) (dot-zero (axis_of on_x) d z) (f on_x);
+    off_svertices = each-ray l (λ n (v : MapVertex). SameDirection v.dir d → ⊥) (λ a w. nought-not_positive (part (next a) d) (level-ray a d w).0 (f (next a)));
+    off_items = each-quarter l (λ n (x : Item). OnItem M x d → ⊥) (λ a o. nought-not_positive (part a d) (on-quarter l a d o).0 (f a));
   }
 
   on-flank : (a : Axis) → OnItem M (arc_item (arc l lowest a)) (flank a)

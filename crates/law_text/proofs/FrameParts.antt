@@ -9,10 +9,11 @@ use Rattle.law_text.proofs.Octants.{axes_down, slot, arc, octant, each-svertex, 
 use Rattle.law_text.proofs.FrameVertices.{corner_vertex, number, frame-vertex, each-vertex}
 use Rattle.law_text.proofs.FrameEdges.{at_end}
 use Rattle.law_text.proofs.FrameLinks.{frame_complex, corner, face, first, are_one, side_of, item_side, inner_side, label_of, has-side, next_corner, second, third, fourth, ring, on-ring, frame_step, facet-chain, inner-label, volume-chain}
-use Rattle.law_text.proofs.Numbering.{IsEarlier, numbers-one, three-ways}
+use Rattle.law_text.proofs.Numbering.{IsEarlier, numbers-one}
 use Rattle.law_text.proofs.OneCycles.{HasOneNext, cycles-one}
 use Rattle.law_text.proofs.OneParts.{as-many, has-label}
 use Rattle.law_text.proofs.Rows.{list-one}
+use Rattle.nef_space.proofs.Elementary.{three-ways}
 
 -- ---- the sides of the frame, by a corner and an axis
 abbrev pub Wall : Type 0

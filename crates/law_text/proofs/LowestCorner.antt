@@ -8,6 +8,7 @@ use Rattle.law_sphere.proofs.Labellings.{normals_of, germ-labelling, cone-from_a
 use Rattle.nef_case.specs.Between.{is_positive}
 use Rattle.law_text.proofs.Corners.{on_axes, each-axis, positive-is, each-listed}
 use Rattle.law_text.proofs.Octants.{next, axis_after, axes_down, slot, octant, axis-at, axis-normal, lowest}
+use Rattle.nef_space.proofs.Elementary.{minus-not_nought, nought-not_positive}
 
 -- ---- the part of a direction along an axis
 abbrev pub part : Axis → Vector → ℤ
@@ -38,9 +39,6 @@ along : (a : Axis) (d : Vector) → part (next a) d ≡ pos 0 → part (axis_aft
 along on_x d e f h = record { parallel = (omega (arith, ints), omega (arith, ints), omega (arith, ints)); forward = omega (arith, ints) }
 along on_y d e f h = record { parallel = (omega (arith, ints), omega (arith, ints), omega (arith, ints)); forward = omega (arith, ints) }
 along on_z d e f h = record { parallel = (omega (arith, ints), omega (arith, ints), omega (arith, ints)); forward = omega (arith, ints) }
-
-pub none-positive : (i : ℤ) → i ≡ pos 0 → pos 0 <ℤ i → ⊥
-none-positive i e h = omega (arith, ints)
 
 positive-as : (i j : ℤ) → i ≡ j → pos 0 <ℤ i → pos 0 <ℤ j
 positive-as i j e h = omega (arith, ints)
@@ -80,9 +78,9 @@ quarter-strict a d (level, h, i) =
     let first = positive-as _ _ (sym (triple-next a d)) i in
     let last = positive-as _ _ (sym (triple-after a d)) h in
     record {
-      on_circle = record { direction = λ z. none-positive _ (dot-zero (axis_of (next a)) d z) h; level = level };
-      not_source = λ w. none-positive _ (level-ray (next a) d w).0 i;
-      not_target = λ w. none-positive _ (subst (λ o. part o d ≡ pos 0) (each-axis (λ o. axis_after (axis_after o)) next refl a) (level-ray (axis_after a) d w).1) h;
+      on_circle = record { direction = λ z. nought-not_positive _ (dot-zero (axis_of (next a)) d z) h; level = level };
+      not_source = λ w. nought-not_positive _ (level-ray (next a) d w).0 i;
+      not_target = λ w. nought-not_positive _ (subst (λ o. part o d ≡ pos 0) (each-axis (λ o. axis_after (axis_after o)) next refl a) (level-ray (axis_after a) d w).1) h;
       less_than_half = λ g. (first, last);
       more_than_half = λ g. inl first;
       just_half = λ o. first;
@@ -128,11 +126,11 @@ module _ (l : Label) where
       (each-axis (λ b. cond (is_positive (dot (axis_of a) (axis_of b))) a b) (λ b. b) (each-axis (λ c. on_axes (λ b. cond (is_positive (dot (axis_of c) (axis_of b))) c b)) (λ c. on_axes (λ b. b)) refl a) o)
 
   no-ray : (a o : Axis) → OnQuarter a (axis_of o) → ⊥
-  no-ray a o (z, h, i) = none-positive _ (each-axis (λ b. part (next a) (axis_of b) *ℤ part (axis_after a) (axis_of b)) (λ b. pos 0)
+  no-ray a o (z, h, i) = nought-not_positive _ (each-axis (λ b. part (next a) (axis_of b) *ℤ part (axis_after a) (axis_of b)) (λ b. pos 0)
       (each-axis (λ c. on_axes (λ b. part (next c) (axis_of b) *ℤ part (axis_after c) (axis_of b))) (λ c. on_axes (λ b. pos 0)) refl a) o) (mul_pos (part (next a) (axis_of o)) (part (axis_after a) (axis_of o)) h i)
 
   one-quarter : (a o : Axis) (d : Vector) → OnQuarter a d → OnQuarter o d → slot a ≡ slot o
-  one-quarter a o d p = around (λ b. OnQuarter b d → slot a ≡ slot b) a (λ q. refl) (λ q. absurd (none-positive _ q.0 p.1)) (λ q. absurd (none-positive _ q.0 p.2)) o
+  one-quarter a o d p = around (λ b. OnQuarter b d → slot a ≡ slot b) a (λ q. refl) (λ q. absurd (nought-not_positive _ q.0 p.1)) (λ q. absurd (nought-not_positive _ q.0 p.2)) o
 
   has-arc : (a : Axis) → HasArc M (slot a)
   has-arc a = (slot (next a), quarter (next a), map-is_at quarter axes_down (slot (next a)) (next a) (axis-at (next a)), inr (each-axis (λ o. slot (axis_after (next o))) slot refl a))
@@ -270,10 +268,7 @@ module _ (s : Set) (l : Label) (W : IsOneLabelSet s l) (p : SpacePoint) (c : IsF
   }
 
   outside : HasLabel s p Out
-  outside i = differ (sign_at (wall on_x (is_high_on lowest on_x)) p) (through lowest p c on_x) (frame-minus p i (wall on_x (is_high_on lowest on_x)) (wall-listed on_x (is_high_on lowest on_x)))
-    where
-      differ : (t : Sign) → t ≡ nought → t ≡ minus → ⊥
-      differ t e f = cc
+  outside i = minus-not_nought (sign_at (wall on_x (is_high_on lowest on_x)) p) (frame-minus p i (wall on_x (is_high_on lowest on_x)) (wall-listed on_x (is_high_on lowest on_x))) (through lowest p c on_x)
 
   pub lowest-cone : Cone (M l) s p
   lowest-cone = cone-from_agrees (M l) s p (lowest-shaped l) outside agrees

@@ -1,5 +1,7 @@
 -- The numbers of classes by first appearance are the only ones.
-use Rattle.law_text.proofs.Prelude.{◌≡◌, ℕ, zero, suc, ◌<◌, ◌≤◌, pos, ◌⊎◌, inl, inr, ⊎_elim, [], ◌∷◌, arith, refl, sym, ap, subst, ints, NumbersClasses, IsBelow}
+use Rattle.law_text.proofs.Prelude.{◌≡◌, ℕ, zero, suc, ◌<◌, ◌≤◌, pos, ◌⊎◌, inl, inr, ⊎_elim, [], ◌∷◌, arith, refl, sym, subst, ints, NumbersClasses, IsBelow}
+use Rattle.nef_space.proofs.Elementary.{three-ways}
+use Rattle.std.proofs.lemmas.Bool.{cases_lt}
 
 -- the place l in row j comes before the place k in row i
 abbrev pub IsEarlier : ℕ → ℕ → ℕ → ℕ → Type 0
@@ -22,15 +24,6 @@ module _ (P : ℕ → ℕ → Type 0) (step : (i k : ℕ) → ((j l : ℕ) → I
   pub by-places : (i k : ℕ) → P i k
   by-places i k = below (suc i) i k (omega arith)
 
-pub three-ways : (m n : ℕ) → (m < n) ⊎ (m ≡ n) ⊎ (n < m)
-three-ways zero zero = inr (inl refl)
-three-ways zero (suc n) = inl (omega arith)
-three-ways (suc m) zero = inr (inr (omega arith))
-three-ways (suc m) (suc n) = ⊎_elim (λ h. inl (omega arith)) (λ r. ⊎_elim (λ e. inr (inl (ap suc e))) (λ h. inr (inr (omega arith))) r) (three-ways m n)
-
-less-or-not : (m n : ℕ) → (m < n) ⊎ (n ≤ m)
-less-or-not m n = ⊎_elim (λ h. inl h) (λ r. ⊎_elim (λ e. inr (omega arith)) (λ h. inr (omega arith)) r) (three-ways m n)
-
 -- N and M number the same things, which stand at places in rows; what has a number below low in one has the same in the other
 pub numbers-one : {X : Type 0} (Link Before : X → X → Type 0) (low : ℕ) (N M : X → ℕ → Type 0) (Place : X → ℕ → ℕ → Type 0)
     → ((x y : X) (i k : ℕ) → Before y x → Place x i k → (j : ℕ) × (l : ℕ) × Place y j l × IsEarlier j l i k)
@@ -44,7 +37,7 @@ numbers-one {X} Link Before low N M Place before A B there back small =
     -- the lower number appears earlier in the other numbering, where it is the same
     lower : (i k : ℕ) → ((j l : ℕ) → IsEarlier j l i k → (x : X) (m n : ℕ) → Place x j l → N x m → M x n → m ≡ n)
         → (x : X) (m n : ℕ) → Place x i k → N x m → M x n → m < n → m ≡ n
-    lower i k earlier x m n at a b h = ⊎_elim (λ s. small x m n a b (inl s)) (λ s. by s) (less-or-not m low)
+    lower i k earlier x m n at a b h = ⊎_elim (λ s. small x m n a b (inl s)) (λ s. by s) (cases_lt m low)
       where
         by : low ≤ m → m ≡ n
         by s =
@@ -58,7 +51,7 @@ numbers-one {X} Link Before low N M Place before A B there back small =
 
     higher : (i k : ℕ) → ((j l : ℕ) → IsEarlier j l i k → (x : X) (m n : ℕ) → Place x j l → N x m → M x n → m ≡ n)
         → (x : X) (m n : ℕ) → Place x i k → N x m → M x n → n < m → m ≡ n
-    higher i k earlier x m n at a b h = ⊎_elim (λ s. small x m n a b (inr s)) (λ s. by s) (less-or-not n low)
+    higher i k earlier x m n at a b h = ⊎_elim (λ s. small x m n a b (inr s)) (λ s. by s) (cases_lt n low)
       where
         by : low ≤ n → m ≡ n
         by s =

@@ -2,8 +2,8 @@
 use Rattle.law_text.proofs.Prelude.{◌≡◌, ℕ, pos, neg_ℤ, ◌<ℤ◌, inl, inr, [], ◌∷◌, arith, refl, sym, ◌∙◌, subst, ints, ring, at, num, neg, ◌⊕◌, ◌⊖◌, ◌⊗◌, toward, Set, Vector, dot, cross, triple, IsDirection, SameDirection, IsAt, Arc, arc_item, normal-is, same-minus, is-at_one, at-arc, turn-same, Vertex, Edge, Complex, Corner, IsCorner, Shows, end-level, close_way, on-close, Leads, IsNextArc, level-normal, arc-no_sloop, self-pos, cross-turned, nought-if, SameDirection-turned, SameDirection-trans, dir-self, direction-right}
 use Rattle.law_complex.proofs.links.EdgeEnds.{corner_of_numbers}
 use Rattle.nef_facets.proofs.EdgeViews.{EdgeFrom, edge-from, one-vertex, one-svertex}
-use Rattle.nef_facets.proofs.NextCorners.{corner-same}
 use Rattle.law_text.proofs.OneCycles.{HasOneNext}
+use Rattle.law_complex.proofs.Equal.{corners-equal}
 
 level-back : (n u : Vector) → dot n (cross u n) ≡ pos 0
 level-back n u = ring (n.x ∷ n.y ∷ n.z ∷ u.x ∷ u.y ∷ u.z ∷ [])
@@ -68,7 +68,7 @@ module _ (s : Set) (C : Complex) (S : Shows s C) where
       let same = one-vertex s C S p a q b m t V W in
       let here = is-at_one C.vertices p x.there V.from x.is_there V.is_from in
       let there = is-at_one C.vertices p y.there V.from (subst (λ (n : ℕ). IsAt C.vertices n y.there) (sym same) y.is_there) V.is_from in
-      corner-same s C S k l same
+      corners-equal k l same
       (one-arc-into s C S p a m t V k.item l.item x.that_arc y.that_arc (subst (λ (v : Vertex). IsAt v.map.arcs k.item x.that_arc) here x.is_that) (subst (λ (v : Vertex). IsAt v.map.arcs l.item y.that_arc) there y.is_that)
       refl (sym (one-svertex s C S p a q b m t V W))
       (SameDirection-trans x.that_arc.normal x.this_arc.normal y.that_arc.normal (SameDirection-turned x.this_arc.normal x.that_arc.normal x.one_normal)

@@ -1,11 +1,12 @@
 -- A complex has its parts in one way alone, where each corner has one next corner.
-use Rattle.law_text.proofs.Prelude.{◌≡◌, ℕ, zero, suc, ◌<◌, ◌≤◌, ⊎_elim, List, length, map, arith, refl, sym, ◌∙◌, ap, subst, IsInTable, normal_of, Label, form_of, Item, items, item_normal, sides_of, is-at_within, is-at_some, is-at_one, side-has, number-one, side_number, Vertex, Complex, Corner, IsCorner, VertexSide, HasSideLabel, corner_of, FacetLink, VolumeLink, IsCornerBelow, Cycles, IsSideNumber, count_items, count_sides, IsFacetOf, IsVolumeOf, IsSideBelow, pos_of, neg_of, IsFacet, IsParts, cycle_corners, shell_sides, Shells, Cycle, Facet, Parts, Shell, map-one, cross-turned, parallel-both, direction-right}
+use Rattle.law_text.proofs.Prelude.{◌≡◌, ℕ, zero, suc, ◌<◌, ◌≤◌, ⊎_elim, List, length, map, arith, refl, sym, ◌∙◌, ap, subst, IsInTable, normal_of, Label, form_of, Item, items, item_normal, sides_of, is-at_within, is-at_some, side-has, Vertex, Complex, Corner, IsCorner, VertexSide, HasSideLabel, corner_of, FacetLink, VolumeLink, IsCornerBelow, Cycles, IsSideNumber, count_items, count_sides, IsFacetOf, IsVolumeOf, IsSideBelow, pos_of, neg_of, IsFacet, IsParts, cycle_corners, shell_sides, Shells, Cycle, Facet, Parts, Shell, map-one, cross-turned, parallel-both, direction-right}
 use Rattle.nef_complex.specs.declared.complex.Corner.{Corner as CornerValue}
 use Rattle.nef_complex.proofs.SamePlanes.{parallel-equal}
 use Rattle.law_text.proofs.Numbering.{IsEarlier, numbers-one}
 use Rattle.law_text.proofs.Rows.{list-one, rows-one, rows-both, table-one}
 use Rattle.law_text.proofs.OneCycles.{HasOneNext, cycles-one}
 use Rattle.law_text.proofs.OneShells.{sfaces-one, shells-one}
+use Rattle.nef_volumes.proofs.RowNumbers.{side-number_one}
 
 -- ---- values
 corner-one : (j k : CornerValue) → corner_of j ≡ corner_of k → j ≡ k
@@ -42,15 +43,8 @@ pub as-many : (a b : ℕ) → ((n : ℕ) → n < a → n < b) → ((n : ℕ) →
 as-many a b h g = let i = no-more a b h in let k = no-more b a g in omega arith
 
 module _ (C : Complex) where
-  -- a side has one number
-  side-number-one : (x : VertexSide) (i k : ℕ) → IsSideNumber C x i → IsSideNumber C x k → i ≡ k
-  side-number-one x i k a b =
-      let e : a.vertex ≡ b.vertex = is-at_one C.vertices x.vertex a.vertex b.vertex a.is_vertex b.is_vertex in
-      number-one a.vertex.map i x.side a.label a.is_side
-      ∙ sym (subst (λ (v : Vertex). k ≡ side_number v.map x.side) (sym e) (number-one b.vertex.map k x.side b.label b.is_side))
-
   volume-one : (rows : List (List ℕ)) (x : VertexSide) (m n : ℕ) → IsVolumeOf C rows x m → IsVolumeOf C rows x n → m ≡ n
-  volume-one rows x m n (i, a, f) (k, b, g) = table-one rows x.vertex i m n f (subst (λ (j : ℕ). IsInTable rows x.vertex j n) (side-number-one x k i b a) g)
+  volume-one rows x m n (i, a, f) (k, b, g) = table-one rows x.vertex i m n f (subst (λ (j : ℕ). IsInTable rows x.vertex j n) (side-number_one C x k i b a) g)
 
   pub has-label : (x : VertexSide) (i : ℕ) → IsSideNumber C x i → (l : Label) × HasSideLabel C x l
   has-label x i a = (a.label, (a.vertex, a.is_vertex, side-has a.vertex.map i x.side a.label a.is_side))
@@ -76,7 +70,7 @@ module _ (C : Complex) (one : HasOneNext C) (p q : Parts) (P : IsParts C p) (Q :
 
   side-before : (x y : VertexSide) (i k : ℕ) → IsSideBelow C y x → SidePlace x i k → (j : ℕ) × (l : ℕ) × SidePlace y j l × IsEarlier j l i k
   side-before x y i k (l, m, a, b, h) (e, f) =
-      (y.vertex, l, (refl, a), subst (λ (r : ℕ). IsEarlier y.vertex l r k) e (subst (λ (r : ℕ). IsEarlier y.vertex l x.vertex r) (side-number-one C x m k b f) h))
+      (y.vertex, l, (refl, a), subst (λ (r : ℕ). IsEarlier y.vertex l r k) e (subst (λ (r : ℕ). IsEarlier y.vertex l x.vertex r) (side-number_one C x m k b f) h))
 
   outside-same : (r s : Parts) → IsParts C r → IsParts C s → (x : VertexSide) (m n : ℕ) → IsVolumeOf C r.volume_of x m → IsVolumeOf C s.volume_of x n → m < 1 → m ≡ n
   outside-same r s R S x m n a b h =
@@ -172,7 +166,7 @@ module _ (C : Complex) (one : HasOneNext C) (p q : Parts) (P : IsParts C p) (Q :
   shells-same : p.shells ≡ q.shells
   shells-same = list-one p.shells q.shells (P.as_many_shells ∙ ap (λ (ls : List Label). length ls) volumes-one ∙ sym Q.as_many_shells)
       (λ n x y a b. map-one (λ (h : Shell). h.sides) shell-equal x y
-      (shells-one C (side-number-one C) (λ z. IsVolumeOf C p.volume_of z n) (shell_sides x) (shell_sides y) (P.shells n x a)
+      (shells-one C (side-number_one C) (λ z. IsVolumeOf C p.volume_of z n) (shell_sides x) (shell_sides y) (P.shells n x a)
       (subst (λ (rows : List (List ℕ)). Shells C (λ z. IsVolumeOf C rows z n) (shell_sides y)) (sym volume-numbers) (Q.shells n y b))))
 
   pub parts-one : p ≡ q

@@ -3,7 +3,6 @@ pub use Rattle.nef_core.proofs.Prelude.{lt-ltb, nat_lt}
 pub use Rattle.law_complex.proofs.Prelude.{Arc, Cone, Germ-unique, HasEnds, Holds, In, IsCornerAt, IsEdge, IsFacetPoint, IsFirstInPlane, IsNormal, IsOnEdges, IsOpposite, IsStrictlyOn, Least, Lies, LiesIn, Meets, NearLabel, NearPlain, NearStraight, PlaneMeet, Shaped, Sign, amount, by_side, carriers, cross-turned, dir-at, direction-right, dot-comb, dot-zero, is-at_first, is-at_none, item_mark, minus, nought, nought-if, parallel-both, plus, same-minus, self-pos, sign, sign-minus, sign-plus, sign_at, slope, triple, turn-same, ◌&&◌}
 pub use Rattle.law_turns.proofs.Prelude.{ArcBelow, ArcBetween, HasArc, IsClear, IsPointBelow, IsPrimitive, IsTurnedArc, IsTurnedItem, IsTurnedMap, MapSloop, Not, Ordered, Reaches, SameSet, VectorBelow, differ, directly, is_odd, turned_point, turned_set, turned_svertex, turned_vector, unturned_vector, whole, ◌%◌, ◌/◌}
 pub use Rattle.nef_smap.proofs.Prelude.{Near, direction_limit, eq-eqb, nat_eq}
-pub use Rattle.nef_smap.proofs.WellFormed.{dir-equal}
 pub use Rattle.nef_complex.proofs.Prelude.{ltb, ltb-true, weight_limit}
 pub use Rattle.nef_result.proofs.Prelude.{Edges, FrameCorner, IsFrameCornerAt, Point, all_ends, axes, ends, frame-minus, frame_end, minus-is, point_limit, sign-neg, sign_turned}
 pub use Rattle.nef_unique.proofs.Prelude.{Dir, FlatDim-by_cone, IsEdgeBelow, SLoop, cone-unique, cones-of_same, option_map, point_below-trans, same-lists, same_points_equal, sloop_of}
@@ -31,3 +30,4 @@ pub use Rattle.nef_unique.proofs.Injective.{arc-equal, map-equal, map-one, sloop
 pub use Rattle.nef_unique.proofs.Vertices.{cone-carried, edges-one, set-vertices}
 pub use Rattle.nef_facets.proofs.NextCorners.{arc-no_sloop, next-linked}
 pub use Rattle.law_complex.proofs.FacetEnds.{level-normal}
+pub use Rattle.nef_star.proofs.RoundStars.{same-dirs}

@@ -1,5 +1,5 @@
 -- The vertices that a text tells.
-use Rattle.law_text.proofs.Prelude.{◌≡◌, ℕ, ℤ, pos, negsuc, ◌<◌, ◌≤◌, ◌^◌, nat_abs, arith, refl, ap, sym, ◌∙◌, List, [], ◌∷◌, ◌++◌, get_or, map, append_assoc, Option, Some, None, option_to_list, decimal, signed_decimal, flat_map, map-id, direction_limit, point_limit, weight_limit, vector, Dir, Point, same_points_equal, SVertex, SArc, SLoop, dir-equal, svertex-equal, arc-equal, sloop-equal, map-equal, vertex-equal, TextVersion, One, Two, Parts, Word, label_word, option_word, numbers, vertex_line, svertex_line, arc_line, sloop_line, vertex_text, sface_line, faced_text, with_rows, vertices_text}
+use Rattle.law_text.proofs.Prelude.{◌≡◌, ℕ, ℤ, pos, negsuc, ◌<◌, ◌≤◌, ◌^◌, nat_abs, arith, refl, ap, sym, ◌∙◌, List, [], ◌∷◌, ◌++◌, get_or, map, append_assoc, Option, Some, None, option_to_list, decimal, signed_decimal, flat_map, map-id, direction_limit, point_limit, weight_limit, vector, Dir, Point, SVertex, SArc, SLoop, same-dirs, svertex-equal, arc-equal, sloop-equal, map-equal, vertex-equal, TextVersion, One, Two, Parts, Word, label_word, option_word, numbers, vertex_line, svertex_line, arc_line, sloop_line, vertex_text, sface_line, faced_text, with_rows, vertices_text}
 use lib.Signed.{mag}
 use Rattle.std.proofs.lemmas.Fmt.{decimal_injective, signed_decimal_injective}
 use Rattle.nef_complex.specs.declared.complex.Vertex.{Vertex}
@@ -24,7 +24,7 @@ number-read k y z l g h e = signed_decimal_injective y z (small k y l g) (small 
 dir-read : (d e : Dir) → signed_decimal d.x ≡ signed_decimal e.x → signed_decimal d.y ≡ signed_decimal e.y → signed_decimal d.z ≡ signed_decimal e.z → d ≡ e
 dir-read d e a b c =
     let l : direction_limit < 2 ^ 63 = omega arith in
-    dir-equal d e
+    same-dirs d e
     (ap (λ r. vector r d.y d.z) (number-read direction_limit d.x e.x l d.x_small e.x_small a)
     ∙ ap (λ r. vector e.x r d.z) (number-read direction_limit d.y e.y l d.y_small e.y_small b)
     ∙ ap (λ r. vector e.x e.y r) (number-read direction_limit d.z e.z l d.z_small e.z_small c))

@@ -1,5 +1,5 @@
 -- The edges, facets and volumes of a text, and the whole text.
-use Rattle.law_text.proofs.Prelude.{◌≡◌, ℕ, arith, refl, ap, sym, ◌∙◌, List, [], ◌∷◌, ◌++◌, length, append_assoc, decimal, signed_decimal, flat_map, length-map, Label, Cycle, Facet, TextVersion, One, Two, Parts, Shell, Word, label_word, numbers, corner_words, edge_line, cycle_line, facet_line, facet_text, volume_line, side_words, shell_line, shelled_text, with_rows, counts, version_word, first_line, vertices_text, volumes_text, text}
+use Rattle.law_text.proofs.Prelude.{◌≡◌, ℕ, arith, refl, ap, sym, ◌∙◌, List, [], ◌∷◌, ◌++◌, length, append_assoc, decimal, signed_decimal, flat_map, Label, Cycle, Facet, TextVersion, One, Two, Parts, Shell, Word, label_word, numbers, corner_words, edge_line, cycle_line, facet_line, facet_text, volume_line, side_words, shell_line, shelled_text, with_rows, counts, version_word, first_line, vertices_text, volumes_text, text}
 use Rattle.nef_complex.specs.declared.complex.Corner.{Corner}
 use Rattle.nef_index.specs.declared.skeleton.Edge.{Edge}
 use Rattle.nef_complex.specs.declared.complex.Vertex.{Vertex}
@@ -8,7 +8,8 @@ use Rattle.nef_complex.specs.declared.parts.Side.{Side}
 use Rattle.law_text.proofs.Lines.{Each-append, IsPlainWord, ArePlain, Starts, Lacks, line-starts, line-ends, starts-onto, starts-lacks}
 use Rattle.law_text.proofs.Words.{decimal-plain, numbers-plain, signed-plain, label-plain}
 use Rattle.law_text.proofs.Lists.{IsReadBack, ReadsAll, AnyRest, all-lack, all-read, same-length, four_parts}
-use Rattle.law_text.proofs.Vertices.{FollowsVertex, with-rows_firsts, vertices-listed}
+use Rattle.law_text.proofs.Vertices.{FollowsVertex, vertices-listed}
+use Rattle.nef_complex.proofs.TextRows.{length-with_rows}
 
 -- ---- edges
 abbrev edge_words : Edge → List Word
@@ -110,9 +111,6 @@ shelled-reads v w x y P Q e =
 shelled-lists : ReadsAll Shelled (Unit {0}) (Lacks 104) (λ _. tt) shelled_text 119
 shelled-lists = all-read Shelled (Unit {0}) (Lacks 104) (λ _. tt) shelled_text 119 shelled-starts shelled-reads before-shelled
 
-length-rows : {X Y : Type 0} (xs : List X) (rows : List (List Y)) → length (with_rows xs rows) ≡ length xs
-length-rows {X} xs rows = sym (length-map (with_rows xs rows) (λ x. x.0)) ∙ ap (λ (ys : List X). length ys) (with-rows_firsts xs rows)
-
 -- ---- the text from the volumes, from the facets and from the edges on
 abbrev volumes_end : TextVersion → Parts → List ℕ
 volumes_end version p = volumes_text version p ++ []
@@ -149,7 +147,7 @@ volumes-read Two p q e =
     let v = with_rows p.volumes p.shells in
     let w = with_rows q.volumes q.shells in
     let r = shelled-lists v w [] [] tt tt tt tt e in
-    sym (length-rows p.volumes p.shells) ∙ same-length (λ (l : Shelled). tt) v w r.0 ∙ length-rows q.volumes q.shells
+    sym (length-with_rows p.volumes p.shells) ∙ same-length (λ (l : Shelled). tt) v w r.0 ∙ length-with_rows q.volumes q.shells
 
 module _ (version : TextVersion) where
   facets-read : (p q : Parts) → facets_end version p ≡ facets_end version q → (length p.facets ≡ length q.facets) × (volumes_end version p ≡ volumes_end version q)

@@ -1,5 +1,5 @@
 -- The words of a text: plain, and each told by what it spells.
-use Rattle.law_text.proofs.Prelude.{◌≡◌, ℕ, ℤ, pos, negsuc, zero, suc, ◌+◌, ◌<◌, ◌/◌, ◌%◌, nat_lt, nat_eq, arith, refl, ap, sym, ◌∙◌, Bool, true, false, cond, List, [], ◌∷◌, get_or, Option, Some, None, subst, digits_onto, digit_glyph, decimal, signed_decimal, Label, Out, Not, In, Word, label_word, option_word, numbers, signed_numbers}
+use Rattle.law_text.proofs.Prelude.{◌≡◌, ℕ, ℤ, pos, negsuc, zero, suc, ◌+◌, ◌<◌, ◌/◌, ◌%◌, nat_lt, nat_eq, arith, refl, ap, sym, ◌∙◌, Bool, true, false, cond, List, [], ◌∷◌, get_or, Option, Some, None, subst, digits_onto, digit_glyph, decimal, signed_decimal, Label, Out, Not, In, Word, label_word, option_word, numbers}
 use Rattle.std.specs.Fmt.{digits}
 use Rattle.law_text.proofs.Lines.{IsPlainWord, ArePlain}
 
@@ -48,18 +48,18 @@ option-plain None = (omega arith, tt)
 option-plain (Some l) = label-plain l
 
 -- the label that a word spells
-abbrev read_label : Word → Label
+abbrev pub read_label : Word → Label
 read_label w = cond (nat_eq (get_or w 0 0) 105) In (cond (nat_eq (get_or w 0 0) 110) Not Out)
 
-abbrev read_option : Word → Option Label
+abbrev pub read_option : Word → Option Label
 read_option w = cond (nat_eq (get_or w 0 0) 45) None (Some (read_label w))
 
-label-read : (l : Label) → read_label (label_word l) ≡ l
+pub label-read : (l : Label) → read_label (label_word l) ≡ l
 label-read In = refl
 label-read Not = refl
 label-read Out = refl
 
-option-read : (o : Option Label) → read_option (option_word o) ≡ o
+pub option-read : (o : Option Label) → read_option (option_word o) ≡ o
 option-read None = refl
 option-read (Some In) = refl
 option-read (Some Not) = refl

@@ -4,6 +4,7 @@ use Rattle.nef_space.proofs.Lists.{lies-append}
 use Rattle.law_turns.proofs.Coordinates.{SignBlind, each-turned, each-back, turned-back}
 use Rattle.law_turns.proofs.Turning.{direction-there, zero_cross-there}
 use Rattle.law_turns.proofs.Vectors.{turning}
+use Rattle.law_complex.proofs.Planes.{same-parallel}
 
 pub same-form : (a b c d a' b' c' d' : ℤ) → a ≡ a' → b ≡ b' → c ≡ c' → d ≡ d' → form a b c d ≡ form a' b' c' d'
 same-form a b c d a' b' c' d' p q r s = ap (λ i. form i b c d) p ∙ ap (λ i. form a' i c d) q ∙ ap (λ i. form a' b' i d) r ∙ ap (λ i. form a' b' c' i) s
@@ -171,19 +172,16 @@ module _ (k : ℕ) where
     cd = c;
   }
 
-  plane-parts : (g h : Form) → SamePlane g h → IsZero (cross (normal_of g) (normal_of h))
-  plane-parts g h S = (let e = S.bc in omega (arith, ints, e), let e = S.ac in omega (arith, ints, e), let e = S.ab in omega (arith, ints, e))
-
   pub same_plane-turned : (g h : Form) → SamePlane (turned_plane k g) (turned_plane k h) ↔ SamePlane g h
   same_plane-turned g h = (
     λ S.
         let e = each-back (SameOffsets g.d h.d) (offsets-blind g.d h.d) k (numbers g) (numbers h) (S.ad, S.bd, S.cd) in
         plane-from g h ((direction-there (turned_vector k) (is_odd k) (turning k) (normal_of g)).0 S.is_plane) ((direction-there (turned_vector k) (is_odd k) (turning k) (normal_of h)).0 S.is_other_plane)
-        ((zero_cross-there (turned_vector k) (is_odd k) (turning k) (normal_of g) (normal_of h)).0 (plane-parts (turned_plane k g) (turned_plane k h) S)) e.0 e.1 e.2,
+        ((zero_cross-there (turned_vector k) (is_odd k) (turning k) (normal_of g) (normal_of h)).0 (same-parallel (turned_plane k g) (turned_plane k h) S)) e.0 e.1 e.2,
     λ S.
         let e = each-turned (SameOffsets g.d h.d) (offsets-blind g.d h.d) k (numbers g) (numbers h) (S.ad, S.bd, S.cd) in
         plane-from (turned_plane k g) (turned_plane k h) ((direction-there (turned_vector k) (is_odd k) (turning k) (normal_of g)).1 S.is_plane) ((direction-there (turned_vector k) (is_odd k) (turning k) (normal_of h)).1 S.is_other_plane)
-        ((zero_cross-there (turned_vector k) (is_odd k) (turning k) (normal_of g) (normal_of h)).1 (plane-parts g h S)) e.0 e.1 e.2,
+        ((zero_cross-there (turned_vector k) (is_odd k) (turning k) (normal_of g) (normal_of h)).1 (same-parallel g h S)) e.0 e.1 e.2,
   )
 
   signed-plane : (b : Bool) (g h : Form) → SamePlane g h → SamePlane (signed_form b g) h

@@ -1,11 +1,8 @@
 -- What holds of each coordinate with its sign holds of turned vectors.
-use Rattle.law_turns.proofs.Prelude.{◌≡◌, ℕ, zero, suc, ◌/◌, ◌%◌, ℤ, ◌+ℤ◌, ◌-ℤ◌, ◌*ℤ◌, neg_ℤ, Bool, true, false, refl, ap, sym, ◌∙◌, subst, arith, [], ◌∷◌, ints, ring, at, neg, ◌⊖◌, ◌⊗◌, vector, Triple, ordered, has_bit, negated_if, turned, differ, is_exchange, is_odd, disordered, unturned}
+use Rattle.law_turns.proofs.Prelude.{◌≡◌, ℕ, zero, suc, ◌/◌, ◌%◌, ℤ, ◌+ℤ◌, ◌-ℤ◌, ◌*ℤ◌, neg_ℤ, Bool, true, false, refl, ap, sym, ◌∙◌, subst, arith, [], ◌∷◌, ints, ring, at, neg, ◌⊖◌, ◌⊗◌, Triple, ordered, has_bit, negated_if, turned, differ, is_exchange, is_odd, disordered, unturned}
 use Rattle.nef_case.proofs.TurnLemmas.{same_triple, triple_with}
 use lib.IntN.{neg_ℤ-neg_ℤ}
 use Rattle.law_turns.proofs.Bools.{each-three}
-
-pub same-vector : (x y z x' y' z' : ℤ) → x ≡ x' → y ≡ y' → z ≡ z' → vector x y z ≡ vector x' y' z'
-same-vector x y z x' y' z' p q r = ap (λ i. vector i y z) p ∙ ap (λ i. vector x' i z) q ∙ ap (λ i. vector x' y' i) r
 
 -- ---- coordinate by coordinate
 abbrev pub zipped : (ℤ → ℤ → ℤ) → Triple → Triple → Triple

@@ -1,24 +1,15 @@
 -- The turned planes and vertices of each complex that shows a set can be listed in order.
-use Rattle.law_turns.proofs.Prelude.{◌≡◌, ℕ, ℤ, pos, ◌*ℤ◌, false, refl, sym, ◌∙◌, arith, ◌⊎◌, inl, inr, List, [], ◌∷◌, map, ints, Lies, by_order, IsBelow, SpacePoint, Form, form_numbers, SamePoint, IsPointBelow, Set, same-point_sym, IsAt, Map, Ordered, is-at_map, map-is_at, Mapped, map-list, Sorted, sort, chain-order, Vertex, Complex, Shows, turned_plane, turned_point, AreTurnedPlanes, AreTurnedVertices, IsTurnedMap, same-point_trans, lies-at, at-lies}
+use Rattle.law_turns.proofs.Prelude.{◌≡◌, ℕ, ℤ, pos, ◌*ℤ◌, false, refl, sym, ◌⊎◌, inl, inr, List, map, Lies, by_order, IsBelow, SpacePoint, Form, form_numbers, SamePoint, IsPointBelow, Set, same-point_sym, IsAt, Map, Ordered, is-at_map, map-is_at, Mapped, map-list, Sorted, sort, chain-order, Vertex, Complex, Shows, turned_plane, turned_point, AreTurnedPlanes, AreTurnedVertices, IsTurnedMap, same-point_trans, lies-at, at-lies}
 use Rattle.law_near.proofs.PointOrder.{point_below-trans}
-use Rattle.law_complex.proofs.Ways.{same-itself}
 use Rattle.law_turns.proofs.Carriers.{same-form}
 use Rattle.law_turns.proofs.Exists.{turned_map, has-lists, turned-ordered}
 use Rattle.law_turns.proofs.TurnedLists.{lists-turned}
+use Rattle.nef_space.proofs.Elementary.{same-itself, below-trans}
 
-below-trans : (xs ys zs : List ℤ) → IsBelow xs ys → IsBelow ys zs → IsBelow xs zs
-below-trans [] ys zs h i = absurd h
-below-trans (x ∷ xs) [] zs h i = absurd h
-below-trans (x ∷ xs) (y ∷ ys) [] h i = absurd i
-below-trans (x ∷ xs) (y ∷ ys) (z ∷ zs) (inl h) (inl i) = inl (omega (arith, ints, h, i))
-below-trans (x ∷ xs) (y ∷ ys) (z ∷ zs) (inl h) (inr i) = inl (let e = i.0 in omega (arith, ints, h, e))
-below-trans (x ∷ xs) (y ∷ ys) (z ∷ zs) (inr h) (inl i) = inl (let e = h.0 in omega (arith, ints, e, i))
-below-trans (x ∷ xs) (y ∷ ys) (z ∷ zs) (inr h) (inr i) = inr (h.0 ∙ i.0, below-trans xs ys zs h.1 i.1)
-
-abbrev FormBelow : Form → Form → Type 0
+abbrev pub FormBelow : Form → Form → Type 0
 FormBelow g h = IsBelow (form_numbers g) (form_numbers h)
 
-form-either : (g h : Form) → FormBelow g h ⊎ (g ≡ h) ⊎ FormBelow h g
+pub form-either : (g h : Form) → FormBelow g h ⊎ (g ≡ h) ⊎ FormBelow h g
 form-either g h =
     by_order g.a h.a (λ l. inl (inl l)) (λ a.
     by_order g.b h.b (λ l. inl (inr (a, inl l))) (λ b.

@@ -1,12 +1,14 @@
 -- Turned vectors and forms are as large as before, in lowest terms where they were, and have one normal form.
-use Rattle.law_turns.proofs.Prelude.{◌≡◌, ℕ, ◌≤◌, ℤ, pos, negsuc, ◌+ℤ◌, ◌*ℤ◌, neg_ℤ, nat_abs, Bool, true, false, refl, ap, sym, ◌∙◌, subst, arith, ⊎_elim, [], ◌∷◌, ints, ring, at, num, neg, ◌⊕◌, ◌⊗◌, IsLowest, SpacePoint, Form, form_numbers, Vector, dot, IsAtMost, IsDirection, IsNormal, Triple, negated_if, turned, IsPrimitive, triple_of, turned_vector, turned_plane, turned_point, point_numbers, signed, signed_form}
+use Rattle.law_turns.proofs.Prelude.{◌≡◌, ℕ, ◌≤◌, ℤ, nat_abs, Bool, true, false, refl, ap, sym, ◌∙◌, subst, arith, ⊎_elim, ints, IsLowest, SpacePoint, Form, form_numbers, Vector, dot, IsAtMost, IsDirection, IsNormal, Triple, negated_if, turned, IsPrimitive, triple_of, turned_vector, turned_plane, turned_point, point_numbers, signed, signed_form}
 use Rattle.std.specs.Int.{◌∣◌}
 use Rattle.nef_space.specs.Vectors.{direction_numbers as vector_numbers}
 use Rattle.law_sphere.proofs.Kind.{away}
 use Rattle.law_sphere.proofs.Builder.{normal-or}
-use Rattle.law_turns.proofs.Coordinates.{same-vector, SignBlind, each-turned, each-back, sign-twice}
+use Rattle.law_turns.proofs.Coordinates.{SignBlind, each-turned, each-back, sign-twice}
 use Rattle.law_turns.proofs.Turning.{signed-dot, dot-signed}
 use Rattle.law_turns.proofs.Vectors.{dot-turned}
+use Rattle.nef_space.proofs.Vectors.{same-vector}
+use Rattle.nef_space.proofs.Elementary.{once-opposite}
 
 size-sign : (b : Bool) (x : ℤ) → nat_abs (negated_if b x) ≡ nat_abs x
 size-sign true x = omega (arith, ints)
@@ -59,10 +61,7 @@ lowest_point-turned k p h n (x, (y, (z, (w, u)))) = let e = divides-back k n fal
 
 -- ---- one normal form
 away-signed : (d : Vector) → away d ≡ signed true d
-away-signed d = same-vector _ _ _ _ _ _ (by d.x) (by d.y) (by d.z)
-  where
-    by : (x : ℤ) → negsuc 0 *ℤ x +ℤ pos 0 *ℤ x ≡ neg_ℤ x
-    by x = ring (x ∷ []) (num (negsuc 0) ⊗ at 0 ⊕ num (pos 0) ⊗ at 0) (neg (at 0)) tt
+away-signed d = same-vector _ _ _ _ _ _ (once-opposite d.x) (once-opposite d.y) (once-opposite d.z)
 
 pub normal-choice : (d : Vector) → IsDirection d → (b : Bool) × IsNormal (signed b d)
 normal-choice d h = ⊎_elim (λ n. (false, n)) (λ n. (true, subst IsNormal (away-signed d) n)) (normal-or d h)

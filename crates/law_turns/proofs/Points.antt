@@ -1,7 +1,9 @@
 -- Turned points: the values of turned forms, and how the points lie to one another and to the frame.
 use Rattle.law_turns.proofs.Prelude.{◌≡◌, ℕ, ◌*◌, ◌<◌, ℤ, pos, ◌+ℤ◌, ◌-ℤ◌, ◌*ℤ◌, neg_ℤ, nat_abs, ap, sym, ◌∙◌, subst, arith, ◌↔◌, [], ◌∷◌, ints, mul-pos, ring, at, neg, ◌⊕◌, ◌⊖◌, ◌⊗◌, half_side, Vector, SameDirection, SpacePoint, Form, form_at, slope, Ratio, step, toward, NearNumber, Within, SamePoint, InFrame, IsAhead, IsBetween, Triple, vector_of_triple, triple_of, turned_vector, turned_plane, turned_point, unturned_point}
-use Rattle.law_turns.proofs.Coordinates.{zip-turned, IsOddFunction, SignBlind, each-turned, each-back, dots-turned, turned-back, back-turned}
+use Rattle.law_turns.proofs.Coordinates.{zip-turned, IsOddFunction, SignBlind, each-turned, each-back, dots-turned, turned-back}
 use Rattle.law_turns.proofs.Vectors.{same_direction-turned}
+use Rattle.nef_space.proofs.Products.{neg-*ℤ}
+use Rattle.nef_space.proofs.Elementary.{size-opposite}
 
 abbrev pub numbers : SpacePoint → Triple
 numbers p = (p.x, p.y, p.z)
@@ -19,9 +21,6 @@ slope-turned k h d = dots-turned k (h.a, h.b, h.c) (triple_of d)
 -- ---- every point is the image of one
 pub point-back : (k : ℕ) (p : SpacePoint) → turned_point k (unturned_point k p) ≡ p
 point-back k p = ap (located p.w p.proper) (turned-back k (numbers p))
-
-pub back-place : (k : ℕ) (p : SpacePoint) → unturned_point k (turned_point k p) ≡ p
-back-place k p = ap (located p.w p.proper) (back-turned k (numbers p))
 
 pub every-point : (k : ℕ) (P : SpacePoint → Type 0) → ((p : SpacePoint) → P (turned_point k p)) → (q : SpacePoint) → P q
 every-point k P f q = subst P (point-back k q) (f (unturned_point k q))
@@ -59,10 +58,7 @@ abbrev SameNumbers : ℕ → ℕ → ℤ → ℤ → Type 0
 SameNumbers v w x y = x *ℤ pos w ≡ y *ℤ pos v
 
 same-blind : (v w : ℕ) → SignBlind (SameNumbers v w)
-same-blind v w x y e = by x (pos w) ∙ ap neg_ℤ e ∙ sym (by y (pos v))
-  where
-    by : (a b : ℤ) → neg_ℤ a *ℤ b ≡ neg_ℤ (a *ℤ b)
-    by a b = ring (a ∷ b ∷ []) (neg (at 0) ⊗ at 1) (neg (at 0 ⊗ at 1)) tt
+same-blind v w x y e = neg-*ℤ x (pos w) ∙ ap neg_ℤ e ∙ sym (neg-*ℤ y (pos v))
 
 pub same_point-turned : (k : ℕ) (p q : SpacePoint) → SamePoint (turned_point k p) (turned_point k q) ↔ SamePoint p q
 same_point-turned k p q = (
@@ -90,10 +86,7 @@ abbrev IsNear : ℕ → ℕ → ℕ → ℤ → ℤ → Type 0
 IsNear n v w x y = NearNumber n y w x v
 
 difference-size : (x y v w : ℤ) → nat_abs (neg_ℤ y *ℤ v -ℤ neg_ℤ x *ℤ w) ≡ nat_abs (y *ℤ v -ℤ x *ℤ w)
-difference-size x y v w = ap nat_abs (toward-odd v w x y) ∙ size (y *ℤ v -ℤ x *ℤ w)
-  where
-    size : (z : ℤ) → nat_abs (neg_ℤ z) ≡ nat_abs z
-    size z = omega (arith, ints)
+difference-size x y v w = ap nat_abs (toward-odd v w x y) ∙ size-opposite (y *ℤ v -ℤ x *ℤ w)
 
 near-blind : (n v w : ℕ) → SignBlind (IsNear n v w)
 near-blind n v w x y h = subst (λ (i : ℕ). n * i < w * v) (sym (difference-size x y (pos v) (pos w))) h

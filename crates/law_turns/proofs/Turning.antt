@@ -1,7 +1,8 @@
 -- Functions that keep products and sums of vectors, and cross products up to one sign: how what they make lies.
 use Rattle.law_turns.proofs.Prelude.{◌≡◌, ℕ, ℤ, pos, ◌+ℤ◌, ◌*ℤ◌, ◌<ℤ◌, neg_ℤ, Bool, true, false, cond, refl, ap, sym, ◌∙◌, subst, arith, ◌↔◌, inl, inr, ⊎_elim, [], ◌∷◌, ints, ring, at, neg, ◌⊕◌, ◌⊗◌, Vector, dot, cross, triple, IsZero, IsDirection, SameDirection, IsOpposite, opposite, blend, IsOnCircle, IsStrictlyOn, way_back_passes_the_same, negated_if, differ, signed}
 use lib.IntN.{neg_ℤ-neg_ℤ}
-use Rattle.law_turns.proofs.Coordinates.{same-vector, sign-twice}
+use Rattle.law_turns.proofs.Coordinates.{sign-twice}
+use Rattle.nef_space.proofs.Vectors.{same-vector}
 
 pub record Turning (f : Vector → Vector) (odd : Bool) : Type 0 where
   pub dots : (a b : Vector) → dot (f a) (f b) ≡ dot a b

@@ -1,19 +1,17 @@
 -- A set that is turned twice.
 use Rattle.law_turns.proofs.Prelude.{◌≡◌, ℕ, refl, ap, sym, ◌∙◌, Form, form, Set, Triple, Undoes, IsComposition, turned_plane, turned_set}
+use Rattle.nef_space.proofs.Elementary.{equal-pairs}
 
 -- what is so of forms is so of sets
 module _ (i j k : ℕ) (same : (h : Form) → turned_plane i h ≡ turned_plane j (turned_plane k h)) where
-  two : (make : Set → Set → Set) {a b c d : Set} → a ≡ c → b ≡ d → make a b ≡ make c d
-  two make {a} {b} {c} {d} e f = ap (λ (x : Set). make x b) e ∙ ap (make c) f
-
   pub set-same : (s : Set) → turned_set i s ≡ turned_set j (turned_set k s)
   set-same (Set.half h c) = ap (λ (g : Form). Set.half g c) (same h)
   set-same Set.empty = refl
   set-same Set.full = refl
-  set-same (Set.both a b) = two Set.both (set-same a) (set-same b)
-  set-same (Set.either a b) = two Set.either (set-same a) (set-same b)
-  set-same (Set.less a b) = two Set.less (set-same a) (set-same b)
-  set-same (Set.one_of a b) = two Set.one_of (set-same a) (set-same b)
+  set-same (Set.both a b) = equal-pairs Set.both (set-same a) (set-same b)
+  set-same (Set.either a b) = equal-pairs Set.either (set-same a) (set-same b)
+  set-same (Set.less a b) = equal-pairs Set.less (set-same a) (set-same b)
+  set-same (Set.one_of a b) = equal-pairs Set.one_of (set-same a) (set-same b)
   set-same (Set.other a) = ap Set.other (set-same a)
   set-same (Set.inside a) = ap Set.inside (set-same a)
   set-same (Set.closed a) = ap Set.closed (set-same a)

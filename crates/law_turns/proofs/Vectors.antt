@@ -1,7 +1,8 @@
 -- Turned vectors: their products, and how they lie to one another.
 use Rattle.law_turns.proofs.Prelude.{◌≡◌, ℕ, ℤ, pos, ◌+ℤ◌, ◌*ℤ◌, neg_ℤ, Bool, true, false, refl, ap, sym, ◌∙◌, subst, ◌↔◌, [], ◌∷◌, ring, at, neg, ◌⊕◌, ◌⊗◌, Vector, vector, dot, cross, triple, IsZero, IsDirection, SameDirection, IsOpposite, opposite, blend, negated_if, vector_of_triple, triple_of, turned_vector, unturned_vector, is_odd, signed}
 use Rattle.law_turns.proofs.Turning.{Turning, triple-there, direction-there, direction_cross-there, same_direction-there, opposite-there, zero_triple-there}
-use Rattle.law_turns.proofs.Coordinates.{same-vector, zip-turned, IsOddFunction, SignBlind, each-turned, each-back, dots-turned, crosses-turned, turned-back, back-turned, sign-twice}
+use Rattle.law_turns.proofs.Coordinates.{zip-turned, IsOddFunction, SignBlind, each-turned, each-back, dots-turned, crosses-turned, turned-back, back-turned, sign-twice}
+use Rattle.nef_space.proofs.Vectors.{same-vector}
 
 pub dot-turned : (k : ℕ) (a b : Vector) → dot (turned_vector k a) (turned_vector k b) ≡ dot a b
 dot-turned k a b = dots-turned k (triple_of a) (triple_of b)

@@ -24,9 +24,6 @@ pub below_next : (m : Machine) (job w : ℕ) → RestIsOpen m → slice_get m.sl
 below_next m job w f at = lt_of_not-le (λ le. open_not_held w (sym (f job le (slice_get_within m.slots job (InHand w) at)) ∙ at))
 
 module _ {Out : Type 0} where
-  none_some : (r : Option Out) (x : Slot) → x ≡ Open → HasResult x r → r ≡ None
-  none_some r x e h = subst (λ z. HasResult z r) e h
-
   pub sound_claim : (m : Machine) (h : List Event) (r : List (Option Out)) (c w : ℕ) → Sound m h r c → m.next < length m.slots → (length h < c) × Sound (after m (Claim w)) (h ++ Claim w ∷ []) r c
   sound_claim m h r c w s free =
       let owing = owed_claim m.next w m.slots free in

@@ -1,5 +1,5 @@
 -- Taking the turn and freeing it keep the rule.
-use Rattle.nef_board.proofs.Prelude.{◌≡◌, ℕ, ◌+◌, ◌<◌, ◌≤◌, ◌≢◌, List, [], ◌∷◌, ◌++◌, length, refl, ap, sym, ◌∙◌, Option, Some, None, slice_get, slice_set, slice_index, arith, ◌⊎◌, inl, inr, Bool, true, false, subst, set, IfSome, MatchBool, ◌==◌, length-set, get_or-set_same, set-get_or, slice_get_within, Me, rest, step, Act, keeps, takes, gives, stepped, Allows, Splits, Joins, Final, Seen, Valid, carried_after, at_set, set_here, set_else, set_again, State as Machine, after, Slot, Open, InHand, Done, Claim, Deposit, GiveBack, get_set_here, get_set_other, same_or_not, within, at_length, below_last, open_not_held, open_not_done, held_not_done, done_not_held, held_by, not_among, among, claimed, past_is_same, BoardState, deposited, Fits, fits_cut, fits_new, fits_beside, fits_taken_in, fits_at_end, fits_holding, fits_deposited, fits_gave_back, fits_moved, held_in, LockView, IsSound, seeing, claimed_view, ended_view, deposited_view, back_view, job_in, cut, new_view, taken_in, spent, IsStateAt, IsTurnHeld, SawIs, ShowsMachine, Kept, HasTurn, FoundState, TookTurn, Claimed, SawEnd, Deposited, GaveBack, AllDone, ResultsFit, IsClosedWith, length-append, at_longer}
+use Rattle.nef_board.proofs.Prelude.{◌≡◌, ℕ, ◌+◌, ◌<◌, ◌≤◌, ◌≢◌, List, [], ◌∷◌, ◌++◌, length, refl, ap, sym, ◌∙◌, Option, Some, None, slice_get, slice_set, slice_index, arith, ◌⊎◌, inl, inr, true, false, subst, set, IfSome, MatchBool, ◌==◌, length-set, get_or-set_same, set-get_or, slice_get_within, Me, rest, step, Act, keeps, takes, gives, stepped, Allows, Splits, Joins, Final, Seen, Valid, carried_after, at_set, set_here, set_else, set_again, State as Machine, after, Slot, Open, InHand, Done, Claim, Deposit, GiveBack, get_set_here, get_set_other, same_or_not, within, at_length, below_last, open_not_held, open_not_done, held_not_done, done_not_held, held_by, not_among, among, claimed, past_is_same, BoardState, deposited, Fits, fits_cut, fits_new, fits_beside, fits_taken_in, fits_at_end, fits_holding, fits_deposited, fits_gave_back, fits_moved, held_in, LockView, IsSound, seeing, claimed_view, ended_view, deposited_view, back_view, job_in, cut, new_view, taken_in, spent, IsStateAt, IsTurnHeld, SawIs, ShowsMachine, Kept, HasTurn, FoundState, TookTurn, Claimed, SawEnd, Deposited, GaveBack, AllDone, ResultsFit, IsClosedWith, length-append, at_longer}
 use Rattle.std.proofs.lemmas.Bool.Decides.{nat_tests}
 use mathlib.Core.Option.{some, none, some-injective}
 use prog.Atomic.{either}
@@ -8,22 +8,13 @@ use Rattle.atomic_table.specs.Table.{State}
 use Rattle.nef_core.specs.declared.board.View.{View}
 use Rattle.nef_board.proofs.Sounds.{is_fresh}
 use Rattle.nef_core.specs.Views.{has_job}
-
-one_zero : (n : ℕ) → n ≡ 0 → n ≡ 1 → ⊥
-one_zero n a b = absurd (omega arith)
-
-no_hand : (h : Option ℕ) (job : ℕ) → h ≡ None → h ≡ Some job → ⊥
-no_hand h job a b = cc
-
-some_number : (x y : ℕ) → Some x ≡ Some y → x ≡ y
-some_number x y e = cc
-
-true_not_false : (b : Bool) → b ≡ true → b ≡ false → ⊥
-true_not_false b p q = cc
+use Rattle.nef_core.proofs.Facts.{none-not_some, some-some}
+use Rattle.std.proofs.lemmas.Option.{same_Some}
+use Rattle.std.proofs.lemmas.Bool.{false≢true}
 
 job_is : (h : Option ℕ) (job : ℕ) → h ≡ Some job → job_in h ≡ job
-job_is None job e = absurd (no_hand None job refl e)
-job_is (Some i) job e = some_number i job e
+job_is None job e = absurd (none-not_some None job refl e)
+job_is (Some i) job e = same_Some i job e
 
 -- what the slot that was taken last has
 abbrev first_slot : {S : Type 0} → S → List (ℕ × S) → S
@@ -45,9 +36,6 @@ pub not_among_next : (m : Machine) (ds : List (ℕ × ℕ)) → slice_get m.slot
 not_among_next m ds at h = not_among m.slots m.next Open ds at open_not_done h
 
 module _ {Out : Type 0} (right : ℕ → Out → Type 0) (jobs seats : ℕ) where
-  not_seen : (v : LockView Out) (b : BoardState Out) → v.saw ≡ None → v.saw ≡ Some b → ⊥
-  not_seen v b p q = cc
-
   -- a fact of each live pass but one, and of that one afterwards
   each_view : (P : ℕ → LockView Out → Type 0) (views : List (LockView Out)) (k : ℕ) (w : LockView Out) → P k w → ((place : ℕ) (u : LockView Out) → place ≢ k → get_elem? views place ≡ some u → u.known.live ≡ true → P place u)
       → (place : ℕ) (u : LockView Out) → get_elem? (set views k w) place ≡ some u → u.known.live ≡ true → P place u
@@ -189,7 +177,7 @@ module _ {Out : Type 0} (right : ℕ → Out → Type 0) (jobs seats : ℕ) wher
       let e' : slice_get (slice_set m.slots m.next (InHand k)) job ≡ Some (InHand n) = ap (λ (z : Machine). slice_get z.slots job) (sym is) ∙ e in
       elim (same_or_not job m.next) [
         | inl q ↦ inl (held_by n k (sym e' ∙ (ap (slice_get (slice_set m.slots m.next (InHand k))) q ∙ get_set_here m.slots m.next (InHand k) free)), ap Some (sym q))
-        | inr q ↦ inr (sym (get_set_other m.slots m.next job (InHand k) q) ∙ e', (λ h. absurd (no_hand v.known.hand job hand h)))
+        | inr q ↦ inr (sym (get_set_other m.slots m.next job (InHand k) q) ∙ e', (λ h. absurd (none-not_some v.known.hand job hand h)))
       ])
 
   pub claims_at : (slots k : ℕ) (v : LockView Out) (b b' : BoardState Out) → v.known.live ≡ true → v.known.hand ≡ None → IsSound b' → b'.machine ≡ after b.machine (Claim v.known.number) → b'.results.items ≡ b.results.items → b.machine.next < length b.machine.slots
@@ -239,11 +227,8 @@ module _ {Out : Type 0} (right : ℕ → Out → Type 0) (jobs seats : ℕ) wher
       let e' : slice_get (slice_set m.slots job x) i ≡ Some (InHand n) = ap (λ (z : Machine). slice_get z.slots i) (sym is) ∙ e in
       elim (same_or_not i job) [
         | inl q ↦ absurd (not_held n (sym (get_set_here m.slots job x (slice_get_within m.slots job (InHand k) held)) ∙ (ap (slice_get (slice_set m.slots job x)) (sym q) ∙ e')))
-        | inr q ↦ inr (sym (get_set_other m.slots job i x q) ∙ e', (λ h. absurd (q (some_number i job (sym h ∙ hand)))))
+        | inr q ↦ inr (sym (get_set_other m.slots job i x q) ∙ e', (λ h. absurd (q (same_Some i job (sym h ∙ hand)))))
       ])
-
-  some_out : (a c : Out) → Some (Some a) ≡ Some (Some c) → a ≡ c
-  some_out a c e = cc
 
   pub deposit_freed : (s : State (BoardState Out) (LockView Out)) (turn : Option ℕ) (k : ℕ) (v : LockView Out) (b b' : BoardState Out) (job : ℕ) (out : Out) → ShowsMachine right jobs seats turn b s → get_elem? s.views k ≡ some (seeing v b) → v.known.live ≡ true → v.known.hand ≡ Some job → right job out
       → IsSound b' → b'.machine ≡ after b.machine (Deposit v.known.number job) → b'.results.items ≡ slice_set b.results.items job (Some out)
@@ -259,7 +244,7 @@ module _ {Out : Type 0} (right : ℕ → Out → Type 0) (jobs seats : ℕ) wher
       let e' : slice_get (slice_set b.results.items job (Some out)) i ≡ Some (Some o) = ap (λ (z : List (Option Out)). slice_get z i) (sym results) ∙ e in
       elim (same_or_not i job) [
         | inl q ↦
-            let same : out ≡ o = some_out out o (sym (get_set_here b.results.items job (Some out) (let c = sh.sound.count in omega arith)) ∙ (ap (slice_get (slice_set b.results.items job (Some out))) (sym q) ∙ e')) in
+            let same : out ≡ o = some-some out o (sym (get_set_here b.results.items job (Some out) (let c = sh.sound.count in omega arith)) ∙ (ap (slice_get (slice_set b.results.items job (Some out))) (sym q) ∙ e')) in
             subst (λ (z : Out). right i z) same (subst (λ (j : ℕ). right j out) (sym q) fits)
         | inr q ↦ sh.fit i o (sym (get_set_other b.results.items job i (Some out) q) ∙ e')
       ])
@@ -391,9 +376,9 @@ module _ {Out : Type 0} (right : ℕ → Out → Type 0) (jobs seats : ℕ) wher
         held = λ job n e.
             let o = sh.held job n e in
             let r = still s.views k v (taken_in v w) job at (λ q. (live, q)) n o.0 o.1 o.2 o.3 in
-            still one other w spent job there (λ q. absurd (no_hand w.known.hand job empty q)) n r.0 r.1 r.2 r.3;
+            still one other w spent job there (λ q. absurd (none-not_some w.known.hand job empty q)) n r.0 r.1 r.2 r.3;
         views = λ place u h alive. rw len (elim (at_set one other place spent u h) [
-          | inl q ↦ absurd (true_not_false u.known.live alive (ap (λ (z : LockView Out). z.known.live) (sym q.1)))
+          | inl q ↦ absurd (false≢true (sym (ap (λ (z : LockView Out). z.known.live) (sym q.1)) ∙ alive))
           | inr q ↦ each_view P s.views k (taken_in v w)
               (fits_taken_in jobs seats m (length s.views) k v.known other w.known f fw, saw_moved turn b k v (taken_in v w) refl fv.1)
               (λ p z n found z_up. sh.views p z found z_up)

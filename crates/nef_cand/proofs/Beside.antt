@@ -1,6 +1,7 @@
 -- An edge reaches along x from its low end to its high end.
-use Rattle.nef_cand.proofs.Prelude.{ℕ, ℤ, pos, ◌*ℤ◌, ◌<ℤ◌, ◌≤ℤ◌, ◌≤◌, List, arith, ap, sym, subst, inl, inr, ⊎_elim, eq-or-lt_of_le, ints, fraction-le-trans, IsAt, SpacePoint, IsPointBelow, IsBetween, Set, point_of, Plane, is-at_one, is-at_map, is-at_within, map-is_at, IsEdgeBelow, is-at_some, coordinate_x, IsWithin, Complex, Edge, Vertex, Bounds, Span, vertex_of, edge_of, ShowsSet, AreAlone, IsInSpan, within-both, weight, CutsEdge, IsApart}
+use Rattle.nef_cand.proofs.Prelude.{ℕ, ℤ, pos, ◌*ℤ◌, ◌<ℤ◌, ◌≤ℤ◌, ◌≤◌, List, arith, sym, subst, inl, inr, ⊎_elim, eq-or-lt_of_le, ints, fraction-le-trans, IsAt, SpacePoint, IsPointBelow, IsBetween, Set, point_of, Plane, is-at_one, is-at_map, is-at_within, map-is_at, is-at_some, coordinate_x, IsWithin, Complex, Edge, Vertex, Bounds, Span, vertex_of, edge_of, ShowsSet, AreAlone, IsInSpan, within-both, weight-positive, CutsEdge, IsApart}
 use Rattle.law_complex.proofs.Spans.{within-between}
+use Rattle.nef_complex.proofs.Rising.{low-rises}
 
 -- ---- a point that is below another
 module _ (p q : SpacePoint) (b : IsPointBelow p q) where
@@ -12,10 +13,10 @@ module _ (p q : SpacePoint) (b : IsPointBelow p q) where
       from (inr (e, r)) = omega (arith, ints)
 
   low-on : (l : ℤ) → (l *ℤ pos p.w) ≤ℤ p.x → (l *ℤ pos q.w) ≤ℤ q.x
-  low-on l h = let k = fraction-le-trans l (pos 1) p.x (pos p.w) q.x (pos q.w) (omega (arith, ints)) (weight p) (weight q) (omega (arith, ints, h)) along in omega (arith, ints, k)
+  low-on l h = let k = fraction-le-trans l (pos 1) p.x (pos p.w) q.x (pos q.w) (omega (arith, ints)) (weight-positive p) (weight-positive q) (omega (arith, ints, h)) along in omega (arith, ints, k)
 
   high-back : (h : ℤ) → q.x ≤ℤ (h *ℤ pos q.w) → p.x ≤ℤ (h *ℤ pos p.w)
-  high-back h i = let k = fraction-le-trans p.x (pos p.w) q.x (pos q.w) h (pos 1) (weight p) (weight q) (omega (arith, ints)) along (omega (arith, ints, i)) in omega (arith, ints, k)
+  high-back h i = let k = fraction-le-trans p.x (pos p.w) q.x (pos q.w) h (pos 1) (weight-positive p) (weight-positive q) (omega (arith, ints)) along (omega (arith, ints, i)) in omega (arith, ints, k)
 
   within-ends : (y : SpacePoint) → IsBetween p y q → (l h : ℤ) → (l *ℤ pos p.w) ≤ℤ p.x → q.x ≤ℤ (h *ℤ pos q.w) → IsWithin coordinate_x l h y
   within-ends y m l h i j = within-between coordinate_x l h p y q m (i, high-back h j) (low-on l i, j)
@@ -33,17 +34,6 @@ module _ (s : Set) (c : Complex) (S : ShowsSet s c) (k : ℕ) (e : Edge) (a : Is
       within-both coordinate_x r around.x y (within-ends (point_of u.point) (point_of v.point) b y o.between low.x.low high.x.high n.0.0 m.0.1) w.0
 
 module _ (s : Set) (c : Complex) (S : ShowsSet s c) where
-  -- edges stand in order of their low ends
-  lows-rise : (i k : ℕ) (g e : Edge) → i ≤ k → IsAt c.edges i g → IsAt c.edges k e → g.low ≤ e.low
-  lows-rise i k g e l a b = ⊎_elim
-      (λ q. let z = ap (λ (f : Edge). f.low) (is-at_one c.edges i g e a (subst (λ (j : ℕ). IsAt c.edges j e) (sym q) b)) in omega (arith, z))
-      (λ m. by (S.shows.edges.ordered i k (edge_of g) (edge_of e) m (map-is_at edge_of c.edges i g a) (map-is_at edge_of c.edges k e b)))
-      (eq-or-lt_of_le {n = i} {m = k} l)
-    where
-      by : IsEdgeBelow (edge_of g) (edge_of e) → g.low ≤ e.low
-      by (inl m) = omega (arith, ints)
-      by (inr (q, r)) = omega (arith, ints)
-
   -- a bound below a vertex along x is one below the later ones
   low-later : (i k : ℕ) (u v : Vertex) → i ≤ k → IsAt c.vertices i u → IsAt c.vertices k v → (l : ℤ) → (l *ℤ pos (point_of u.point).w) ≤ℤ (point_of u.point).x → (l *ℤ pos (point_of v.point).w) ≤ℤ (point_of v.point).x
   low-later i k u v m a b l h = ⊎_elim
@@ -58,7 +48,7 @@ module _ (s : Set) (c : Complex) (S : ShowsSet s c) where
       let E = S.shows.edges.edges k (edge_of e) (map-is_at edge_of c.edges k e a) in
       let z = is-at_map vertex_of c.vertices g.low G.low_vertex G.is_low in
       let n = A.each g.low z.0 low z.1 j in
-      let p = low-later g.low e.low z.0 u (lows-rise i k g e m here a) z.1 f low.x.low n.0.0 in
+      let p = low-later g.low e.low z.0 u (low-rises s c S.shows i k g e m here a) z.1 f low.x.low n.0.0 in
       let many = A.as_many in
       let d = is-at_within c.vertices e.high v q in
       let t = is-at_some ss e.high (omega (arith, many, d)) in

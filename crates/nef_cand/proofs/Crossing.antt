@@ -1,6 +1,7 @@
 -- Where a plane parts two points, it crosses the line between them in one point strictly between.
-use Rattle.nef_cand.proofs.Prelude.{SpacePoint, Form, form_at, normal_of, toward, SamePoint, HasDependentNormals, IsOnlyCommon, form_of, HasOppositeSigns, Plane, between-same, same-point_sym, plane-way, same-itself, parted-slope, parted-cut, parted-apart, held-between, crossed-parted, independent, IsCutBetween}
+use Rattle.nef_cand.proofs.Prelude.{SpacePoint, Form, form_at, normal_of, toward, SamePoint, HasDependentNormals, IsOnlyCommon, form_of, HasOppositeSigns, Plane, between-same, same-point_sym, plane-way, parted-slope, parted-cut, parted-apart, held-between, crossed-parted, independent, IsCutBetween}
 use Rattle.nef_cand.proofs.Planes.{IsLineThrough}
+use Rattle.nef_space.proofs.Elementary.{same-itself}
 
 -- ---- three planes
 module _ (f g h : Plane) (p q : SpacePoint) (L : IsLineThrough f g p q) (s : HasOppositeSigns (form_at (form_of h) p) (form_at (form_of h) q)) where

@@ -1,5 +1,5 @@
 -- The vertices of a half are vertices of the frame, or points where its plane crosses an edge of the frame.
-use Rattle.nef_cand.proofs.Prelude.{◌≡◌, ℕ, zero, suc, ◌+◌, ◌<◌, ℤ, pos, neg_ℤ, ◌+ℤ◌, ◌-ℤ◌, ◌*ℤ◌, Bool, true, false, List, [], ◌∷◌, map, arith, ap, sym, ◌∙◌, ◌⊎◌, inl, inr, ⊎_elim, ◌↔◌, ints, sign, ring, Poly, at, num, neg, ◌⊕◌, ◌⊖◌, ◌⊗◌, given, none, follows, by_order, sign-minus, minus-is, sign-plus, plus-is, sign-scaled, nought-is, nought-or, square_pos, HasLabel, Flat, HasFlat, FlatDim, IsVertex, SpacePoint, Form, Ratio, step, Within, form_at, slope, toward, InFrame, Set, InHalf, Vector, cross, IsDirection, Label, Out, Not, In, Point, sign_at, combination, HasFlat-fewer, flat_dim-of, never-flat, Shows, SamePlane, IsEdgePoint, HoldsEdge, edge-points, edge-way, plane-turned, plane-point, plane-slope, plane-way, between-ends, Named, named_point, IsOnceEach, IsListed, IsVertexOf, IsCutBy, AreCutCandidates, AddsPoints, times-nought}
+use Rattle.nef_cand.proofs.Prelude.{◌≡◌, ℕ, zero, suc, ◌+◌, ◌<◌, ℤ, pos, neg_ℤ, ◌+ℤ◌, ◌-ℤ◌, ◌*ℤ◌, Bool, true, false, List, [], ◌∷◌, map, arith, ap, sym, ◌∙◌, ◌⊎◌, inl, inr, ⊎_elim, ◌↔◌, ints, sign, ring, Poly, at, num, neg, ◌⊕◌, ◌⊖◌, ◌⊗◌, given, none, follows, by_order, sign-minus, minus-is, sign-plus, plus-is, sign-scaled, nought-is, nought-or, square_pos, HasLabel, Flat, HasFlat, FlatDim, IsVertex, SpacePoint, Form, Ratio, step, Within, form_at, slope, toward, InFrame, Set, InHalf, Vector, cross, IsDirection, Label, Out, Not, In, Point, sign_at, combination, HasFlat-fewer, flat_dim-of, never-flat, Shows, SamePlane, IsEdgePoint, HoldsEdge, edge-points, edge-way, plane-turned, plane-point, plane-slope, plane-way, between-ends, Named, named_point, IsOnceEach, IsListed, IsVertexOf, IsCutBy, AreCutCandidates, AddsPoints, positive-factor}
 use Rattle.nef_space.specs.Sets.{Holds}
 use Rattle.law_near.proofs.Near.{reach, keeps, weaken, form-step}
 use Rattle.law_near.proofs.FlatOperations.{flat-combination}
@@ -7,6 +7,7 @@ use Rattle.law_complex.specs.Complexes.{Complex}
 use Rattle.law_complex.proofs.Joining.{edges-complete}
 use Rattle.nef_cand.proofs.Adding.{adds-both}
 use Rattle.nef_cand.proofs.Complete.{listed-decided, added-exactly, vertex-of}
+use Rattle.law_sphere.proofs.Walk.{cross-direction_left}
 
 -- ---- what is flat for a half
 -- a half holds where its form has the sign
@@ -71,26 +72,20 @@ combined-some : (d e : Vector) (j k : ℤ) → IsDirection (cross d e) → (k �
 combined-some d e j k some n z = some (one d.y d.z e.y e.z z.1 z.2, one d.z d.x e.z e.x z.2 z.0, one d.x d.y e.x e.y z.0 z.1)
   where
     one : (a b x y : ℤ) → j *ℤ a +ℤ k *ℤ x ≡ pos 0 → j *ℤ b +ℤ k *ℤ y ≡ pos 0 → a *ℤ y -ℤ b *ℤ x ≡ pos 0
-    one a b x y p q = times-nought (k *ℤ k) (a *ℤ y -ℤ b *ℤ x) (square_pos k n)
+    one a b x y p q = positive-factor (k *ℤ k) (a *ℤ y -ℤ b *ℤ x) (square_pos k n)
         (follows (a ∷ b ∷ x ∷ y ∷ j ∷ k ∷ []) (at 5 ⊗ at 5 ⊗ (at 0 ⊗ at 3 ⊖ at 1 ⊗ at 2)) (num (pos 0))
         (given (at 5 ⊗ at 0) (at 4 ⊗ at 1 ⊕ at 5 ⊗ at 3) (num (pos 0)) q (given (num (pos 0) ⊖ at 5 ⊗ at 1) (at 4 ⊗ at 0 ⊕ at 5 ⊗ at 2) (num (pos 0)) p none)) tt)
 
 -- where two independent directions are flat for the frame, one is for the half
 two-flat : (f : Form) (c : Bool) (y : SpacePoint) → HasFlat Set.full y 2 → (d : Vector) × IsDirection d × Flat (Set.half f c) y d
 two-flat f c y (d, e, some, g, h) = ⊎_elim
-    (λ z. (d, first d e some, half-flat f c y d g (λ o. z)))
+    (λ z. (d, cross-direction_left d e some, half-flat f c y d g (λ o. z)))
     (λ n. (
       combination (slope f e) d (neg_ℤ (slope f d)) e,
       combined-some d e (slope f e) (neg_ℤ (slope f d)) some (λ z. n (omega (arith, ints, z))),
       half-flat f c y (combination (slope f e) d (neg_ℤ (slope f d)) e) (flat-combination Set.full y d e (slope f e) (neg_ℤ (slope f d)) g h) (λ o. combined-level f d e),
     ))
     (nought-or (slope f d))
-  where
-    first : (d e : Vector) → IsDirection (cross d e) → IsDirection d
-    first d e i z = i (one e.z e.y d.y d.z z.1 z.2, one e.x e.z d.z d.x z.2 z.0, one e.y e.x d.x d.y z.0 z.1)
-      where
-        one : (a b x y : ℤ) → x ≡ pos 0 → y ≡ pos 0 → x *ℤ a -ℤ y *ℤ b ≡ pos 0
-        one a b x y e f = ap (λ r. r *ℤ a -ℤ y *ℤ b) e ∙ ap (λ r. pos 0 *ℤ a -ℤ r *ℤ b) f ∙ ring (a ∷ b ∷ []) (num (pos 0) ⊗ at 0 ⊖ num (pos 0) ⊗ at 1) (num (pos 0)) tt
 
 -- ---- the vertices of a half
 module _ (C : Complex) (S : Shows Set.full C) (h f : Form) (P : SamePlane h f) (c : Bool) (y : SpacePoint) where

@@ -1,5 +1,5 @@
 -- Two carriers hold each edge, and where planes cut edges.
-use Rattle.nef_cand.proofs.Prelude.{◌≡◌, ℕ, ℤ, pos, ◌-ℤ◌, ◌*ℤ◌, List, Option, Some, None, IsNone, IfSome, arith, refl, sym, subst, ◌↔◌, MatchOption, ints, Lies, nought-is, Flat, SpacePoint, Form, form_at, normal_of, toward, SamePoint, IsBetween, Set, cross, IsZero, IsDirection, HasDependentNormals, IsOnlyCommon, point_of, form_of, HasOppositeSigns, Plane, Point, carriers, EdgeSupport, start, start-between, edge-support, IsAt, is-at_one, map-is_at, is-at_map, HasEnds, SamePlane, IsVertexPoint, IsEdgePoint, edge-points, edge-way, plane-turned, plane-point, same-itself, Vertex, Edge, Complex, vertex_of, edge_of, complex_of, ShowsSet, through-both, listed_edge, ends, apart, Named, Operand, IsVertexOf, IsCutBy, IsNamedIn, AreInOrder, HoldsBoth, IsCutBetween, CutsEdge, AddsPoints, parallel-both}
+use Rattle.nef_cand.proofs.Prelude.{◌≡◌, ℕ, pos, List, Option, Some, None, IsNone, IfSome, refl, sym, subst, ◌↔◌, MatchOption, Lies, nought-is, Flat, SpacePoint, Form, form_at, normal_of, toward, SamePoint, IsBetween, Set, IsDirection, HasDependentNormals, IsOnlyCommon, point_of, form_of, HasOppositeSigns, Plane, Point, carriers, EdgeSupport, start, start-between, edge-support, IsAt, is-at_one, map-is_at, is-at_map, HasEnds, SamePlane, IsVertexPoint, IsEdgePoint, edge-points, edge-way, plane-turned, plane-point, Vertex, Edge, Complex, vertex_of, edge_of, complex_of, ShowsSet, through-both, listed_edge, ends, apart, Named, Operand, IsVertexOf, IsCutBy, IsNamedIn, AreInOrder, HoldsBoth, IsCutBetween, CutsEdge, AddsPoints, parallel-both}
 use Rattle.law_complex.specs.Complexes.{Vertex as PlainVertex, Edge as PlainEdge}
 use Rattle.law_complex.specs.Complexes.{Complex as PlainComplex}
 use Rattle.nef_cand.specs.declared.named.CandidateName.TheVariants as name
@@ -7,14 +7,10 @@ use Rattle.nef_cand.proofs.Adding.{adds-as, AnyAt}
 use Rattle.nef_cand.proofs.Crossing.{never-dependent, meet-crosses, never-crosses}
 use Rattle.nef_cand.proofs.EdgeLines.{AreHeldByTwo}
 use Rattle.nef_cand.proofs.Planes.{IsLineThrough}
+use Rattle.law_complex.proofs.Planes.{same-parallel}
+use Rattle.nef_space.proofs.Elementary.{same-itself}
 
 -- ---- the planes of a segment
--- forms of one plane have parallel normals
-same-parallel : (g h : Form) → SamePlane g h → IsZero (cross (normal_of g) (normal_of h))
-same-parallel g h S = (one (g.b *ℤ h.c) (g.c *ℤ h.b) S.bc, one (g.c *ℤ h.a) (g.a *ℤ h.c) (sym S.ac), one (g.a *ℤ h.b) (g.b *ℤ h.a) S.ab)
-  where
-    one : (a b : ℤ) → a ≡ b → a -ℤ b ≡ pos 0
-    one a b e = omega (arith, ints)
 
 module _ (s : Set) (c : Complex) (S : ShowsSet s c) (k : ℕ) (e : Edge) (a : IsAt c.edges k e) where
   module _ (u v : Vertex) (b : IsAt c.vertices e.low u) (d : IsAt c.vertices e.high v) where

@@ -3,6 +3,7 @@ use Rattle.nef_canon.proofs.Prelude.{◌≡◌, Result, Ok, Err, OnOk, is_ok, if
 use Rattle.nef_core.specs.declared.work.TextVersion.TheVariants.{One, Two}
 use Rattle.nef_complex.specs.declared.complex.Complex.{Complex}
 use Rattle.nef_complex.specs.declared.parts.Parts.{Parts}
+use Rattle.nef_complex.proofs.TextRows.{length-with_rows}
 
 pub blanked-append : (us vs : List Word) → blanked (us ++ vs) ≡ blanked us ++ blanked vs
 blanked-append [] vs = refl
@@ -69,10 +70,6 @@ four-pieces o s t u r a b c d e f g h =
     ∙ append_assoc o (a ++ b ++ c) d
 
 -- ---- elements with their rows
-length-with_rows : {X Y : Type 0} (xs : List X) (rows : List (List Y)) → length (with_rows xs rows) ≡ length xs
-length-with_rows [] rows = refl
-length-with_rows (x ∷ xs) [] = ap suc (length-with_rows xs [])
-length-with_rows (x ∷ xs) (row ∷ rows) = ap suc (length-with_rows xs rows)
 
 at-with_rows : {X Y : Type 0} (xs : List X) (rows : List (List Y)) (k : ℕ) (x : X) (row : List Y) → slice_get xs k ≡ Some x → slice_get rows k ≡ Some row → slice_get (with_rows xs rows) k ≡ Some (x, row)
 at-with_rows [] rows k x row a b = cc

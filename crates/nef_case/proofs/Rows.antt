@@ -1,8 +1,9 @@
 -- The row of a key, and a test of all keys that computes.
-use Rattle.nef_case.proofs.Prelude.{◌≡◌, ℕ, zero, suc, ◌+◌, ◌*◌, ◌^◌, ◌<◌, ◌≤◌, ℤ, pos, negsuc, List, [], ◌∷◌, length, Bool, true, false, cond, refl, arith, pow_more, ints, w8, to_z, of_z, unsigned_abs, All, IsSign, digit_of}
+use Rattle.nef_case.proofs.Prelude.{◌≡◌, ℕ, zero, suc, ◌+◌, ◌*◌, ◌^◌, ◌<◌, ◌≤◌, ℤ, pos, negsuc, List, [], ◌∷◌, length, Bool, false, cond, refl, arith, pow_more, ints, w8, to_z, of_z, unsigned_abs, All, IsSign, digit_of}
 use lib.IntN.{◌+ℤ◌}
 use Rattle.std.proofs.Math.Nat.{pow-le-pow_right}
 use lib.Dec.{T}
+use Rattle.nef_space.proofs.Machine.{both_left, both_right}
 
 pub row_step : (row i N n : ℕ) → row < 3 ^ i → i < N → n ≡ 3 ^ N → n < 2 ^ 64 → row * 3 + 2 < 2 ^ 64
 row_step row i N n h k e l = omega (arith, pow_more 3 i, pow-le-pow_right {n = 3} (omega arith) {i = i + 1} {j = N} (omega arith))
@@ -25,14 +26,6 @@ digit_read (negsuc (suc m)) s = absurd (omega (arith, ints, s.low))
 abbrev pub every_key : ℕ → (List ℤ → Bool) → Bool
 every_key zero p = p []
 every_key (suc n) p = cond (every_key n (λ k. p (negsuc 0 ∷ k))) (cond (every_key n (λ k. p (pos 0 ∷ k))) (every_key n (λ k. p (pos 1 ∷ k))) false) false
-
-pub both_left : (a b : Bool) → T (cond a b false) → T a
-both_left true b h = tt
-both_left false b h = absurd h
-
-pub both_right : (a b : Bool) → T (cond a b false) → T b
-both_right true b h = h
-both_right false b h = absurd h
 
 tail : (z : ℤ) (key : List ℤ) → All IsSign (z ∷ key) → All IsSign key
 tail z key s = λ k d h. s (suc k) d (omega arith)

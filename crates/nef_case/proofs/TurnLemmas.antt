@@ -5,8 +5,8 @@ use lib.Dec.{T, eqb→eq, ltb→lt}
 use lib.IntN.{neg_ℤ-neg_ℤ}
 use mir.Val.{bool_byte, to_z, of_z, SFits}
 use mir.Syntax.{w8, w64}
-use Rattle.nef_case.proofs.Rows.{both_left, both_right}
 use Rattle.nef_case.proofs.Tables.{int_tests}
+use Rattle.nef_space.proofs.Machine.{both_left, both_right}
 
 -- ---- turning the entries of a row turns what the row makes
 -- what the row with these three entries makes of a triple

@@ -1,8 +1,8 @@
 -- The tables of turns, as lists that are computed from what the turns make of the numbers 1, 2 and 3.
-use Rattle.nef_case.proofs.Prelude.{◌≡◌, ℕ, zero, suc, ◌+◌, ◌<◌, ◌≤◌, ℤ, pos, neg_ℤ, List, [], ◌∷◌, length, get_or, Bool, false, cond, sym, ◌∙◌, ap, subst, arith, unsigned_abs, ◌==◌, nat_lt, nat_le, is_negative, All, Triple, turned, IsEntry, IsRowOfTurn, Undoes, IsTurnRow, numbered}
+use Rattle.nef_case.proofs.Prelude.{◌≡◌, ℕ, zero, suc, ◌+◌, ◌<◌, ℤ, pos, neg_ℤ, List, [], ◌∷◌, length, get_or, Bool, false, cond, sym, ◌∙◌, ap, subst, arith, unsigned_abs, ◌==◌, nat_lt, nat_le, is_negative, All, Triple, turned, IsEntry, IsRowOfTurn, Undoes, IsTurnRow, numbered}
 use lib.Dec.{T, ltb→lt, leb→le}
-use Rattle.nef_case.proofs.Rows.{both_left, both_right}
 use Rattle.nef_case.proofs.TurnLemmas.{triple_with, same_triple, word, word-is, made-turned, undoes-by_numbers, below-passes, number_by, numbers-differ, same_parts, parts-same, inverse-one}
+use Rattle.nef_space.proofs.Machine.{both_left, both_right}
 
 -- n values of a function, from i on
 abbrev pub values_from : {A : Type 0} → (ℕ → A) → ℕ → ℕ → List A

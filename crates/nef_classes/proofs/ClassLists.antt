@@ -1,22 +1,18 @@
 -- Places in lists, and the numbering of classes: one more element has its class's number.
-use Rattle.nef_classes.proofs.Prelude.{◌≡◌, ◌≢◌, ℕ, zero, suc, ◌+◌, ◌<◌, ◌≤◌, ◌⊎◌, inl, inr, ⊎_elim, List, [], ◌∷◌, ◌++◌, length, Option, Some, arith, length-append, zero-add, take, drop, get_or, refl, ap, sym, ◌∙◌, subst, ◌↔◌, append-nil, take_all, length-take, get_or-take, slice_get-get_or, slice_get_within, get_or_from_slice_get, drop_of_length-le, IsAt, AreNumbered}
+use Rattle.nef_classes.proofs.Prelude.{◌≡◌, ◌≢◌, ℕ, suc, ◌+◌, ◌<◌, ◌≤◌, ◌⊎◌, ⊎_elim, List, [], ◌∷◌, ◌++◌, length, arith, length-append, take, drop, get_or, ap, sym, ◌∙◌, subst, ◌↔◌, append-nil, take_all, length-take, get_or-take, drop_of_length-le, IsAt, AreNumbered}
 use Rattle.std.proofs.Math.Seq.{take-suc}
-use Rattle.nef_space.proofs.Lists.{is-at_within, is-at_left, is-at_last, is-at_parts, is-at_more, is-at_get, is-at_is}
+use Rattle.nef_space.proofs.Lists.{is-at_within, is-at_left, is-at_last, is-at_more, is-at_get, is-at_is}
+use Rattle.nef_space.proofs.Elementary.{less-or-last}
 
 -- ---- places
-pub less-or-last : (n k : ℕ) → n < k + 1 → (n < k) ⊎ (n ≡ k)
-less-or-last zero zero h = inr refl
-less-or-last zero (suc k) h = inl (omega arith)
-less-or-last (suc n) zero h = absurd (omega arith)
-less-or-last (suc n) (suc k) h = ⊎_elim (λ a. inl (omega arith)) (λ a. inr (ap suc a)) (less-or-last n k (omega arith))
 
 -- an element of a list with one more is an element of the list, or the last
 pub data Either {X : Type 0} (xs : List X) (k : ℕ) (x y : X) : Type 0 where
   earlier : IsAt xs k x → Either xs k x y
   last : k ≡ length xs → x ≡ y → Either xs k x y
 
-pub is-at_either : {X : Type 0} (xs : List X) (k : ℕ) (x y : X) → IsAt (xs ++ y ∷ []) k x → Either xs k x y
-is-at_either xs k x y a = ⊎_elim (λ b. earlier b) (λ r. last r.0 (sym r.1)) (is-at_more xs y k x a)
+pub is-at_pushed : {X : Type 0} (xs : List X) (k : ℕ) (x y : X) → IsAt (xs ++ y ∷ []) k x → Either xs k x y
+is-at_pushed xs k x y a = ⊎_elim (λ b. earlier b) (λ r. last r.0 (sym r.1)) (is-at_more xs y k x a)
 
 -- ---- one more number
 -- what the numbering of the first elements keeps
@@ -36,7 +32,7 @@ module _ (cs ns : List ℕ) (next : ℕ) (N : IsNumberedTo cs ns next) (x : ℕ)
   -- the new element has the number m
   module _ (m : ℕ) (fits : (s c n : ℕ) → IsAt cs s c → IsAt ns s n → (n ≡ m) ↔ (c ≡ x)) (appears : (n : ℕ) → n < m → (t : ℕ) × IsAt ns t n) where
     same-more : (s t c d i j : ℕ) → IsAt (cs ++ x ∷ []) s c → IsAt (cs ++ x ∷ []) t d → IsAt (ns ++ m ∷ []) s i → IsAt (ns ++ m ∷ []) t j → (i ≡ j) ↔ (c ≡ d)
-    same-more s t c d i j p q a b = by (is-at_either cs s c x p) (is-at_either cs t d x q) (is-at_either ns s i m a) (is-at_either ns t j m b)
+    same-more s t c d i j p q a b = by (is-at_pushed cs s c x p) (is-at_pushed cs t d x q) (is-at_pushed ns s i m a) (is-at_pushed ns t j m b)
       where
         early : (s c : ℕ) → IsAt cs s c → s ≡ length ns → ⊥
         early s c p e = let h = is-at_within cs s c p in let k = as_many in omega arith
@@ -58,7 +54,7 @@ module _ (cs ns : List ℕ) (next : ℕ) (N : IsNumberedTo cs ns next) (x : ℕ)
     numbered-more = record {
       as_many = let a = length-append cs (x ∷ []) in let b = length-append ns (m ∷ []) in let c = as_many in omega arith;
       same = same-more;
-      by_appearance = λ s n k a h. by s n k h (is-at_either ns s k m a);
+      by_appearance = λ s n k a h. by s n k h (is-at_pushed ns s k m a);
     }
       where
         by : (s n k : ℕ) → n < k → Either ns s k m → (t : ℕ) × (t < s) × IsAt (ns ++ m ∷ []) t n
@@ -69,7 +65,7 @@ module _ (cs ns : List ℕ) (next : ℕ) (N : IsNumberedTo cs ns next) (x : ℕ)
   pub numbered-earlier : (e m : ℕ) → IsAt cs e x → IsAt ns e m → IsNumberedTo (cs ++ x ∷ []) (ns ++ m ∷ []) next
   numbered-earlier e m p q = record {
     numbered = numbered-more m (λ s c n a b. let r = N.numbered in r.same s e c x n m a p b q) (λ n h. N.each n (let b = N.below e m q in omega arith));
-    below = λ s n a. by s n (is-at_either ns s n m a);
+    below = λ s n a. by s n (is-at_pushed ns s n m a);
     each = λ n h. let r = N.each n h in (r.0, is-at_left ns (m ∷ []) r.0 n r.1);
     few = let a = length-append cs (x ∷ []) in let b = N.few in omega arith;
   }
@@ -82,7 +78,7 @@ module _ (cs ns : List ℕ) (next : ℕ) (N : IsNumberedTo cs ns next) (x : ℕ)
   pub numbered-new : ((k c : ℕ) → IsAt cs k c → c ≢ x) → IsNumberedTo (cs ++ x ∷ []) (ns ++ next ∷ []) (next + 1)
   numbered-new new = record {
     numbered = numbered-more next (λ s c n a b. (λ e. absurd (let h = N.below s n b in omega arith), λ e. absurd (new s c a e))) (λ n h. N.each n h);
-    below = λ s n a. by s n (is-at_either ns s n next a);
+    below = λ s n a. by s n (is-at_pushed ns s n next a);
     each = λ n h. ⊎_elim (λ k. let r = N.each n k in (r.0, is-at_left ns (next ∷ []) r.0 n r.1)) (λ k. (length ns, subst (λ (i : ℕ). IsAt (ns ++ next ∷ []) (length ns) i) (sym k) (is-at_last ns next))) (less-or-last n next h);
     few = let a = length-append cs (x ∷ []) in let b = N.few in omega arith;
   }

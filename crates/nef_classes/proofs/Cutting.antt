@@ -1,7 +1,7 @@
 -- Rows cut from a list, one after the other.
 use Rattle.nef_classes.proofs.Prelude.{◌≡◌, ℕ, zero, suc, ◌+◌, ◌<◌, ◌≤◌, List, [], ◌∷◌, ◌++◌, length, take, drop, get_or, arith, ap, sym, ◌∙◌, subst, Some, Option, length-append, length-drop, take_at, take-append-le, take_all, get_or-take, IsAt, cell_total, HasCounts, AreStarts, AreCut}
 use Rattle.std.proofs.Common.{length-take}
-use Rattle.nef_classes.proofs.ClassLists.{Either, earlier, last, is-at_either, is-at_take}
+use Rattle.nef_classes.proofs.ClassLists.{Either, earlier, last, is-at_take, is-at_pushed}
 use Rattle.nef_space.proofs.Lists.{is-at_within, is-at_get, is-at_is}
 
 pub total-append : (xs : List ℕ) (y : ℕ) → cell_total (xs ++ y ∷ []) ≡ cell_total xs + y
@@ -12,7 +12,7 @@ total-append (x ∷ xs) y = let e = total-append xs y in omega arith
 pub more-starts : (cs ss : List ℕ) (c : ℕ) → AreStarts cs ss → AreStarts (cs ++ c ∷ []) (ss ++ (cell_total cs + c) ∷ [])
 more-starts cs ss c S = record {
   as_many = let e = S.as_many in let f = length-append ss ((cell_total cs + c) ∷ []) in let g = length-append cs (c ∷ []) in omega arith;
-  each = λ k s a. by k s (is-at_either ss k s (cell_total cs + c) a);
+  each = λ k s a. by k s (is-at_pushed ss k s (cell_total cs + c) a);
 }
   where
     by : (k s : ℕ) → Either ss k s (cell_total cs + c) → s ≡ cell_total (take k (cs ++ c ∷ []))
@@ -36,7 +36,7 @@ take-at n xs k x h a =
 
 -- one more row, cut where the last ends
 pub more-cut : (cs ns : List ℕ) (rows : List (List ℕ)) (c : ℕ) → HasCounts cs rows → AreCut cs ns rows → AreCut (cs ++ c ∷ []) ns (rows ++ take c (drop (cell_total cs) ns) ∷ [])
-more-cut cs ns rows c H C i k n (row, a, b) = by (is-at_either rows i row (take c (drop (cell_total cs) ns)) a)
+more-cut cs ns rows c H C i k n (row, a, b) = by (is-at_pushed rows i row (take c (drop (cell_total cs) ns)) a)
   where
     by : Either rows i row (take c (drop (cell_total cs) ns)) → IsAt ns (cell_total (take i (cs ++ c ∷ [])) + k) n
     by (earlier d) =
@@ -49,7 +49,7 @@ more-cut cs ns rows c H C i k n (row, a, b) = by (is-at_either rows i row (take 
 pub more-counts : (cs ns : List ℕ) (rows : List (List ℕ)) (c : ℕ) → (cell_total cs + c) ≤ length ns → HasCounts cs rows → HasCounts (cs ++ c ∷ []) (rows ++ take c (drop (cell_total cs) ns) ∷ [])
 more-counts cs ns rows c l H = record {
   as_many = let e = H.as_many in let f = length-append rows (take c (drop (cell_total cs) ns) ∷ []) in let g = length-append cs (c ∷ []) in omega arith;
-  row = λ i n r a b. by i n r (is-at_either cs i n c a) (is-at_either rows i r (take c (drop (cell_total cs) ns)) b);
+  row = λ i n r a b. by i n r (is-at_pushed cs i n c a) (is-at_pushed rows i r (take c (drop (cell_total cs) ns)) b);
 }
   where
     cut : length (take c (drop (cell_total cs) ns)) ≡ c

@@ -1,5 +1,4 @@
 pub mod Prelude
-pub mod Chains
 pub mod ClassLists
 pub mod ByAppearance
 mod Places

@@ -1,6 +1,6 @@
 -- The numbers of places are those of the table's elements.
-use Rattle.nef_classes.proofs.Prelude.{◌≡◌, ℕ, zero, suc, ◌<◌, ⊎_elim, List, [], ◌∷◌, map, arith, refl, ap, sym, ◌∙◌, subst, ◌↔◌, Result, Ok, Err, IfOk, option_map, slice_get-map, IsAt, IsChain, Chained, NumbersClasses, Link, AreLinked, AreClasses, AreNumbered, Cell, Tie, cell_total, IsCellIn, cell_number, AreTiedWithin, AreTied, HasCounts, IsCellNumber, AreNumbers, flat_tie, AreCut}
-use Rattle.nef_classes.proofs.Chains.{chain-here, chain-link, chain-trans, chain-turned, chain-map}
+use Rattle.nef_classes.proofs.Prelude.{◌≡◌, ℕ, ◌<◌, ⊎_elim, List, [], ◌∷◌, map, arith, refl, ap, sym, ◌∙◌, subst, ◌↔◌, Result, Ok, Err, IfOk, IsAt, IsChain, Chained, NumbersClasses, Link, AreLinked, AreClasses, AreNumbered, Cell, Tie, cell_total, IsCellIn, cell_number, AreTiedWithin, AreTied, HasCounts, IsCellNumber, AreNumbers, flat_tie, AreCut}
+use Rattle.nef_space.proofs.Chains.{chain-here, chain-link, chain-trans, chain-turned, chain-map}
 use Rattle.nef_space.proofs.Lists.{is-at_one, is-at_within, is-at_some, is-at_map, map-is_at}
 use Rattle.nef_classes.proofs.ByAppearance.{numbers-classes}
 use Rattle.nef_classes.proofs.Places.{same-cell, earlier-cell, cell-at}

@@ -1,14 +1,9 @@
 -- Places of a table's elements when all rows stand one after the other.
-use Rattle.nef_classes.proofs.Prelude.{◌≡◌, ℕ, zero, suc, ◌+◌, ◌-◌, ◌<◌, ◌≤◌, ◌⊎◌, inl, inr, ⊎_elim, List, [], ◌∷◌, Option, Some, take, pos, arith, refl, ap, subst, ints, IsAt, Cell, cell_total, IsCellIn, cell_number, IsCellBelow}
+use Rattle.nef_classes.proofs.Prelude.{◌≡◌, ℕ, zero, suc, ◌+◌, ◌-◌, ◌<◌, ◌⊎◌, inl, inr, ⊎_elim, List, [], ◌∷◌, Option, Some, take, pos, arith, refl, ap, subst, ints, IsAt, Cell, cell_total, IsCellIn, cell_number, IsCellBelow}
+use Rattle.std.proofs.lemmas.Bool.{cases_lt}
 
 some-is : {X : Type 0} (x y : X) → ◌≡◌ {A = Option X} (Some x) (Some y) → x ≡ y
 some-is x y e = cc
-
--- the first of two numbers is less, or isn't
-pub less-or-not : (t c : ℕ) → (t < c) ⊎ (c ≤ t)
-less-or-not t zero = inr (omega arith)
-less-or-not zero (suc c) = inl (omega arith)
-less-or-not (suc t) (suc c) = ⊎_elim (λ h. inl (omega arith)) (λ h. inr (omega arith)) (less-or-not t c)
 
 -- two elements at one place are one
 same : (cs : List ℕ) (i k j l n m : ℕ) → IsAt cs i n → k < n → IsAt cs j m → l < m → cell_total (take i cs) + k ≡ cell_total (take j cs) + l → (i ≡ j) × (k ≡ l)
@@ -44,7 +39,7 @@ cell (c ∷ cs) t h =
     (λ g. let r = cell cs (t - c) (omega arith) in
     let e = r.5 in
     (suc (r.0), r.1, r.2, r.3, r.4, omega arith))
-    (less-or-not t c)
+    (cases_lt t c)
 
 pub cell-at : (cs : List ℕ) (t : ℕ) → t < cell_total cs → (x : Cell) × IsCellIn cs x × (cell_number cs x ≡ t)
 cell-at cs t h =

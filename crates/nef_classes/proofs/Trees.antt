@@ -1,12 +1,13 @@
 -- Trees with shorter ways and the same roots, two trees made one, and classes from trees.
 use Rattle.nef_classes.proofs.Prelude.{◌≡◌, ◌≢◌, ℕ, ◌+◌, ◌<◌, ◌≤◌, ◌⊎◌, inl, inr, ⊎_elim, ◌↔◌, arith, refl, ap, sym, ◌∙◌, subst, List, [], ◌∷◌, ◌++◌, length, take, set, get_or, length-take, length-set, IsAt, Chained, Link, AreLinked, AreClasses, AreOrdered, IsLifted, HasSameTrees, IsParentOrLink, AreTogether, AreRoots}
 use Rattle.std.proofs.lemmas.Bool.Decides.{eqb_tells}
-use Rattle.nef_classes.proofs.Chains.{chain-here, chain-link, chain-trans, chain-turned, chain-keeps, chain-map}
-use Rattle.nef_classes.proofs.ClassLists.{Either, earlier, last, is-at_either}
+use Rattle.nef_space.proofs.Chains.{chain-here, chain-link, chain-trans, chain-turned, chain-keeps, chain-map}
+use Rattle.nef_classes.proofs.ClassLists.{Either, earlier, last, is-at_pushed}
 use Rattle.nef_space.proofs.Lists.{is-at_one, is-at_within, is-at_left, is-at_last, is-at_is}
-use Rattle.nef_classes.proofs.ClassLists.{is-at_take, less-or-last}
+use Rattle.nef_classes.proofs.ClassLists.{is-at_take}
 use Rattle.nef_classes.proofs.Cutting.{take-at}
 use Rattle.nef_classes.proofs.Writes.{set-same, set-other, set-at}
+use Rattle.nef_space.proofs.Elementary.{less-or-last}
 
 -- ---- the same trees
 pub same-trans : (ps qs rs : List ℕ) → HasSameTrees ps qs → HasSameTrees qs rs → HasSameTrees ps rs
@@ -230,7 +231,7 @@ module _ (count : ℕ) (ls : List Link) (link : Link) (ps qs : List ℕ) (T : Ar
       b
 
   from-link : (s t : ℕ) → More s t → Chained (IsParentOrLink link ps) s t
-  from-link s t (k, l, a, e, f) = by (is-at_either ls k l link a)
+  from-link s t (k, l, a, e, f) = by (is-at_pushed ls k l link a)
     where
       by : Either ls k l link → Chained (IsParentOrLink link ps) s t
       by (earlier b) = let c = T.chained s t in

@@ -1,23 +1,21 @@
 -- The ends of an edge, and the planes that hold both.
-use Rattle.nef_complex.proofs.Prelude.{◌≡◌, ℕ, ◌<◌, length, pos, ◌<ℤ◌, arith, ap, ◌∙◌, subst, [], ◌∷◌, ints, at, num, ◌⊖◌, ◌⊗◌, given, none, follows_times, SpacePoint, Form, form_at, slope, toward, SamePoint, IsBetween, Set, IsDirection, point_of, slope-toward, start, start-toward, IsAt, is-at_one, map-is_at, is-at_map, is-at_within, HasEnds, Shows, IsVertexPoint, IsEdgePoint, Vertex, Edge, Complex, vertex_of, edge_of, complex_of, HoldsBoth, direction-left}
+use Rattle.nef_complex.proofs.Prelude.{◌≡◌, ℕ, ◌<◌, length, pos, ap, ◌∙◌, subst, [], ◌∷◌, at, num, ◌⊖◌, ◌⊗◌, given, none, follows_times, SpacePoint, Form, form_at, slope, toward, SamePoint, IsBetween, Set, IsDirection, point_of, slope-toward, start, start-toward, IsAt, is-at_one, map-is_at, is-at_map, is-at_within, HasEnds, Shows, IsVertexPoint, IsEdgePoint, Vertex, Edge, Complex, vertex_of, edge_of, complex_of, HoldsBoth, direction-left}
 use Rattle.law_complex.specs.Complexes.{Vertex as PlainVertex, Edge as PlainEdge}
+use Rattle.nef_space.proofs.Elementary.{weight-positive}
 
 -- a plane through a point between two others, which holds the direction from the one to the other, holds both
 pub through-both : (h : Form) (p q : SpacePoint) → form_at h (start 1 p q) ≡ pos 0 → slope h (toward p q) ≡ pos 0 → HoldsBoth h p q
 through-both h p q e f = (first, second)
   where
-    weight : (r : SpacePoint) → pos 0 <ℤ pos r.w
-    weight r = let m = r.proper in omega (arith, ints)
-
     first : form_at h p ≡ pos 0
     first = follows_times (form_at h p ∷ form_at h (start 1 p q) ∷ slope h (toward p (start 1 p q)) ∷ pos p.w ∷ pos (start 1 p q).w ∷ []) (at 4) (at 0) (num (pos 0))
         (given (num (pos 1)) (at 2) (at 3 ⊗ at 1 ⊖ at 4 ⊗ at 0) (slope-toward h p (start 1 p q))
-        (given (at 3) (at 1) (num (pos 0)) e (given (num (pos 0) ⊖ num (pos 1)) (at 2) (num (pos 0)) (ap (slope h) (start-toward 1 p q) ∙ f) none))) (weight (start 1 p q)) tt
+        (given (at 3) (at 1) (num (pos 0)) e (given (num (pos 0) ⊖ num (pos 1)) (at 2) (num (pos 0)) (ap (slope h) (start-toward 1 p q) ∙ f) none))) (weight-positive (start 1 p q)) tt
 
     second : form_at h q ≡ pos 0
     second = follows_times (form_at h p ∷ form_at h q ∷ slope h (toward p q) ∷ pos p.w ∷ pos q.w ∷ []) (at 3) (at 1) (num (pos 0))
         (given (num (pos 0) ⊖ num (pos 1)) (at 2) (at 3 ⊗ at 1 ⊖ at 4 ⊗ at 0) (slope-toward h p q)
-        (given (at 4) (at 0) (num (pos 0)) first (given (num (pos 1)) (at 2) (num (pos 0)) f none))) (weight p) tt
+        (given (at 4) (at 0) (num (pos 0)) first (given (num (pos 1)) (at 2) (num (pos 0)) f none))) (weight-positive p) tt
 
 -- ---- the ends of an edge exist
 module _ (s : Set) (c : Complex) (S : Shows s (complex_of c)) (k : ℕ) (e : Edge) (a : IsAt c.edges k e) where

@@ -18,3 +18,4 @@ pub mod Walking
 pub mod SamePoints
 pub mod TakenRows
 pub mod Rising
+pub mod TextRows

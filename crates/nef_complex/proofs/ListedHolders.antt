@@ -1,5 +1,6 @@
 -- The listed carriers that hold two points, one after the other.
-use Rattle.nef_complex.proofs.Prelude.{◌≡◌, ℕ, ◌+◌, ◌<◌, ◌≤◌, List, length, arith, subst, ⊎_elim, IsAt, SpacePoint, form_of, Plane, less-or-last, is-at_one, is-at_within, AreNumbersOf, AreHolders, HoldsBoth}
+use Rattle.nef_complex.proofs.Prelude.{◌≡◌, ℕ, ◌+◌, ◌<◌, ◌≤◌, List, length, arith, subst, ⊎_elim, IsAt, SpacePoint, form_of, Plane, is-at_one, is-at_within, AreNumbersOf, AreHolders, HoldsBoth}
+use Rattle.nef_space.proofs.Elementary.{less-or-last}
 
 -- Q of the carriers among the first n of the list
 abbrev pub AllListed : List Plane → List ℕ → ℕ → (Plane → Type 0) → Type 0

@@ -1,24 +1,19 @@
 -- Where a plane parts two points, it crosses the segment between them.
-use Rattle.nef_complex.proofs.Prelude.{◌≡◌, ℕ, ◌<◌, ℤ, pos, ◌+ℤ◌, ◌-ℤ◌, ◌*ℤ◌, ◌<ℤ◌, arith, ap, sym, ◌∙◌, inl, inr, ⊎_elim, [], ◌∷◌, ints, ring, Poly, at, num, ◌⊕◌, ◌⊖◌, ◌⊗◌, given, none, follows, follows_times, mul_pos, mul_neg, by_order, SpacePoint, Form, form_at, slope, toward, IsBetween, Vector, dot, cross, triple, IsZero, IsDirection, HasOppositeSigns, IsMixed, of_point, form-sum, slope-toward, mixed-of, between-turned, slope-zero, HoldsBoth, cross-turned, in-span}
+use Rattle.nef_complex.proofs.Prelude.{◌≡◌, ◌<◌, ℤ, pos, ◌+ℤ◌, ◌-ℤ◌, ◌*ℤ◌, ◌<ℤ◌, arith, ap, sym, ◌∙◌, inl, inr, ⊎_elim, [], ◌∷◌, ints, ring, Poly, at, num, ◌⊕◌, ◌⊖◌, ◌⊗◌, given, none, follows, follows_times, mul_pos, mul_neg, by_order, SpacePoint, Form, form_at, slope, toward, IsBetween, Vector, dot, cross, triple, IsZero, IsDirection, HasOppositeSigns, IsMixed, of_point, form-sum, slope-toward, mixed-of, between-turned, slope-zero, HoldsBoth, cross-turned, in-span}
 use Rattle.law_complex.proofs.FacetAngles.{cut-at}
 use Rattle.nef_space.proofs.Order.{minus-of, plus-of}
+use Rattle.nef_space.proofs.Elementary.{weight-positive, counted-positive, positive-factor}
 
 -- ---- signs of products
 times-none : (k c : ℤ) → c ≡ pos 0 → k *ℤ c ≡ pos 0
 times-none k c o = ap (λ r. k *ℤ r) o ∙ ring (k ∷ []) (at 0 ⊗ num (pos 0)) (num (pos 0)) tt
 
-pub times-nought : (k c : ℤ) → pos 0 <ℤ k → k *ℤ c ≡ pos 0 → c ≡ pos 0
-times-nought k c x h = by_order c (pos 0) (λ l. let u = mul_neg k c x l in absurd (omega (arith, ints))) (λ o. o) (λ l. let u = mul_pos k c x l in absurd (omega (arith, ints)))
-
 -- ---- the sides of the two points
 module _ (h : Form) (p q : SpacePoint) where
   -- a plane that parts two points isn't parallel to the way from the one to the other
   pub parted-slope : HasOppositeSigns (form_at h p) (form_at h q) → slope h (toward p q) ≡ pos 0 → ⊥
-  parted-slope s z = by (form_at h p) (form_at h q) (pos p.w) (pos q.w) (weight p) (weight q) s (sym (slope-toward h p q) ∙ z)
+  parted-slope s z = by (form_at h p) (form_at h q) (pos p.w) (pos q.w) (weight-positive p) (weight-positive q) s (sym (slope-toward h p q) ∙ z)
     where
-      weight : (r : SpacePoint) → pos 0 <ℤ pos r.w
-      weight r = let m = r.proper in omega (arith, ints)
-
       by : (a b k l : ℤ) → pos 0 <ℤ k → pos 0 <ℤ l → HasOppositeSigns a b → k *ℤ b -ℤ l *ℤ a ≡ pos 0 → ⊥
       by a b k l x y (inl (m, n)) e = let i = mul_pos k b x n in let j = mul_neg l a y m in omega (arith, ints)
       by a b k l x y (inr (m, n)) e = let i = mul_neg k b x n in let j = mul_pos l a y m in omega (arith, ints)
@@ -54,10 +49,7 @@ module _ (h : Form) (p q : SpacePoint) where
     -- a plane that holds both points holds those between
     pub held-between : HoldsBoth h p q → form_at h y ≡ pos 0
     held-between (e, f) = follows_times (form_at h p ∷ form_at h q ∷ form_at h y ∷ pos mixed.k ∷ pos mixed.i ∷ pos mixed.j ∷ []) (at 3) (at 2) (num (pos 0))
-        (given (num (pos 1)) (at 3 ⊗ at 2) (at 4 ⊗ at 0 ⊕ at 5 ⊗ at 1) sum (given (at 4) (at 0) (num (pos 0)) e (given (at 5) (at 1) (num (pos 0)) f none))) (some mixed.k mixed.some_k) tt
-      where
-        some : (k : ℕ) → 0 < k → pos 0 <ℤ pos k
-        some k s = omega (arith, ints)
+        (given (num (pos 1)) (at 3 ⊗ at 2) (at 4 ⊗ at 0 ⊕ at 5 ⊗ at 1) sum (given (at 4) (at 0) (num (pos 0)) e (given (at 5) (at 1) (num (pos 0)) f none))) (counted-positive mixed.k mixed.some_k) tt
 
     -- and one that passes between them and doesn't hold both parts them
     pub crossed-parted : form_at h y ≡ pos 0 → (HoldsBoth h p q → ⊥) → HasOppositeSigns (form_at h p) (form_at h q)
@@ -68,7 +60,7 @@ module _ (h : Form) (p q : SpacePoint) where
         by : (a b i j : ℤ) → pos 0 <ℤ i → pos 0 <ℤ j → ((a ≡ pos 0) × (b ≡ pos 0) → ⊥) → i *ℤ a +ℤ j *ℤ b ≡ pos 0 → HasOppositeSigns a b
         by a b i j x y n s = by_order a (pos 0)
             (λ m. let u = mul_neg i a x m in inl (m, plus-of j b y (omega (arith, ints))))
-            (λ o. let u = times-none i a o in absurd (n (o, times-nought j b y (omega (arith, ints)))))
+            (λ o. let u = times-none i a o in absurd (n (o, positive-factor j b y (omega (arith, ints)))))
             (λ m. let u = mul_pos i a x m in inr (m, minus-of j b y (omega (arith, ints))))
 
 -- ---- three planes

@@ -1,5 +1,6 @@
 -- The carriers of a complex among others, and the row of a vertex that is renumbered.
-use Rattle.nef_complex.proofs.Prelude.{◌≡◌, ℕ, ◌+◌, ◌<◌, ◌≤◌, ◌⊎◌, inl, inr, ⊎_elim, List, [], ◌∷◌, ◌++◌, length, length-append, arith, refl, sym, subst, ◌∙◌, IsAt, IsBelow, form_numbers, form_of, Plane, less-or-last, is-at_one, is-at_within, is-at_some, is-at_left, is-at_last, Either, earlier, last, is-at_either, AreInOrder, AreRead, HasEntry, DoRise, StandsAmong, AreTaken, AreAdded}
+use Rattle.nef_complex.proofs.Prelude.{◌≡◌, ℕ, ◌+◌, ◌<◌, ◌≤◌, ◌⊎◌, inl, inr, ⊎_elim, List, [], ◌∷◌, ◌++◌, length, length-append, arith, refl, sym, subst, ◌∙◌, IsAt, IsBelow, form_numbers, form_of, Plane, is-at_one, is-at_within, is-at_some, is-at_left, is-at_last, Either, earlier, last, is-at_pushed, AreInOrder, AreRead, HasEntry, DoRise, StandsAmong, AreTaken, AreAdded}
+use Rattle.nef_space.proofs.Elementary.{less-or-last}
 
 -- ---- entries
 pub entry-left : (ns : List ℕ) (n k : ℕ) → HasEntry ns k → HasEntry (ns ++ n ∷ []) k
@@ -40,9 +41,9 @@ module _ (gs hs : List Plane) (n : ℕ) (ns : List ℕ) (others : List Plane) (k
   -- the next of all is the next of gs
   pub walked-taken : IsAt gs (length ns) h → AreWalked gs hs (n + 1) (ns ++ n ∷ []) others ks
   walked-taken there = record {
-    each = λ i k a. each i k (is-at_either ns i k n a);
-    below = λ i k a. below i k (is-at_either ns i k n a);
-    rise = λ i j k l h a b. rise i j k l h (is-at_either ns i k n a) (is-at_either ns j l n b);
+    each = λ i k a. each i k (is-at_pushed ns i k n a);
+    below = λ i k a. below i k (is-at_pushed ns i k n a);
+    rise = λ i j k l h a b. rise i j k l h (is-at_pushed ns i k n a) (is-at_pushed ns j l n b);
     others_enough = W.others_enough;
     others_each = λ i k a. let o = W.others_each i k a in (omega arith, o.1);
     all = λ k l. ⊎_elim (λ m. ⊎_elim (λ e. inl (entry-left ns n k e)) (λ e. inr e) (W.all k m))
@@ -71,10 +72,10 @@ module _ (gs hs : List Plane) (n : ℕ) (ns : List ℕ) (others : List Plane) (k
     below = λ i k a. let l = W.below i k a in omega arith;
     rise = W.rise;
     others_enough = let e = W.others_enough in let a = length-append ks (n ∷ []) in let b = length-append others (h ∷ []) in omega arith;
-    others_each = λ i k a. each i k (is-at_either ks i k n a);
+    others_each = λ i k a. each i k (is-at_pushed ks i k n a);
     all = λ k l. ⊎_elim (λ m. ⊎_elim (λ e. inl e) (λ e. inr (entry-left ks n k e)) (W.all k m))
         (λ e. inr (subst (HasEntry (ks ++ n ∷ [])) (sym e) (entry-last ks n))) (less-or-last k n l);
-    ordered = λ i j a b l p q. ordered i j a b l (is-at_either others i a h p) (is-at_either others j b h q);
+    ordered = λ i j a b l p q. ordered i j a b l (is-at_pushed others i a h p) (is-at_pushed others j b h q);
   }
     where
       each : (i k : ℕ) → Either ks i k n → (k < n + 1) × StandsAmong (others ++ h ∷ []) hs i k
@@ -120,7 +121,7 @@ added-more table places n j m old new here there A = record {
       let one : k ≡ m = is-at_one table j k m (subst (λ (r : ℕ). IsAt table r k) same b) there in
       subst (HasEntry (new ++ m ∷ [])) (sym one) (entry-last new m))
       (less-or-last i n l);
-  only = λ k (i, a). only k i (is-at_either new i k m a);
+  only = λ k (i, a). only k i (is-at_pushed new i k m a);
 }
   where
     only : (k i : ℕ) → Either new i k m → HasEntry old k ⊎ ((i : ℕ) × (j : ℕ) × (i < n + 1) × IsAt places i j × IsAt table j k)

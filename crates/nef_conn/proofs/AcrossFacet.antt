@@ -2,7 +2,7 @@
 use Rattle.nef_conn.proofs.Prelude.{◌≡◌, pos, arith, inl, inr, ints, Chained, FlatDim, SpacePoint, Form, form_at, normal_of, toward, IsBetween, Set, Vector, opposite, dot, IsDirection, SameDirection, plane_dir, between-turned, item_normal, OnItem, ahead, on-direction, normal-is, Vertex, Complex, Corner, Shows, IsInFacetOf, item_plane, RayNames, IsFlatIn, plane-ahead, LinkAcross, FacetLink, through-same, facet-near, ahead-toward, even-after, on_item-way, way_inward, level-of_opposite, SameDirection-turned, SameDirection-trans, opposite-same}
 use Rattle.nef_conn.proofs.WayInward.{dir-same, names-same}
 use Rattle.nef_conn.proofs.Named
-use Rattle.nef_conn.proofs.Chain.{chain-here, chain-before}
+use Rattle.nef_space.proofs.Chains.{chain-here, chain-before}
 use Rattle.nef_conn.proofs.Sector.{Through, Stops}
 use Rattle.nef_conn.proofs.FacetStrip.{Strip, m-some, short-of, angle-ahead}
 use Rattle.nef_conn.proofs.Beside.{turn-to, near, near-onward, Beside, off-edges, fan-beside}

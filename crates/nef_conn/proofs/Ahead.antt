@@ -1,8 +1,8 @@
 -- From vertex to vertex along y's line, to the corner that z's ray names.
-use Rattle.nef_conn.proofs.Prelude.{◌≡◌, ℕ, ◌<◌, ◌≤◌, ◌+◌, zero, suc, pos, length, arith, ◌∙◌, ◌⊎◌, inl, inr, ⊎_elim, subst, cases_order, Chained, FlatDim, SpacePoint, Form, form_at, normal_of, SamePoint, toward, IsBetween, IsPointBelow, Set, Vector, opposite, cross, SameDirection, plane_dir, point-toward, IsAt, is-at_one, normal-direction, Vertex, Complex, Corner, Shows, RayNames, IsFlatIn, between-way, same-itself, through-at, ahead-back, FacetLink, dot-zero, SameDirection-turned, SameDirection-trans, dir-self, direction-left}
+use Rattle.nef_conn.proofs.Prelude.{◌≡◌, ℕ, ◌<◌, ◌≤◌, ◌+◌, zero, suc, pos, length, arith, ◌∙◌, ◌⊎◌, inl, inr, ⊎_elim, subst, cases_order, Chained, FlatDim, SpacePoint, Form, form_at, normal_of, SamePoint, toward, IsBetween, IsPointBelow, Set, Vector, opposite, cross, SameDirection, plane_dir, point-toward, IsAt, is-at_one, normal-direction, Vertex, Complex, Corner, Shows, RayNames, IsFlatIn, between-way, through-at, ahead-back, FacetLink, dot-zero, SameDirection-turned, SameDirection-trans, dir-self, direction-left}
 use Rattle.law_sphere.proofs.Builder.{normal-either}
-use Rattle.nef_conn.proofs.Reached.{Rises, never-both, toward-normal}
-use Rattle.nef_conn.proofs.Chain.{chain-both}
+use Rattle.nef_conn.proofs.Reached.{Rises, never-both}
+use Rattle.nef_space.proofs.Chains.{chain-trans}
 use Rattle.nef_conn.proofs.Sector.{Through, Stops, turned}
 use Rattle.nef_conn.proofs.FacetStrip.{Strip, m-some, turn-z}
 use Rattle.nef_conn.proofs.Beside.{near}
@@ -12,6 +12,8 @@ use Rattle.nef_conn.proofs.OverEdge.{over-edge}
 use Rattle.nef_conn.proofs.AcrossFacet.{facet-ahead}
 use Rattle.nef_conn.proofs.FromFacet.{from-facet}
 use Rattle.nef_space.proofs.Lists.{is-at_within}
+use Rattle.law_near.proofs.Normals.{toward-normal}
+use Rattle.nef_space.proofs.Elementary.{same-itself}
 
 module _ (s : Set) (C : Complex) (S : Shows s C) (h g : Form) (d : Vector) (y z : SpacePoint) (T : Strip s C h g d y z) (inward : SameDirection (opposite (plane_dir (normal_of h))) d) (l : Corner) (named : RayNames C h z d l) where
   abbrev n : Vector
@@ -36,7 +38,7 @@ module _ (s : Set) (C : Complex) (S : Shows s C) (h g : Form) (d : Vector) (y z 
       through : Through N.vertex.map N.item n m (toward N.vertex.point z) d → Chained (FacetLink C) k l ⊎ Goes_on s C S h g d y z T k N
       through E =
           let A = facet-ahead s C S h g d y z T k N E inward in
-          ⊎_elim (λ c. inl (chain-both (FacetLink C) k A.corner l A.chain c))
+          ⊎_elim (λ c. inl (chain-trans (FacetLink C) k A.corner l A.chain c))
           (λ r. let M = r.0 in
           let b = SameDirection-trans (toward N.vertex.point A.place) d (toward A.place M.vertex.point) A.ahead (SameDirection-turned (toward A.place M.vertex.point) d r.1) in
           inr (A.corner, M, A.chain, SameDirection-trans (toward N.vertex.point M.vertex.point) (toward N.vertex.point A.place) d (SameDirection-turned (toward N.vertex.point A.place) (toward N.vertex.point M.vertex.point) (between-way N.vertex.point A.place M.vertex.point b)) A.ahead))
@@ -47,7 +49,7 @@ module _ (s : Set) (C : Complex) (S : Shows s C) (h g : Form) (d : Vector) (y z 
     run : (f : ℕ) (k : Corner) → Is_beside k → Left k.vertex f → Chained (FacetLink C) k l
     run zero k N e = absurd (spent k.vertex N.vertex N.corner.vertex e)
     run (suc f) k N e = ⊎_elim (λ c. c)
-        (λ (r : Goes_on s C S h g d y z T k N). chain-both (FacetLink C) k r.0 l r.2 (run f r.0 r.1 (burn k.vertex (r.0).vertex f N.vertex r.1.vertex N.corner.vertex r.1.corner.vertex r.3 e)))
+        (λ (r : Goes_on s C S h g d y z T k N). chain-trans (FacetLink C) k r.0 l r.2 (run f r.0 r.1 (burn k.vertex (r.0).vertex f N.vertex r.1.vertex N.corner.vertex r.1.corner.vertex r.3 e)))
         (step k N)
 
   -- vertices ahead have greater numbers, or smaller

@@ -1,6 +1,6 @@
 -- From a vertex beside which z lies, whose arc goes on along an edge ahead, to the vertex at the edge's other end.
 use Rattle.nef_conn.proofs.Prelude.{◌≡◌, ℕ, pos, neg_ℤ, ◌<ℤ◌, arith, refl, ◌⊎◌, inl, inr, ⊎_elim, subst, ints, Chained, FlatDim, SpacePoint, Form, form_at, normal_of, toward, IsBetween, Set, Vector, opposite, dot, triple, IsDirection, SameDirection, cross, between-turned, Arc, Item, item_normal, OnItem, Shaped, Vertex, Complex, Corner, IsCorner, Shows, plane-ahead, FacetLink, on_item-way, level-of_opposite, triple-turned, SameDirection-turned, SameDirection-trans, opposite-same, direction-opposite, right-turn, opposite-dot}
-use Rattle.nef_conn.proofs.Chain.{chain-here, chain-before}
+use Rattle.nef_space.proofs.Chains.{chain-here, chain-before}
 use Rattle.nef_conn.proofs.Sector.{Seen, sector_end, seen-back, Through, Stops, turned}
 use Rattle.nef_conn.proofs.Leads.{LeadsFrom, leads, link-of}
 use Rattle.nef_conn.proofs.FacetStrip.{Strip, m-some, short-of, angle-ahead, turn-z}

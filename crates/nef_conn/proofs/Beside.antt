@@ -1,10 +1,12 @@
 -- Vertices of y's line beside which z lies, on an item of the plane; and how one comes from one of them to the next.
-use Rattle.nef_conn.proofs.Prelude.{◌≡◌, ℕ, ℤ, pos, ◌<ℤ◌, ◌≤ℤ◌, arith, refl, sym, ◌∙◌, ◌⊎◌, inl, inr, ⊎_elim, subst, ints, FlatDim, SpacePoint, Form, form_at, normal_of, slope, SamePoint, toward, IsBetween, Set, Vector, opposite, dot, cross, triple, IsZero, IsDirection, SameDirection, FlatDim-one, between-turned, between-inner, same-point_sym, between-same, toward-point, point-toward, IsAt, MapVertex, Item, item_normal, OnItem, same-plus, turn-last, turn-same, Vertex, Complex, Corner, IsCorner, Shows, plane-way, between-way, same-itself, near_point, near-between, dim-same, plane-ahead, beside-vertex, item-seen, ahead-same, through-level, toward-turned, angle, turn_form, turn-at, angle-turned, angle-self, between-plus, Cut, HalfEdge, plane-between, dot-zero, triple-dot, triple-turned, SameDirection-turned, SameDirection-trans, dir-self, back-triple}
+use Rattle.nef_conn.proofs.Prelude.{◌≡◌, ℕ, ℤ, pos, ◌<ℤ◌, ◌≤ℤ◌, arith, refl, sym, ◌∙◌, ◌⊎◌, inl, inr, ⊎_elim, subst, ints, FlatDim, SpacePoint, Form, form_at, normal_of, slope, SamePoint, toward, IsBetween, Set, Vector, opposite, dot, cross, triple, IsZero, IsDirection, SameDirection, FlatDim-one, between-turned, between-inner, same-point_sym, between-same, toward-point, point-toward, IsAt, MapVertex, Item, item_normal, OnItem, same-plus, turn-last, turn-same, Vertex, Complex, Corner, IsCorner, Shows, plane-way, between-way, near_point, near-between, plane-ahead, beside-vertex, item-seen, ahead-same, through-level, toward-turned, angle, turn_form, turn-at, angle-turned, angle-self, between-plus, Cut, HalfEdge, plane-between, dot-zero, triple-dot, triple-turned, SameDirection-turned, SameDirection-trans, dir-self, back-triple}
 use Rattle.nef_conn.proofs.Sweep.{minus-any, cut-of}
 use Rattle.nef_conn.proofs.FacetStrip.{SideWithin}
 use Rattle.nef_conn.proofs.Sector.{sector_end, Through, Stops, turned}
 use Rattle.nef_conn.proofs.Leads.{LeadsFrom, leads}
 use Rattle.nef_conn.proofs.FacetStrip.{Strip, Near_line, Far_line, m-some, turn-k, strip, near-turn, short-of, turn-z, angle-ahead, angle-over, angle-under, On_far_line, at_start, ahead_of, behind_of, on-far_line, fan, not-at, not-behind}
+use Rattle.law_near.proofs.Same.{dim-same}
+use Rattle.nef_space.proofs.Elementary.{same-itself}
 
 -- the same turns by the same ways
 turn-from : (m a b f : Vector) → IsDirection m → IsDirection f → SameDirection a b → pos 0 <ℤ triple m a f → pos 0 <ℤ triple m b f
@@ -132,9 +134,6 @@ module _ (s : Set) (C : Complex) (S : Shows s C) (h g : Form) (d : Vector) (y z 
 
     pub off-edges : FlatDim s w 1 → ⊥
     off-edges f = vertex-not 1 k.vertex w N.vertex N.corner.vertex (same-itself w) (omega (arith, ints)) f
-
-    leads-z : IsDirection (toward w z)
-    leads-z q = let o = turn-z s C S h g d y z T w N.on_line in let e = turn-k s C S h g d y z T (toward w z) in let f = dot-zero (cross d m) (toward w z) q in omega (arith, ints)
 
     module _ (c : SpacePoint) (on-c : form_at h c ≡ pos 0) (near-c : pos 0 ≤ℤ form_at near c) (far-c : form_at far c ≤ℤ pos 0) (turn : pos 0 <ℤ angle m w z c) (second : SideWithin s w c)
         (holds : (e : Vector) → IsDirection e → dot n e ≡ pos 0 → pos 0 <ℤ triple m (toward w z) e → pos 0 <ℤ triple m e (toward w c) → OnItem N.vertex.map N.item e) where

@@ -1,6 +1,6 @@
 -- Where the fall from y ends at y', what falls from b beside it names a side of the class of what lies above y', if that is known for y' where it is a vertex of the plane; and so what falls from b beside a vertex of the plane names a side of the class of what touches it, if that is known of what lies below it, and of what touches it downward and what the ray down from it names.
-use Rattle.nef_conn.proofs.Prelude.{◌≡◌, ℕ, zero, suc, ◌<◌, ℤ, pos, ◌-ℤ◌, ◌*ℤ◌, ◌<ℤ◌, neg_ℤ, arith, ap, sym, ◌∙◌, ◌⊎◌, inl, inr, ⊎_elim, ◌∷◌, subst, [], ints, sign, by_order, sign-plus, sign-minus, sign-scaled, ring, at, num, neg, ◌⊕◌, ◌⊖◌, ◌⊗◌, same-nought, same-plus, same-minus, Chained, Flat, FlatDim, SpacePoint, Form, form_at, normal_of, slope, plane_through, SamePoint, InFrame, toward, IsBetween, Set, Vector, blend, opposite, dot, cross, IsZero, IsDirection, SameDirection, up, carriers, SameGerms, FlatDim-one, FlatDim-by_germs, germs-by_cell, between-turned, between-inner, ray-cell, ahead, near-ahead, start-close, start-toward, even-germs, flat_dim-of, near-of_flat, FlatCone-from_flat, same-point_sym, flat_dim-nearby, flat-plane, reach_all, slope-toward, Complex, Shows, VertexSide, RayDown, IsFlatIn, near_point, near-between, through-at, through-slope, ahead-back, plane-between, dim-same, plane-ahead, even-by, between-way, between-outer, same-itself, VolumeLink, IsUpright, IsEvenAfter, ahead-close, ahead-toward, tied-ray, AreLinkedWhereJoined, sliced, dot-comm, zero-decided, triple-dot, triple-turned, SameDirection-turned, SameDirection-trans, dir-self, dir-signs, in-span, dot-opposite, level-way, opposite-twice, direction-left, blend-turned}
-use Rattle.nef_conn.proofs.Chain.{chain-both}
+use Rattle.nef_conn.proofs.Prelude.{◌≡◌, ℕ, zero, suc, ◌<◌, ℤ, pos, ◌-ℤ◌, ◌*ℤ◌, ◌<ℤ◌, neg_ℤ, arith, ap, sym, ◌∙◌, ◌⊎◌, inl, inr, ⊎_elim, ◌∷◌, subst, [], ints, sign, by_order, sign-plus, sign-minus, sign-scaled, ring, at, num, neg, ◌⊕◌, ◌⊖◌, ◌⊗◌, same-nought, same-plus, same-minus, Chained, Flat, FlatDim, SpacePoint, Form, form_at, normal_of, slope, plane_through, SamePoint, InFrame, toward, IsBetween, Set, Vector, blend, opposite, dot, cross, IsZero, IsDirection, SameDirection, up, carriers, SameGerms, FlatDim-one, FlatDim-by_germs, germs-by_cell, between-turned, between-inner, ray-cell, ahead, near-ahead, start-close, start-toward, even-germs, flat_dim-of, near-of_flat, FlatCone-from_flat, same-point_sym, flat_dim-nearby, flat-plane, reach_all, slope-toward, Complex, Shows, VertexSide, RayDown, IsFlatIn, near_point, near-between, through-at, through-slope, ahead-back, plane-between, plane-ahead, even-by, between-way, between-outer, VolumeLink, IsUpright, IsEvenAfter, ahead-close, ahead-toward, tied-ray, AreLinkedWhereJoined, sliced, dot-comm, zero-decided, triple-dot, triple-turned, SameDirection-turned, SameDirection-trans, dir-self, dir-signs, in-span, dot-opposite, level-way, opposite-twice, direction-left, blend-turned}
+use Rattle.nef_space.proofs.Chains.{chain-trans}
 use Rattle.nef_conn.proofs.Fall.{corner-two, corner-wedge, lam-down, lam-zero}
 use Rattle.nef_conn.proofs.Fans.{off-close}
 use Rattle.nef_conn.proofs.Hits.{Over, ray-over}
@@ -12,6 +12,9 @@ use Rattle.nef_conn.proofs.OneOver.{over-one, facet-dim, edge-dim, vertex-dim}
 use Rattle.nef_conn.proofs.RaysEnd.{tied-dim}
 use Rattle.nef_conn.proofs.Silhouettes.{sliced-off, germs-inside, resliced, two-of, germs-of, three-of, no-vertices, some-flat, even-hit, flatness}
 use Rattle.nef_conn.proofs.SliceStrip.{lam, Clear}
+use Rattle.nef_space.proofs.Vectors.{neg-zero}
+use Rattle.law_near.proofs.Same.{dim-same}
+use Rattle.nef_space.proofs.Elementary.{same-itself}
 
 module _ (s : Set) (C : Complex) (S : Shows s C) (upright : IsUpright C) (linked : AreLinkedWhereJoined s C) (h : Form) (hn : IsDirection (normal_of h)) (level : slope h up ≡ pos 0) where
   abbrev n : Vector
@@ -51,11 +54,8 @@ module _ (s : Set) (C : Complex) (S : Shows s C) (upright : IsUpright C) (linked
           let m : sign (neg_ℤ f) ≡ sign (neg_ℤ v) = sym left ∙ w ∙ right in
           by_order f (pos 0)
           (λ l. sign-minus f l ∙ sym (sign-minus v (let k = same-plus (neg_ℤ f) (neg_ℤ v) (sym m) (omega (arith, ints)) in omega (arith, ints))))
-          (λ l. ap sign l ∙ sym (ap sign (let k = same-nought (neg_ℤ f) (neg_ℤ v) (sym m) (omega (arith, ints)) in zero-of v k)))
+          (λ l. ap sign l ∙ sym (ap sign (let k = same-nought (neg_ℤ f) (neg_ℤ v) (sym m) (omega (arith, ints)) in neg-zero v k)))
           (λ l. sign-plus f l ∙ sym (sign-plus v (let k = same-minus (neg_ℤ f) (neg_ℤ v) (sym m) (omega (arith, ints)) in omega (arith, ints))))
-        where
-          zero-of : (v : ℤ) → neg_ℤ v ≡ pos 0 → v ≡ pos 0
-          zero-of v k = omega (arith, ints)
 
   -- at a vertex of the plane no direction of the plane is flat for the set
   pub not-flat : (y : SpacePoint) (d : Vector) → form_at h y ≡ pos 0 → slope h d ≡ pos 0 → IsDirection d → FlatDim (sliced s h) y 0 → Flat s y d → ⊥
@@ -213,7 +213,7 @@ module _ (s : Set) (C : Complex) (S : Shows s C) (upright : IsUpright C) (linked
     by-vertex v =
         let B = beside-over s C S upright linked y' x (λ two. not-facet y' on-y' v two) A in
         let T = turn-beside s C S upright linked y' up (toward y' b) x free-up free-toward up-wedge B in
-        chain-both (VolumeLink C) x T.0 z T.2
+        chain-trans (VolumeLink C) x T.0 z T.2
         (claim v b T.0 z on-b (side' (sliced s h) h hn level y y' b on-y on-y' on-b down side clear first-two second-two F corner) (clear' (sliced s h) h hn level y y' b on-y on-y' on-b down side clear first-two second-two F corner)
         (λ u m. free-b u (between-turned y' b u m)) three inside T.1 R)
 

@@ -1,19 +1,18 @@
 -- Where no edge runs along up, the direction down is free at each vertex and edge; and a side that sees down from a vertex is linked with what the ray down names.
-use Rattle.nef_conn.proofs.Prelude.{◌≡◌, ℕ, ◌≤◌, ℤ, pos, ◌+ℤ◌, ◌-ℤ◌, ◌*ℤ◌, ◌<ℤ◌, neg_ℤ, arith, sym, ◌∙◌, ◌⊎◌, inl, inr, ⊎_elim, ◌∷◌, subst, [], ints, ring, at, num, neg, ◌⊕◌, ◌⊖◌, ◌⊗◌, Chained, FlatDim, SpacePoint, InFrame, toward, IsBetween, Set, Vector, blend, dot, cross, opposite, IsZero, IsDirection, SameDirection, up, Out, same-point_sym, between-same, same-nought, forms, Keeps, between-inner, IsAt, MapVertex, Map, Item, items, item_normal, IsFree, Sees, Shaped, direction-around, svertex-around, PlaceOf, svertex_place, item_place, free_place, place_of, item-forms, normal-form, on-level, amount, far-keeps, far-level, Vertex, Complex, Shows, VertexSide, RayDown, near_point, near-between, dim-same, between-way, same-itself, VolumeLink, IsUpright, IsEvenAfter, IsAtSide, sees-way, AreLinkedWhereJoined, nought-or, SameDirection-turned, SameDirection-trans, dot-opposite, direction-left}
-use Rattle.nef_conn.proofs.Chain.{chain-one}
+use Rattle.nef_conn.proofs.Prelude.{◌≡◌, ℕ, ◌≤◌, ℤ, pos, ◌+ℤ◌, ◌-ℤ◌, ◌*ℤ◌, ◌<ℤ◌, neg_ℤ, arith, sym, ◌∙◌, ◌⊎◌, inl, inr, ⊎_elim, ◌∷◌, subst, [], ints, ring, at, num, ◌⊕◌, ◌⊖◌, ◌⊗◌, Chained, FlatDim, SpacePoint, InFrame, toward, IsBetween, Set, Vector, blend, dot, cross, opposite, IsZero, IsDirection, SameDirection, up, Out, same-point_sym, between-same, same-nought, forms, Keeps, between-inner, IsAt, MapVertex, Map, Item, items, item_normal, IsFree, Sees, Shaped, direction-around, svertex-around, PlaceOf, svertex_place, item_place, free_place, place_of, item-forms, normal-form, on-level, amount, far-keeps, far-level, Vertex, Complex, Shows, VertexSide, RayDown, near_point, near-between, between-way, VolumeLink, IsUpright, IsEvenAfter, IsAtSide, sees-way, AreLinkedWhereJoined, nought-or, SameDirection-turned, SameDirection-trans, dot-opposite, direction-left}
+use Rattle.nef_space.proofs.Chains.{chain-link}
 use Rattle.nef_conn.proofs.SidePaths.{side-label, inside-label}
 use Rattle.nef_conn.proofs.Leaves.{BesideVertex, toward-same}
 use Rattle.nef_conn.proofs.Touch.{no-way}
+use Rattle.nef_space.proofs.Elementary.{minor-opposite_back, same-itself}
+use Rattle.law_near.proofs.Same.{dim-same}
 
 pub down-some : IsDirection (opposite up)
 down-some z = let e = z.2 in omega (arith, ints)
 
 -- along down is along up
 pub along-up : (d : Vector) → IsZero (cross d (opposite up)) → IsZero (cross d up)
-along-up d z = (each d.y d.z up.y up.z z.0, each d.z d.x up.z up.x z.1, each d.x d.y up.x up.y z.2)
-  where
-    each : (a b c e : ℤ) → a *ℤ neg_ℤ e -ℤ b *ℤ neg_ℤ c ≡ pos 0 → a *ℤ e -ℤ b *ℤ c ≡ pos 0
-    each a b c e z = let r = ring (a ∷ b ∷ c ∷ e ∷ []) (at 0 ⊗ neg (at 3) ⊖ at 1 ⊗ neg (at 2)) (neg (at 0 ⊗ at 3 ⊖ at 1 ⊗ at 2)) tt in omega (arith, ints)
+along-up d z = (minor-opposite_back d.y d.z up.y up.z z.0, minor-opposite_back d.z d.x up.z up.x z.1, minor-opposite_back d.x d.y up.x up.y z.2)
 
 module _ (s : Set) (C : Complex) (S : Shows s C) (upright : IsUpright C) (linked : AreLinkedWhereJoined s C) where
   module _ (i : ℕ) (v : Vertex) (a : IsAt C.vertices i v) where
@@ -63,7 +62,7 @@ module _ (s : Set) (C : Complex) (S : Shows s C) (upright : IsUpright C) (linked
 
   -- the link down
   pub vertex-falls : (y : SpacePoint) (x x2 : VertexSide) → BesideVertex s C S upright linked y (opposite up) x → (R : RayDown C y x2) → ((r : SpacePoint) → IsBetween y r R.place → FlatDim s r 3 × InFrame r) → Chained (VolumeLink C) x x2
-  vertex-falls y x x2 (i, v, a, e, T) R second = chain-one (VolumeLink C) x x2 (inr (inr (inr (inl (record {
+  vertex-falls y x x2 (i, v, a, e, T) R second = chain-link (VolumeLink C) x x2 (inr (inr (inr (inl (record {
     vertex = v;
     is_vertex = listed;
     label = T.seer.label;

@@ -1,6 +1,6 @@
 -- What touches an edge downward is linked with what the ray down from a point of the edge names: the points just below the edge lead to its lower end, and what falls from them is known, as are the claims at the lower end.
-use Rattle.nef_conn.proofs.Prelude.{◌≡◌, ℕ, ◌+◌, ◌<◌, ◌≤◌, ℤ, pos, ◌-ℤ◌, ◌*ℤ◌, ◌<ℤ◌, ◌≤ℤ◌, neg_ℤ, arith, refl, ap, sym, ◌∙◌, ◌⊎◌, inl, inr, ⊎_elim, List, ◌∷◌, subst, [], ints, nought, sign, Lies, each, lies-each, ring, at, num, ◌⊕◌, ◌⊖◌, ◌⊗◌, by_order, nought-is, sign-scaled, nought-or, Chained, Flat, FlatDim, IsVertex, IsEven, SpacePoint, Form, form_at, normal_of, slope, plane_through, SamePoint, InFrame, Within, toward, IsBetween, Set, Vector, blend, dot, cross, triple, opposite, IsDirection, SameDirection, up, sign_at, carriers, SameGerms, FlatDim-one, FlatDim-by_germs, germs-by_cell, between-turned, between-inner, ray-cell, keeps-all, is_nought, ahead, near-ahead, start, start-close, start-between, start-toward, even-germs, flat-nearby, flat-way, joined-germs, joined-turned, span-2, flat_dim-of, near-of_flat, Flat-from_cone, FlatCone-from_flat, steep, signs-same, same-point_sym, all-vertices, reach_all, slope-toward, point-toward, between-same, same-nought, forms, SameSigns, IsAt, cross-self, amount, far-keeps, far-level, turn-last, turn-same, same-plus, same-minus, Vertex, Edge, Complex, HasEnds, Shows, VertexSide, RayDown, IsFlatIn, near_point, near-between, edge-points, through-at, through-slope, angle, turn_form, turn-at, angle-turned, angle-self, between-minus, through-level, plane-between, dim-same, plane-ahead, even-by, between-way, between-outer, between-start, same-itself, VolumeLink, IsUpright, IsEvenAfter, through-same, EdgeWays, edge-ways, free-dim, ahead-close, ahead-toward, dim-cell, tied-ray, tied-turned, AreLinkedWhereJoined, IsInTriangle, sliced, dot-zero, self-pos, cross-turned, triple-turned, SameDirection-turned, SameDirection-trans, dir-self, dir-signs, parallel-trans, dot-opposite, triple-in_plane, direction-left, direction-right, apart}
-use Rattle.nef_conn.proofs.Chain.{chain-both}
+use Rattle.nef_conn.proofs.Prelude.{◌≡◌, ℕ, ◌+◌, ◌<◌, ◌≤◌, ℤ, pos, ◌-ℤ◌, ◌*ℤ◌, ◌<ℤ◌, ◌≤ℤ◌, neg_ℤ, arith, refl, ap, sym, ◌∙◌, ◌⊎◌, inl, inr, ⊎_elim, List, ◌∷◌, subst, [], ints, nought, sign, Lies, each, lies-each, ring, at, num, ◌⊕◌, ◌⊖◌, ◌⊗◌, by_order, nought-is, sign-scaled, nought-or, Chained, Flat, FlatDim, IsVertex, IsEven, SpacePoint, Form, form_at, normal_of, slope, plane_through, SamePoint, InFrame, Within, toward, IsBetween, Set, Vector, blend, dot, cross, triple, opposite, IsDirection, SameDirection, up, sign_at, carriers, SameGerms, FlatDim-one, FlatDim-by_germs, germs-by_cell, between-turned, between-inner, ray-cell, keeps-all, is_nought, ahead, near-ahead, start, start-close, start-between, start-toward, even-germs, flat-nearby, flat-way, joined-germs, joined-turned, span-2, flat_dim-of, near-of_flat, Flat-from_cone, FlatCone-from_flat, steep, signs-same, same-point_sym, all-vertices, reach_all, slope-toward, point-toward, between-same, same-nought, forms, SameSigns, IsAt, cross-self, amount, far-keeps, far-level, turn-last, turn-same, same-plus, same-minus, Vertex, Edge, Complex, HasEnds, Shows, VertexSide, RayDown, IsFlatIn, near_point, near-between, edge-points, through-at, through-slope, angle, turn_form, turn-at, angle-turned, angle-self, between-minus, through-level, plane-between, plane-ahead, even-by, between-way, between-outer, between-start, VolumeLink, IsUpright, IsEvenAfter, through-same, EdgeWays, edge-ways, free-dim, ahead-close, ahead-toward, dim-cell, tied-ray, tied-turned, AreLinkedWhereJoined, IsInTriangle, sliced, dot-zero, self-pos, cross-turned, triple-turned, SameDirection-turned, SameDirection-trans, dir-self, dir-signs, parallel-trans, dot-opposite, triple-in_plane, direction-left, direction-right, apart}
+use Rattle.nef_space.proofs.Chains.{chain-trans}
 use Rattle.nef_conn.proofs.Claims.{Claim}
 use Rattle.nef_conn.proofs.Downs.{svertex-down, down-some}
 use Rattle.nef_conn.proofs.Fall.{corner-edge, lam-down, lam-zero}
@@ -13,7 +13,9 @@ use Rattle.nef_conn.proofs.RaysEnd.{ray-down, tied-dim}
 use Rattle.nef_conn.proofs.Silhouettes.{germs-inside, resliced, sliced-ahead, two-of, three-of, no-vertices}
 use Rattle.nef_conn.proofs.Slice.{unsliced}
 use Rattle.nef_conn.proofs.SliceStrip.{lam, up_line, lam-at, lam-turned, down-turn, slope-to, inside-level, Clear, clear-close}
-use Rattle.nef_conn.proofs.Touch.{Seer, bound, Frame, Touch, edge-frame, vertex-frame, same-seers, touched, no-way}
+use Rattle.nef_conn.proofs.Touch.{Seer, bound, Touch, edge-frame, vertex-frame, same-seers, touched, no-way}
+use Rattle.law_near.proofs.Same.{dim-same}
+use Rattle.nef_space.proofs.Elementary.{same-itself}
 
 -- the plane along up through two points
 abbrev pub plane_of : SpacePoint → SpacePoint → Form
@@ -456,9 +458,6 @@ module _ (s : Set) (C : Complex) (S : Shows s C) (upright : IsUpright C) (linked
     abbrev a' : Vector
     a' = toward v.point r'
 
-    F-v : Frame s C v.point
-    F-v = vertex-frame s C e.low v v.point H.low (same-itself v.point)
-
     touch-a : (o : VertexSide) × Touch s C v.point (vertex-frame s C e.low v v.point H.low (same-itself v.point)) o a'
     touch-a = touched s C S v.point (vertex-frame s C e.low v v.point H.low (same-itself v.point)) a' (free-to r' (inl amid-r'))
 
@@ -516,4 +515,4 @@ module _ (s : Set) (C : Complex) (S : Shows s C) (upright : IsUpright C) (linked
         let l1 = claim vertex-v b1 touch-d.0 z.0 (on-way b1 amid1) (subst (λ (g : Vector). pos 0 <ℤ triple n up g) (sym way) (side-u r0 at-r0)) clear1
         (λ r c. way-three r0 at-r0 r (between-inner v.point b1 r0 r amid1 c)) (way-three r0 at-r0 b1 amid1) (inside-way b1 amid1) (subst (λ (g : Vector). Beside-point s C S upright linked v.point g touch-d.0) (sym way) touch-d.1) z.1 in
         let l2 = names b1 r0 z.0 x2 (on-way b1 amid1) (on-u r0 at-r0) (inside-way b1 amid1) even1 amid1 to-r0 z.1 ray-r0 in
-        chain-both (VolumeLink C) x touch-a.0 x2 first-link (chain-both (VolumeLink C) touch-a.0 touch-d.0 x2 touch-d.2 (chain-both (VolumeLink C) touch-d.0 z.0 x2 l1 l2))
+        chain-trans (VolumeLink C) x touch-a.0 x2 first-link (chain-trans (VolumeLink C) touch-a.0 touch-d.0 x2 touch-d.2 (chain-trans (VolumeLink C) touch-d.0 z.0 x2 l1 l2))

@@ -1,9 +1,11 @@
 -- The strip between two lines along d in the plane of h: on y's line lie vertices, between it and z's line and on z's line none. g is h or its opposite, so that z lies to the right of y's line.
-use Rattle.nef_conn.proofs.Prelude.{◌≡◌, ℕ, ◌+◌, ℤ, pos, ◌+ℤ◌, ◌-ℤ◌, ◌*ℤ◌, ◌<ℤ◌, ◌≤ℤ◌, arith, refl, ap, sym, ◌∙◌, ◌⊎◌, inl, inr, ⊎_elim, ◌∷◌, subst, [], ints, sign, ring, at, num, ◌⊕◌, ◌⊖◌, ◌⊗◌, Poly, mul_pos, mul_nonneg, cancel_le, by_order, sign-scaled, nought-is, nonneg-of, minus-of, plus-of, mul_neg, Flat, FlatDim, IsVertex, SpacePoint, Form, form_at, normal_of, slope, plane_through, SamePoint, toward, IsBetween, Set, Vector, opposite, dot, cross, triple, IsZero, IsDirection, IsNormal, SameDirection, FlatDim-one, between-turned, signs-same, same-point_sym, slope-toward, toward-point, point-toward, between-same, IsAt, same-plus, same-minus, Beside, same_way, other_way, beside, turn-last, turn-same, turns, Vertex, Complex, Shows, IsVertexPoint, IsFlatIn, same-itself, same-point_trans, dim-same, plane-way, same-by, aligned, through-at, through-slope, angle, turn_form, turn-at, angle-turned, angle-self, angle-start, angle-inside, between-plus, between-minus, angle-cyclic, HalfEdge, plane-between, below-or, weight, toward-turned, IsInTriangle, LiesAlong, zero-decided, dot-zero, triple-dot, level-opposite-back, triple-middle, triple-turned, SameDirection-turned, SameDirection-trans, dir-self, parallel-in_plane, opposite-same, dot-opposite, opposite-way, opposite-twice, direction-right, right-turn}
+use Rattle.nef_conn.proofs.Prelude.{◌≡◌, ℕ, ◌+◌, ℤ, pos, ◌+ℤ◌, ◌-ℤ◌, ◌*ℤ◌, ◌<ℤ◌, ◌≤ℤ◌, arith, refl, ap, sym, ◌∙◌, ◌⊎◌, inl, inr, ⊎_elim, ◌∷◌, subst, [], ints, sign, ring, at, num, ◌⊕◌, ◌⊖◌, ◌⊗◌, Poly, mul_pos, mul_nonneg, cancel_le, by_order, sign-scaled, nought-is, nonneg-of, minus-of, plus-of, mul_neg, Flat, FlatDim, IsVertex, SpacePoint, Form, form_at, normal_of, slope, plane_through, SamePoint, toward, IsBetween, Set, Vector, opposite, dot, cross, triple, IsZero, IsDirection, IsNormal, SameDirection, FlatDim-one, between-turned, signs-same, same-point_sym, slope-toward, toward-point, point-toward, between-same, IsAt, same-plus, same-minus, Beside, same_way, other_way, beside, turn-last, turn-same, turns, Vertex, Complex, Shows, IsVertexPoint, IsFlatIn, same-point_trans, plane-way, same-by, aligned, through-at, through-slope, angle, turn_form, turn-at, angle-turned, angle-self, angle-start, angle-inside, between-plus, between-minus, angle-cyclic, HalfEdge, plane-between, below-or, weight-positive, toward-turned, IsInTriangle, LiesAlong, zero-decided, dot-zero, triple-dot, level-opposite-back, triple-middle, triple-turned, SameDirection-turned, SameDirection-trans, dir-self, parallel-in_plane, opposite-same, dot-opposite, opposite-way, opposite-twice, direction-right, right-turn}
 use Rattle.nef_conn.proofs.Sweep.{minus-any, cut-of}
 use Rattle.nef_conn.proofs.Triangles.{half-to, never-along, third-side, at-corner, on-second}
 use Rattle.nef_conn.proofs.Sector.{Seen, seen-level}
 use Rattle.law_complex.proofs.FacetEnds.{level-normal}
+use Rattle.law_near.proofs.Same.{level-same_point, one-not_two, dim-same}
+use Rattle.nef_space.proofs.Elementary.{same-itself}
 
 -- from a to c, both left out, the points lie within a facet, a itself being on no edge, or on an edge: on that of a, or a is on none
 abbrev pub SideWithin : Set → SpacePoint → SpacePoint → Type 0
@@ -15,7 +17,7 @@ SideWithin s a c = (((FlatDim s a 1 → ⊥) × ((r : SpacePoint) → IsBetween 
 sign-through : (k : Vector) (b p q : SpacePoint) → form_at (plane_through k b) p ≡ pos 0 → sign (dot k (toward p q)) ≡ sign (form_at (plane_through k b) q)
 sign-through k b p q e =
     let F = plane_through k b in
-    sym (sign-scaled (pos b.w) (dot k (toward p q)) (weight b)) ∙ ap sign (sym (through-slope k b (toward p q)) ∙ slope-toward F p q ∙ plain (form_at F p) (form_at F q) e) ∙ sign-scaled (pos p.w) (form_at F q) (weight p)
+    sym (sign-scaled (pos b.w) (dot k (toward p q)) (weight-positive b)) ∙ ap sign (sym (through-slope k b (toward p q)) ∙ slope-toward F p q ∙ plain (form_at F p) (form_at F q) e) ∙ sign-scaled (pos p.w) (form_at F q) (weight-positive p)
   where
     plain : (a c : ℤ) → a ≡ pos 0 → pos p.w *ℤ c -ℤ pos q.w *ℤ a ≡ pos p.w *ℤ c
     plain a c e = ap (λ r. pos p.w *ℤ c -ℤ pos q.w *ℤ r) e ∙ ring (pos p.w ∷ c ∷ pos q.w ∷ []) (at 0 ⊗ at 1 ⊖ at 2 ⊗ num (pos 0)) (at 0 ⊗ at 1) tt
@@ -32,10 +34,6 @@ shift : (k : Vector) (y z q : SpacePoint) → pos z.w *ℤ dot k (toward y q) �
 shift k y z q = ring (k.x ∷ k.y ∷ k.z ∷ y.x ∷ y.y ∷ y.z ∷ pos y.w ∷ z.x ∷ z.y ∷ z.z ∷ pos z.w ∷ q.x ∷ q.y ∷ q.z ∷ pos q.w ∷ [])
     (at 10 ⊗ (at 0 ⊗ way 3 11 0 ⊕ at 1 ⊗ way 3 11 1 ⊕ at 2 ⊗ way 3 11 2))
     (at 6 ⊗ (at 0 ⊗ way 7 11 0 ⊕ at 1 ⊗ way 7 11 1 ⊕ at 2 ⊗ way 7 11 2) ⊕ at 14 ⊗ (at 0 ⊗ way 3 7 0 ⊕ at 1 ⊗ way 3 7 1 ⊕ at 2 ⊗ way 3 7 2)) tt
-
--- a form is nought at equal points
-level-same_point : (F : Form) (p q : SpacePoint) → SamePoint p q → form_at F p ≡ pos 0 → form_at F q ≡ pos 0
-level-same_point F p q e z = nought-is (form_at F q) (sym (signs-same (F ∷ []) p q e F (inl refl)) ∙ ap sign z)
 
 plus-same_point : (F : Form) (p q : SpacePoint) → SamePoint p q → pos 0 <ℤ form_at F p → pos 0 <ℤ form_at F q
 plus-same_point F p q e h = same-plus (form_at F p) (form_at F q) (sym (signs-same (F ∷ []) p q e F (inl refl))) h
@@ -156,7 +154,7 @@ module _ (s : Set) (C : Complex) (S : Shows s C) (h g : Form) (d : Vector) (y z 
 
   -- what isn't to the left of z's line lies to the right of y's
   pub beyond : (q : SpacePoint) → pos 0 ≤ℤ form_at Far_line q → pos 0 <ℤ form_at Near_line q
-  beyond q l = subst (λ (r : ℤ). pos 0 <ℤ r) (sym (through-at k y q)) (shift-plain (pos z.w) (pos y.w) (pos q.w) (dot k (toward y q)) (dot k (toward z q)) (dot k (toward y z)) (shift k y z q) (weight z) (weight y) (weight q)
+  beyond q l = subst (λ (r : ℤ). pos 0 <ℤ r) (sym (through-at k y q)) (shift-plain (pos z.w) (pos y.w) (pos q.w) (dot k (toward y q)) (dot k (toward z q)) (dot k (toward y z)) (shift k y z q) (weight-positive z) (weight-positive y) (weight-positive q)
       (subst (λ (r : ℤ). pos 0 ≤ℤ r) (through-at k z q) l) (subst (λ (r : ℤ). pos 0 <ℤ r) (turn-k (toward y z)) T.right))
 
   pub short-of : (q : SpacePoint) → form_at Near_line q ≡ pos 0 → form_at Far_line q <ℤ pos 0
@@ -259,9 +257,9 @@ module _ (s : Set) (C : Complex) (S : Shows s C) (h g : Form) (d : Vector) (y z 
         where
           plain : (x u w : ℤ) → pos z.w *ℤ x ≡ pos a.w *ℤ u → w ≡ pos 0 -ℤ u → pos 0 ≤ℤ x → w ≤ℤ pos 0
           plain x u w e f l =
-              let q = mul_nonneg (pos z.w) x (let i = weight z in omega (arith, ints)) l in
+              let q = mul_nonneg (pos z.w) x (let i = weight-positive z in omega (arith, ints)) l in
               let r = ring (u ∷ pos a.w ∷ []) (at 1 ⊗ at 0) (at 0 ⊗ at 1) tt in
-              let n = cancel_le (pos 0) u (pos a.w) (weight a) (omega (arith, ints)) in
+              let n = cancel_le (pos 0) u (pos a.w) (weight-positive a) (omega (arith, ints)) in
               omega (arith, ints)
 
       left-of_far : triple m (toward z p) d <ℤ pos 0
@@ -335,11 +333,8 @@ module _ (s : Set) (C : Complex) (S : Shows s C) (h g : Form) (d : Vector) (y z 
     abbrev Q : Form
     Q = turn_form m b z
 
-    one-two : (r : SpacePoint) → FlatDim s r 1 → FlatDim s r 2 → ⊥
-    one-two r e f = let j = FlatDim-one s r 1 2 e f in cc
-
     pub not-at : SamePoint z x → ⊥
-    not-at e = one-two x (edge x (inr (same-itself x))) (dim-same s z x 2 e T.flat.0)
+    not-at e = one-not_two s x (edge x (inr (same-itself x))) (dim-same s z x 2 e T.flat.0)
 
     Q-p : pos 0 <ℤ form_at Q p
     Q-p = subst (λ (r : ℤ). pos 0 <ℤ r) (sym (turn-at m b z p)) (angle-ahead b p near-b upward)
@@ -370,4 +365,4 @@ module _ (s : Set) (C : Complex) (S : Shows s C) (h g : Form) (d : Vector) (y z 
     pub not-behind : SameDirection (toward z x) (opposite d) → ⊥
     not-behind w =
         let c = cut-of Q p x (inl (Q-p, Q-x w)) in
-        one-two c.place (edge c.place (inl c.between)) (clear c.place (crossed c.place c.between c.level))
+        one-not_two s c.place (edge c.place (inl c.between)) (clear c.place (crossed c.place c.between c.level))

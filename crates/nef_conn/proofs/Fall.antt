@@ -1,9 +1,11 @@
 -- In a plane that holds up: an edge that leaves a point to the side of b, beside no vertex, runs under b or over it; where the points between are free it runs under b, and what falls from b comes down to it.
-use Rattle.nef_conn.proofs.Prelude.{◌≡◌, ℕ, ℤ, pos, ◌+ℤ◌, ◌-ℤ◌, ◌*ℤ◌, ◌<ℤ◌, ◌≤ℤ◌, arith, ap, sym, ◌∙◌, ◌⊎◌, inl, inr, ⊎_elim, ◌∷◌, subst, [], ints, ring, at, num, ◌⊕◌, ◌⊖◌, ◌⊗◌, by_order, nought-or, given, none, follows, product-off, ahead-back, Flat, FlatDim, IsVertex, SpacePoint, Form, form_at, normal_of, slope, SamePoint, Within, toward, IsBetween, Set, Vector, blend, opposite, cross, triple, IsZero, IsDirection, SameDirection, up, carriers, EdgeAround, FlatDim-one, between-turned, between-inner, mixed-of, ray-cell, ahead, start-close, start-toward, edge-around, flat-nearby, flat-toward, Flat-from_cone, FlatCone-from_flat, same-point_sym, flat_dim-nearby, reach_all, toward-point, point-toward, factor-same, same-nought, Beside, same_way, other_way, beside, turn-last, same-plus, IsFlatIn, near_point, near-between, between-level, HalfEdge, plane-between, below-or, dim-same, plane-onward, plane-way, between-way, between-cases, same-itself, ahead-way, dim-cell, zero-decided, dot-zero, triple-turned, SameDirection-turned, SameDirection-trans, opposite-turned, parallel-in_plane, level-way, opposite-way, cross-none, direction-left, direction-right}
+use Rattle.nef_conn.proofs.Prelude.{◌≡◌, ℕ, ℤ, pos, ◌+ℤ◌, ◌-ℤ◌, ◌*ℤ◌, ◌<ℤ◌, ◌≤ℤ◌, arith, ap, sym, ◌∙◌, ◌⊎◌, inl, inr, ⊎_elim, ◌∷◌, subst, [], ints, ring, at, num, ◌⊕◌, ◌⊖◌, ◌⊗◌, by_order, given, none, follows, ahead-back, Flat, FlatDim, IsVertex, SpacePoint, Form, form_at, normal_of, slope, SamePoint, Within, toward, IsBetween, Set, Vector, blend, opposite, cross, triple, IsZero, IsDirection, SameDirection, up, carriers, EdgeAround, FlatDim-one, between-turned, between-inner, mixed-of, ray-cell, ahead, start-close, start-toward, edge-around, flat-nearby, flat-toward, Flat-from_cone, FlatCone-from_flat, same-point_sym, flat_dim-nearby, reach_all, toward-point, point-toward, factor-same, same-nought, Beside, same_way, other_way, beside, turn-last, same-plus, IsFlatIn, near_point, near-between, between-level, HalfEdge, plane-between, below-or, plane-onward, plane-way, between-way, between-cases, ahead-way, dim-cell, zero-decided, dot-zero, triple-turned, SameDirection-turned, SameDirection-trans, opposite-turned, parallel-in_plane, level-way, opposite-way, cross-none, direction-left, direction-right}
 use Rattle.nef_conn.proofs.Fans.{off-close, off-dim}
 use Rattle.nef_conn.proofs.Near.{Wedge}
 use Rattle.nef_conn.proofs.Triangles.{cut-up, half-to, around-halves, across-way, ends-level}
 use Rattle.nef_conn.proofs.SliceStrip.{lam, up_line, lam-at, lam-turned, lam-sum, down-turn, Clear}
+use Rattle.nef_space.proofs.Elementary.{positive-factor, same-itself}
+use Rattle.law_near.proofs.Same.{dim-same}
 
 -- ---- where an edge comes to a corner of a triangle
 module _ (t : Set) (a x : SpacePoint) (apart : SamePoint a x → ⊥) (edge : (r : SpacePoint) → IsBetween x r a → FlatDim t r 1) where
@@ -61,15 +63,12 @@ lam-zero n p q z = dot-zero n (cross up (toward p q)) (cross-none up (toward p q
 pub lam-self : (n : Vector) (p : SpacePoint) → lam n p p ≡ pos 0
 lam-self n p = lam-zero n p p (point-toward p p (same-itself p))
 
-cancel-positive : (k x : ℤ) → pos 0 <ℤ k → k *ℤ x ≡ pos 0 → x ≡ pos 0
-cancel-positive k x l e = ⊎_elim (λ z. z) (λ m. absurd (product-off k x l m e)) (nought-or x)
-
 -- points on one line along up
 pub lam-chain : (n : Vector) (y b c : SpacePoint) → lam n y b ≡ pos 0 → lam n b c ≡ pos 0 → lam n y c ≡ pos 0
 lam-chain n y b c e f = plain (lam n y c) (lam n y b) (lam n b c) (lam-sum n y b c) e f
   where
     plain : (g a d : ℤ) → pos b.w *ℤ g ≡ pos c.w *ℤ a +ℤ pos y.w *ℤ d → a ≡ pos 0 → d ≡ pos 0 → g ≡ pos 0
-    plain g a d q e f = cancel-positive (pos b.w) g (let k = b.proper in omega (arith, ints)) (q ∙ ap (λ r. pos c.w *ℤ r +ℤ pos y.w *ℤ d) e ∙ ap (λ r. pos c.w *ℤ pos 0 +ℤ pos y.w *ℤ r) f
+    plain g a d q e f = positive-factor (pos b.w) g (let k = b.proper in omega (arith, ints)) (q ∙ ap (λ r. pos c.w *ℤ r +ℤ pos y.w *ℤ d) e ∙ ap (λ r. pos c.w *ℤ pos 0 +ℤ pos y.w *ℤ r) f
         ∙ ring (pos c.w ∷ pos y.w ∷ []) (at 0 ⊗ num (pos 0) ⊕ at 1 ⊗ num (pos 0)) (num (pos 0)) tt)
 
 -- what lies below lies on the line

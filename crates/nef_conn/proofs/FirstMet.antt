@@ -1,5 +1,6 @@
 -- From a point with three flat directions the way to a side of the frame first meets a point with fewer.
-use Rattle.nef_conn.proofs.Prelude.{ℕ, ◌+◌, ◌*◌, ◌<◌, pos, negsuc, ◌+ℤ◌, ◌*ℤ◌, nat_abs, arith, ⊎_elim, ints, half_side, Germ, Flat, FlatDim, SpacePoint, Ratio, toward, IsBetween, Set, Vector, vector, IsDirection, Out, Drop, flat-germ, FlatDim-one, between-turned, even-until, span-3, same-point_sym, toward-point, dim-same, IsEvenAfter}
+use Rattle.nef_conn.proofs.Prelude.{ℕ, ◌+◌, ◌*◌, ◌<◌, pos, negsuc, ◌+ℤ◌, ◌*ℤ◌, nat_abs, arith, ⊎_elim, ints, half_side, Germ, Flat, FlatDim, SpacePoint, Ratio, toward, IsBetween, Set, Vector, vector, IsDirection, Out, Drop, flat-germ, FlatDim-one, between-turned, even-until, span-3, same-point_sym, toward-point, IsEvenAfter}
+use Rattle.law_near.proofs.Same.{dim-same}
 
 -- where three directions are flat, all are
 pub all-flat : (s : Set) (p : SpacePoint) → FlatDim s p 3 → (d : Vector) → Flat s p d
@@ -9,6 +10,10 @@ all-flat s p f d = let h = f.0 in span-3 s p h.0 h.1 h.2 d h.3 h.4 h.5 h.6
 abbrev wall : SpacePoint
 wall = record { x = pos half_side; y = pos 0; z = pos 0; w = 1; proper = omega arith }
 
+-- a step from a side of the frame inward stays within that side
+pub step-inside : (n : ℕ) → nat_abs (pos half_side *ℤ pos (n + 1) +ℤ pos 1 *ℤ pos 1 *ℤ negsuc 0) < half_side * (1 * (n + 1))
+step-inside n = omega (arith, ints)
+
 -- the label there is Out, but not close to it inward
 wall-not_flat : (s : Set) → FlatDim s wall 3 → ⊥
 wall-not_flat s f = inward (flat-germ s wall (vector (negsuc 0) (pos 0) (pos 0)) Out (all-flat s wall f (vector (negsuc 0) (pos 0) (pos 0))) (λ i. let h = i.along_x in omega arith))
@@ -16,11 +21,8 @@ wall-not_flat s f = inward (flat-germ s wall (vector (negsuc 0) (pos 0) (pos 0))
     inward : Germ s wall (vector (negsuc 0) (pos 0) (pos 0)) Out → ⊥
     inward (n, some, g) =
         let t : Ratio = record { a = pos 1; b = n + 1; proper = omega arith } in
-        g t (omega (arith, ints), omega (arith, ints)) (record { along_x = within n; along_y = level n; along_z = level n })
+        g t (omega (arith, ints), omega (arith, ints)) (record { along_x = step-inside n; along_y = level n; along_z = level n })
       where
-        within : (n : ℕ) → nat_abs (pos half_side *ℤ pos (n + 1) +ℤ pos 1 *ℤ pos 1 *ℤ negsuc 0) < half_side * (1 * (n + 1))
-        within n = omega (arith, ints)
-
         level : (n : ℕ) → nat_abs (pos 0 *ℤ pos (n + 1) +ℤ pos 1 *ℤ pos 1 *ℤ pos 0) < half_side * (1 * (n + 1))
         level n = omega (arith, ints)
 

@@ -1,8 +1,8 @@
 -- The rays down from the ends of a segment of points with three flat directions name sides of one class, where that is known beside each vertex of the slices below: cut where a vertex of the slice lies on the line along up.
-use Rattle.nef_conn.proofs.Prelude.{◌≡◌, ℕ, ℤ, pos, ◌+ℤ◌, ◌*ℤ◌, ◌<ℤ◌, ◌≤ℤ◌, neg_ℤ, arith, refl, ap, sym, ◌∙◌, ◌⊎◌, inl, inr, ⊎_elim, List, ◌∷◌, subst, [], ints, sign, Lies, ring, at, num, neg, ◌⊕◌, ◌⊖◌, ◌⊗◌, by_order, mul_pos, mul_nonneg, sign-plus, plus-is, minus-is, sign-minus, nought-is, nought-or, plus-of, Chained, FlatDim, IsVertex, IsEven, SpacePoint, Form, plane_through, form_at, normal_of, slope, SamePoint, InFrame, toward, IsBetween, Set, Vector, opposite, cross, dot, IsZero, IsDirection, SameDirection, up, FlatDim-by_germs, between-turned, between-inner, germ_of, even-germs, Germ-unique, signs-same, same-point_sym, all-vertices, Germ, Label, label_not, toward-point, point-toward, between-same, Beside, same_way, other_way, beside, same-plus, Complex, Shows, VertexSide, RayDown, near_point, near-between, through-at, ahead-back, facet-of, through-level, through-same, turn-last, plane-between, dim-same, plane-ahead, even-by, plane-way, skeleton-not_flat, skeleton-or_flat, between-way, between-cases, between-outer, same-itself, same-point_trans, VolumeLink, IsUpright, facet-at, AreLinkedWhereJoined, minus_form, sliced, dot-comm, zero-decided, dot-zero, SameDirection-turned, SameDirection-trans, parallel-in_plane, dot-opposite, opposite-way, direction-left, direction-right}
+use Rattle.nef_conn.proofs.Prelude.{◌≡◌, ℕ, ℤ, pos, ◌+ℤ◌, ◌*ℤ◌, ◌<ℤ◌, ◌≤ℤ◌, neg_ℤ, arith, refl, ap, sym, ◌∙◌, ◌⊎◌, inl, inr, ⊎_elim, List, ◌∷◌, subst, [], ints, sign, Lies, ring, at, num, neg, ◌⊕◌, ◌⊖◌, ◌⊗◌, by_order, mul_pos, mul_nonneg, sign-plus, plus-is, minus-is, sign-minus, nought-is, nought-or, plus-of, Chained, FlatDim, IsVertex, IsEven, SpacePoint, Form, plane_through, form_at, normal_of, slope, SamePoint, InFrame, toward, IsBetween, Set, Vector, opposite, cross, dot, IsZero, IsDirection, SameDirection, up, FlatDim-by_germs, between-turned, between-inner, germ_of, even-germs, Germ-unique, signs-same, same-point_sym, all-vertices, Germ, Label, label_not, toward-point, point-toward, between-same, Beside, same_way, other_way, beside, same-plus, Complex, Shows, VertexSide, RayDown, near_point, near-between, through-at, ahead-back, facet-of, through-level, through-same, turn-last, plane-between, plane-ahead, even-by, plane-way, skeleton-not_flat, skeleton-or_flat, between-way, between-cases, between-outer, same-point_trans, VolumeLink, IsUpright, facet-at, AreLinkedWhereJoined, minus_form, sliced, dot-comm, zero-decided, dot-zero, SameDirection-turned, SameDirection-trans, parallel-in_plane, dot-opposite, opposite-way, direction-left, direction-right}
 use Rattle.nef_conn.proofs.SameRay.{on-ray}
 use Rattle.nef_conn.proofs.Sweep.{Crosses, crosses-or, crosses-first, crosses-second, level-end, level-start, cut-of}
-use Rattle.nef_conn.proofs.Chain.{chain-both, chain-back}
+use Rattle.nef_space.proofs.Chains.{chain-trans, chain-turned}
 use Rattle.nef_conn.proofs.Claims.{Claim, beside-fall}
 use Rattle.nef_conn.proofs.Fall.{lam-zero}
 use Rattle.nef_conn.proofs.Hits.{ray-over}
@@ -14,6 +14,8 @@ use Rattle.nef_conn.proofs.Silhouettes.{germs-inside, two-of}
 use Rattle.nef_conn.proofs.Slice.{germ-on, germ-off, minus-at}
 use Rattle.nef_conn.proofs.SliceStrip.{lam, up_line, lam-at, lam-turned, lam-sum, Clear, lam-plus}
 use Rattle.nef_space.proofs.Vectors.{neg-zero}
+use Rattle.law_near.proofs.Same.{dim-same}
+use Rattle.nef_space.proofs.Elementary.{same-itself}
 
 -- ---- the slice by a plane and by its opposite form have one cone at each point of the plane
 minus-slope : (h : Form) (d : Vector) → slope (minus_form h) d ≡ neg_ℤ (slope h d)
@@ -197,8 +199,8 @@ module _ (s : Set) (C : Complex) (S : Shows s C) (upright : IsUpright C) (linked
       halves : (y z : SpacePoint) (x x' : VertexSide) → form_at h y ≡ pos 0 → form_at h z ≡ pos 0 → InFrame y → IsEven s 3 y z → Overs y z → Uncrossed y z → pos 0 <ℤ lam (normal_of h) y z → RayDown C y x → RayDown C z x' → Chained (VolumeLink C) x x'
       halves y z x x' on-y on-z inside even over none side R T =
           let m = ray-down s C S upright r inside-r three-r in
-          chain-both (VolumeLink C) x m.0 x' (step-plus h al hn level y r x m.0 on-y on-r inside even-y side-y clear-y (over y (inl (same-itself y))) R m.1)
-          (chain-back (VolumeLink C) x' m.0 (step-minus h al' hn level z r x' m.0 on-z on-r inside-z even-z (let e = lam-turned n r z in let l = side-z in omega (arith, ints)) clear-z (over z (inr (inr (same-itself z)))) T m.1))
+          chain-trans (VolumeLink C) x m.0 x' (step-plus h al hn level y r x m.0 on-y on-r inside even-y side-y clear-y (over y (inl (same-itself y))) R m.1)
+          (chain-turned (VolumeLink C) x' m.0 (step-minus h al' hn level z r x' m.0 on-z on-r inside-z even-z (let e = lam-turned n r z in let l = side-z in omega (arith, ints)) clear-z (over z (inr (inr (same-itself z)))) T m.1))
         where
           some : IsDirection (toward y z)
           some o = let e = lam-zero n y z o in let l = side in omega (arith, ints)
@@ -265,12 +267,12 @@ module _ (s : Set) (C : Complex) (S : Shows s C) (upright : IsUpright C) (linked
           vertical i e = by (beside up (toward y z) up-some i (parallel-in_plane n up (toward y z) hn level (plane-way h y z on-y on-z) e))
             where
               by : Beside up (toward y z) → Chained (VolumeLink C) x x'
-              by (same_way w) = chain-back (VolumeLink C) x' x (one-ray z y x' x T R (ahead-back y z up (SameDirection-turned up (toward y z) w)) (λ u k. even u (inr (inl (between-turned z y u k)))) (even y (inl (same-itself y))))
+              by (same_way w) = chain-turned (VolumeLink C) x' x (one-ray z y x' x T R (ahead-back y z up (SameDirection-turned up (toward y z) w)) (λ u k. even u (inr (inl (between-turned z y u k)))) (even y (inl (same-itself y))))
               by (other_way o) = one-ray y z x x' R T (SameDirection-turned (opposite up) (toward y z) (opposite-way up (toward y z) o)) (λ u k. even u (inr (inl k))) (even z (inr (inr (same-itself z))))
 
           apart : IsDirection (toward y z) → Chained (VolumeLink C) x x'
           apart i = by_order (lam n y z) (pos 0)
-              (λ l. chain-back (VolumeLink C) x' x (halves z y x' x on-z on-y (germs-inside s y z (even-germs s 3 y z even) inside) even-back over-back none-back (let e = lam-turned n y z in omega (arith, ints)) T R))
+              (λ l. chain-turned (VolumeLink C) x' x (halves z y x' x on-z on-y (germs-inside s y z (even-germs s 3 y z even) inside) even-back over-back none-back (let e = lam-turned n y z in omega (arith, ints)) T R))
               (λ e. vertical i e)
               (λ l. halves y z x x' on-y on-z inside even over none l R T)
 
@@ -288,7 +290,7 @@ module _ (s : Set) (C : Complex) (S : Shows s C) (upright : IsUpright C) (linked
           let on-r = plane-between h y r z t.between on-y on-z in
           let i = germs-inside s y r (even-germs s 3 y r first) inside in
           let m = ray-down s C S upright r i f in
-          chain-both (VolumeLink C) x m.0 x'
+          chain-trans (VolumeLink C) x m.0 x'
           (sweep xs y r x m.0 on-y on-r inside first (λ u o. over u (part-first y r z u t.between o))
           (λ q l on c. later w xs q (only q l on (crosses-first (up_line n q) y r z t.between c)) (λ e. level-end (up_line n w) y r t.level (subst (λ (v : SpacePoint). Crosses (up_line n v) y r) (sym e) c))) R m.1)
           (sweep xs r z m.0 x' on-r on-z i second (λ u o. over u (part-second y r z u t.between o))
@@ -307,7 +309,7 @@ module _ (s : Set) (C : Complex) (S : Shows s C) (upright : IsUpright C) (linked
         apart i = ⊎_elim (λ o. by (beside up (toward y z) up-some i o)) slanted (zero-decided (cross up (toward y z)))
           where
             by : Beside up (toward y z) → Chained (VolumeLink C) x x'
-            by (same_way w) = chain-back (VolumeLink C) x' x (one-ray z y x' x T R (ahead-back y z up (SameDirection-turned up (toward y z) w)) (λ u k. even u (inr (inl (between-turned z y u k)))) (even y (inl (same-itself y))))
+            by (same_way w) = chain-turned (VolumeLink C) x' x (one-ray z y x' x T R (ahead-back y z up (SameDirection-turned up (toward y z) w)) (λ u k. even u (inr (inl (between-turned z y u k)))) (even y (inl (same-itself y))))
             by (other_way o) = one-ray y z x x' R T (SameDirection-turned (opposite up) (toward y z) (opposite-way up (toward y z) o)) (λ u k. even u (inr (inl k))) (even z (inr (inr (same-itself z))))
 
             slanted : IsDirection (cross up (toward y z)) → Chained (VolumeLink C) x x'

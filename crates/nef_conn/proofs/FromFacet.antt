@@ -1,12 +1,14 @@
 -- From a facet point of y's line, with a clear way to z: its ray and z's come to one edge, or its ray comes to a vertex beside which z lies.
-use Rattle.nef_conn.proofs.Prelude.{◌≡◌, ℕ, pos, ◌<ℤ◌, arith, ap, ◌∙◌, ◌⊎◌, inl, inr, ⊎_elim, subst, ints, sign, by_order, nought-is, Chained, Flat, FlatDim, SpacePoint, Form, form_at, normal_of, SamePoint, toward, IsBetween, Set, Vector, opposite, triple, SameDirection, Drop, FlatDim-one, between-turned, between-inner, even-until, span-1, same-point_sym, between-same, IsAt, is-at_one, Vertex, Edge, Complex, Corner, Shows, IsVertexPoint, IsEdgePoint, LiesIn, PlaneMeet, meets_vertex, meets_edge, IsFirstInPlane, IsCornerAt, RayNames, IsFlatIn, plane-way, between-way, between-start, between-outer, same-itself, dim-same, plane-ahead, end-meets, ahead-same, between-level, Cut, HalfEdge, edge-halves, plane-between, FacetLink, level-of_opposite, triple-turned, SameDirection-turned, SameDirection-trans, parallel-trans, parallel-in_plane, level-way, direction-left}
-use Rattle.nef_conn.proofs.Chain.{chain-here}
+use Rattle.nef_conn.proofs.Prelude.{◌≡◌, ℕ, pos, ◌<ℤ◌, arith, ap, ◌∙◌, ◌⊎◌, inl, inr, ⊎_elim, subst, ints, sign, by_order, nought-is, Chained, Flat, FlatDim, SpacePoint, Form, form_at, normal_of, SamePoint, toward, IsBetween, Set, Vector, opposite, triple, SameDirection, Drop, FlatDim-one, between-turned, between-inner, even-until, span-1, same-point_sym, between-same, IsAt, is-at_one, Vertex, Edge, Complex, Corner, Shows, IsVertexPoint, IsEdgePoint, LiesIn, PlaneMeet, meets_vertex, meets_edge, IsFirstInPlane, IsCornerAt, RayNames, IsFlatIn, plane-way, between-way, between-start, between-outer, plane-ahead, end-meets, ahead-same, between-level, Cut, HalfEdge, edge-halves, plane-between, FacetLink, level-of_opposite, triple-turned, SameDirection-turned, SameDirection-trans, parallel-trans, parallel-in_plane, level-way, direction-left}
+use Rattle.nef_space.proofs.Chains.{chain-here}
 use Rattle.nef_conn.proofs.Sweep.{cut-of}
 use Rattle.nef_conn.proofs.Triangles.{across-way}
 use Rattle.nef_conn.proofs.OneNamed.{one-named}
 use Rattle.nef_conn.proofs.FacetStrip.{Strip, m-some, level-m, strip, near-turn, beyond, short-of, angle-ahead, angle-over, On_far_line, at_start, ahead_of, behind_of, on-far_line, fan, not-at, not-behind}
 use Rattle.nef_conn.proofs.Beside.{near, far, near-onward, Beside, beside-facet, vertex-not}
 use Rattle.nef_conn.proofs.OverEdge.{first-on}
+use Rattle.law_near.proofs.Same.{dim-same}
+use Rattle.nef_space.proofs.Elementary.{same-itself}
 
 module _ (s : Set) (C : Complex) (S : Shows s C) (h g : Form) (d : Vector) (y z : SpacePoint) (T : Strip s C h g d y z) where
   abbrev n : Vector

@@ -29,15 +29,14 @@
 -- The claims that are used come before. Events are the vertices of the set and those of the slices through two of them: finitely many. In the order of points,
 -- what lies below comes before, and so do an edge's points before its higher end. Claims at v, and at the vertices below an edge, are at events before y, so fewer events come before them.
 -- The claim at r needs no more events, and fewer carriers lie ahead of r downward than of y: r lies on one that up crosses, or up would be flat there. So induction on both, in that order, ends.
-use Rattle.nef_conn.proofs.Prelude.{◌≡◌, ℕ, zero, suc, ◌+◌, ◌<◌, ◌≤◌, ℤ, pos, ◌-ℤ◌, ◌*ℤ◌, ◌<ℤ◌, ◌≤ℤ◌, neg_ℤ, arith, refl, sym, ◌∙◌, ◌⊎◌, inl, inr, ⊎_elim, List, ◌∷◌, ◌++◌, subst, [], ints, nought, sign, Lies, lies-left, lies-right, ring, at, num, neg, ◌⊖◌, ◌⊗◌, by_order, nought-is, mul_nonneg, nought-or, plus-of, minus-of, Chained, Flat, FlatDim, IsVertex, IsEven, SpacePoint, Form, form_at, normal_of, slope, SamePoint, InFrame, toward, IsBetween, IsPointBelow, Set, Vector, blend, opposite, cross, IsZero, IsDirection, SameDirection, up, sign_at, carriers, between-inner, is_nought, Decided, decided-to, decided-both, decided-or, every, Flat-from_cone, FlatCone-from_flat, FlatCone-from_carriers, point_below-trans, same-point_below, point_below-apart, signs-same, same-point_sym, all-vertices, point-toward, between-same, slope-toward, gather, IsAt, MapVertex, gather-has, same-plus, same-minus, Vertex, Edge, Complex, HasEnds, Shows, VertexSide, RayDown, through-at, between-way, between-outer, same-itself, same-point_trans, VolumeLink, IsUpright, edge-ways, AreLinkedWhereJoined, minus_form, sliced, FlatDim-one, FlatDim-by_germs, ahead, near-ahead, span-1, near-of_flat, steep, forms, amount, is-at_one, dir-at, near_point, near-between, edge-points, dim-same, IsEvenAfter, free-dim, ahead-cells, dim-cell, tied-ray, tied-turned, dot-zero, SameDirection-turned, SameDirection-trans, dir-self, dir-signs, dot-opposite, direction-left, direction-right}
+use Rattle.nef_conn.proofs.Prelude.{◌≡◌, ℕ, zero, suc, ◌+◌, ◌<◌, ◌≤◌, ℤ, pos, ◌-ℤ◌, ◌*ℤ◌, ◌<ℤ◌, ◌≤ℤ◌, arith, refl, sym, ◌∙◌, ◌⊎◌, inl, inr, ⊎_elim, List, ◌∷◌, ◌++◌, subst, [], ints, nought, sign, Lies, lies-left, lies-right, ring, at, num, ◌⊖◌, ◌⊗◌, by_order, nought-is, mul_nonneg, nought-or, plus-of, minus-of, Chained, Flat, FlatDim, IsVertex, IsEven, SpacePoint, Form, form_at, normal_of, slope, SamePoint, InFrame, toward, IsBetween, IsPointBelow, Set, Vector, blend, opposite, cross, IsZero, IsDirection, SameDirection, up, sign_at, carriers, between-inner, is_nought, Decided, decided-to, decided-both, decided-or, every, Flat-from_cone, FlatCone-from_flat, FlatCone-from_carriers, point_below-trans, same-point_below, point_below-apart, signs-same, same-point_sym, all-vertices, point-toward, between-same, slope-toward, gather, IsAt, MapVertex, gather-has, same-plus, same-minus, Vertex, Edge, Complex, HasEnds, Shows, VertexSide, RayDown, through-at, between-way, between-outer, same-point_trans, VolumeLink, IsUpright, edge-ways, AreLinkedWhereJoined, minus_form, sliced, FlatDim-one, FlatDim-by_germs, ahead, near-ahead, span-1, near-of_flat, steep, forms, amount, is-at_one, dir-at, near_point, near-between, edge-points, IsEvenAfter, free-dim, ahead-cells, dim-cell, tied-ray, tied-turned, dot-zero, SameDirection-turned, SameDirection-trans, dir-self, dir-signs, dot-opposite, direction-left, direction-right}
 use Rattle.nef_conn.proofs.Claims.{Claim, not-flat}
 use Rattle.nef_conn.proofs.Downs.{vertex-down, svertex-down, vertex-falls, down-some}
 use Rattle.nef_conn.proofs.EdgeFalls.{plane_of, hn, level, edge-falls}
 use Rattle.nef_conn.proofs.FreeSegments.{segment-in, minus-off, minus-slice}
 use Rattle.nef_conn.proofs.Leaves.{Beside-point}
-use Rattle.nef_conn.proofs.Lexical.{normal-below, normal-way, before-between, down-before, below-decided}
+use Rattle.nef_conn.proofs.Lexical.{normal-below, before-between, down-before, below-decided}
 use Rattle.nef_conn.proofs.NearOver.{up-some}
-use Rattle.nef_conn.proofs.Reached.{toward-normal}
 use Rattle.nef_conn.proofs.OneNamed.{one-vertex}
 use Rattle.nef_conn.proofs.Tally.{tally, tally-mono, tally-strict}
 use Rattle.nef_conn.proofs.Near.{Wedge}
@@ -46,6 +45,9 @@ use Rattle.nef_conn.proofs.SliceStrip.{lam, Clear}
 use Rattle.nef_conn.proofs.Touch.{edge-frame}
 use Rattle.nef_conn.proofs.UprightVertex.{down-edge}
 use Rattle.nef_conn.proofs.Vertices.{claim-at}
+use Rattle.nef_space.proofs.Elementary.{minor-opposite, same-itself}
+use Rattle.law_near.proofs.Normals.{toward-normal, normal-kept}
+use Rattle.law_near.proofs.Same.{dim-same}
 
 -- ---- the measures
 abbrev pub slice_events : Set → SpacePoint → SpacePoint → List SpacePoint
@@ -107,10 +109,7 @@ module _ (y r : SpacePoint) (down : SameDirection (toward y r) (opposite up)) wh
 
 -- along up is along down
 along-down : (d : Vector) → IsZero (cross d up) → IsZero (cross d (opposite up))
-along-down d z = (each d.y d.z up.y up.z z.0, each d.z d.x up.z up.x z.1, each d.x d.y up.x up.y z.2)
-  where
-    each : (a b c e : ℤ) → a *ℤ e -ℤ b *ℤ c ≡ pos 0 → a *ℤ neg_ℤ e -ℤ b *ℤ neg_ℤ c ≡ pos 0
-    each a b c e z = let r = ring (a ∷ b ∷ c ∷ e ∷ []) (at 0 ⊗ neg (at 3) ⊖ at 1 ⊗ neg (at 2)) (neg (at 0 ⊗ at 3 ⊖ at 1 ⊗ at 2)) tt in omega (arith, ints)
+along-down d z = (minor-opposite d.y d.z up.y up.z z.0, minor-opposite d.z d.x up.z up.x z.1, minor-opposite d.x d.y up.x up.y z.2)
 
 -- ---- along an edge
 module _ (s : Set) (C : Complex) (S : Shows s C) (k : ℕ) (e : Edge) (v w : Vertex) (a : IsAt C.edges k e) (H : HasEnds C e v w) where
@@ -186,7 +185,7 @@ module _ (s : Set) (C : Complex) (S : Shows s C) (upright : IsUpright C) (linked
       on-v = through-at (cross up (toward v.point w.point)) v.point v.point ∙ dot-zero (cross up (toward v.point w.point)) (toward v.point v.point) (point-toward v.point v.point (same-itself v.point))
 
       v-before : IsPointBelow v.point y
-      v-before = normal-below v.point y (normal-way (toward v.point w.point) (toward v.point y) (SameDirection-turned (toward v.point y) (toward v.point w.point) (between-way v.point y w.point b))
+      v-before = normal-below v.point y (normal-kept (toward v.point w.point) (toward v.point y) (SameDirection-turned (toward v.point y) (toward v.point w.point) (between-way v.point y w.point b))
           (toward-normal v.point w.point (S.ordered e.low e.high v w (let E = S.edges.edges k e a in E.upward) H.low H.high)))
 
       fewer-v : before s C v.point < before s C y

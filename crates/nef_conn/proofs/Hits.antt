@@ -1,7 +1,8 @@
 -- What lies above a skeleton point: a side that touches a vertex or an edge upward, or the upper side of an item of the facet. What lies above equal points, or points of one edge or facet, is linked; for facets that is the converse for items.
-use Rattle.nef_conn.proofs.Prelude.{◌≡◌, ℕ, ◌+◌, pos, arith, refl, sym, ◌∙◌, ◌⊎◌, inl, inr, ⊎_elim, List, ◌∷◌, subst, [], IsChain, Chained, Joined, SpacePoint, form_at, SamePoint, toward, IsBetween, Set, Vector, blend, up, plane_axis, Label, ahead, joined-turned, joined-both, IsAt, Item, item_normal, item_pos, pos_item, OnItem, Side, HasSide, Sees, on-level, is-at_one, bounds-sees, dir-at, normal-is, Vertex, Edge, Complex, Corner, HasEnds, IsCorner, Shows, item_plane, Spot, at_vertex, on_edge, in_facet, IsSpot, VertexSide, HasSideLabel, IsAbove, RayDown, IsFlatIn, through-at, through-level, axis-in, facet-point, FacetLink, VolumeLink, pos_arcs, across, across-tied, edge-ways, AreTiedItems, corner_of_numbers, along-tied, at-item, IsTied, AreLinkedWhereJoined}
-use Rattle.nef_conn.proofs.Chain.{chain-both, chain-one, chain-back, chain-here}
+use Rattle.nef_conn.proofs.Prelude.{◌≡◌, ℕ, ◌+◌, pos, arith, refl, sym, ◌∙◌, ◌⊎◌, inl, inr, ⊎_elim, List, ◌∷◌, subst, [], IsChain, Chained, Joined, SpacePoint, form_at, SamePoint, toward, IsBetween, Set, Vector, blend, up, plane_axis, Label, ahead, joined-turned, joined-both, IsAt, Item, item_normal, item_pos, pos_item, OnItem, Side, HasSide, Sees, on-level, is-at_one, bounds-sees, dir-at, normal-is, Vertex, Edge, Complex, Corner, HasEnds, IsCorner, Shows, item_plane, Spot, at_vertex, on_edge, in_facet, IsSpot, VertexSide, HasSideLabel, IsAbove, RayDown, IsFlatIn, through-at, through-level, axis-in, facet-point, FacetLink, VolumeLink, pos_arcs, across, edge-ways, AreTiedItems, at-item, IsTied, AreLinkedWhereJoined}
+use Rattle.nef_space.proofs.Chains.{chain-trans, chain-link, chain-turned, chain-here}
 use Rattle.nef_conn.proofs.Touch.{bound, Touch, vertex-frame, edge-frame, no-way}
+use Rattle.law_complex.proofs.links.ItemLinks.{facet-link}
 
 -- ---- the upper sides of linked items are linked
 abbrev pub above : Corner → VertexSide
@@ -13,17 +14,11 @@ side-is x i o e f P p =
     subst (λ (n : ℕ). P (record { vertex = n; side = x.side })) (sym e) (subst (λ (r : Side). P (record { vertex = i; side = r })) (sym f) p)
 
 module _ (s : Set) (C : Complex) (S : Shows s C) where
-  facet-tied : (j k : Corner) → FacetLink C j k → AreTiedItems s C j k
-  facet-tied j k (inl L) =
-      subst (λ (a : ℕ). AreTiedItems s C (corner_of_numbers a j.item) k) (sym L.from_low)
-      (subst (λ (b : ℕ). AreTiedItems s C (corner_of_numbers L.edge.low j.item) (corner_of_numbers b k.item)) (sym L.to_high) (along-tied s C S L.number L.edge L.is_edge j.item k.item L.along))
-  facet-tied j k (inr L) = across-tied s C S j k L
-
   above-label : (k : Corner) (v : Vertex) (x : Item) → IsCorner C k v x → HasSideLabel C (above k) (item_pos x)
   above-label k v x c = (v, c.vertex, (x, c.item, refl))
 
   facet-volume : (j k : Corner) → FacetLink C j k → VolumeLink C (above j) (above k)
-  facet-volume j k l = by (facet-tied j k l) l
+  facet-volume j k l = by (facet-link s C S j k l) l
     where
       by : AreTiedItems s C j k → FacetLink C j k → VolumeLink C (above j) (above k)
       by T (inl L) = inr (inl (record {
@@ -51,8 +46,8 @@ module _ (s : Set) (C : Complex) (S : Shows s C) where
     where
       by : (ks : List Corner) (j : Corner) → IsChain (FacetLink C) j ks k → Chained (VolumeLink C) (above j) (above k)
       by [] j e = subst (λ (i : Corner). Chained (VolumeLink C) (above j) (above i)) e (chain-here (VolumeLink C) (above j))
-      by (i ∷ ks) j (a, c) = chain-both (VolumeLink C) (above j) (above i) (above k)
-          (⊎_elim (λ l. chain-one (VolumeLink C) (above j) (above i) (facet-volume j i l)) (λ l. chain-back (VolumeLink C) (above i) (above j) (chain-one (VolumeLink C) (above i) (above j) (facet-volume i j l))) a)
+      by (i ∷ ks) j (a, c) = chain-trans (VolumeLink C) (above j) (above i) (above k)
+          (⊎_elim (λ l. chain-link (VolumeLink C) (above j) (above i) (facet-volume j i l)) (λ l. chain-turned (VolumeLink C) (above i) (above j) (chain-link (VolumeLink C) (above i) (above j) (facet-volume i j l))) a)
           (by ks i c)
 
   -- ---- what lies above

@@ -1,9 +1,10 @@
 -- Along a path of even segments within a facet, the ends of each segment in its turn: so the converse comes to single segments.
-use Rattle.nef_conn.proofs.Prelude.{◌≡◌, ℕ, pos, List, ◌∷◌, inl, inr, ⊎_elim, subst, [], Chained, Joined, IsEven, IsEvenPath, SpacePoint, Form, form_at, normal_of, slope, toward, Set, Vector, opposite, IsDirection, IsNormal, SameDirection, plane_dir, carriers, FlatDim-one, start-close, flat-way, even-germs, joined-germs, joined-turned, joined-both, reach_all, Item, item_normal, normal-direction, Vertex, Complex, Corner, IsCorner, Shows, item_plane, RayNames, IsFlatIn, between-way, between-start, same-itself, near_point, near-between, flats-carried, flats-one, plane-onward, weight, normal-scaled, facet-behind, FacetLink, through-same, way_inward, NamesFor, NamesOfSegments, ItemsBySegments, zero-decided, dot-zero, level-of_opposite, SameDirection-turned, SameDirection-trans, opposite-same, level-way, direction-right}
+use Rattle.nef_conn.proofs.Prelude.{◌≡◌, ℕ, pos, List, ◌∷◌, inl, inr, ⊎_elim, subst, [], Chained, Joined, IsEven, IsEvenPath, SpacePoint, Form, form_at, normal_of, slope, toward, Set, Vector, opposite, IsDirection, IsNormal, SameDirection, plane_dir, carriers, FlatDim-one, start-close, flat-way, even-germs, joined-germs, joined-turned, joined-both, reach_all, Item, item_normal, normal-direction, Vertex, Complex, Corner, IsCorner, Shows, item_plane, RayNames, IsFlatIn, between-way, between-start, near_point, near-between, flats-carried, flats-one, plane-onward, weight-positive, normal-scaled, facet-behind, FacetLink, through-same, way_inward, NamesFor, NamesOfSegments, ItemsBySegments, zero-decided, dot-zero, level-of_opposite, SameDirection-turned, SameDirection-trans, opposite-same, level-way, direction-right}
 use Rattle.nef_conn.proofs.WayInward.{names-same, dir-level, dir-same}
 use Rattle.nef_conn.proofs.Reached.{items-name}
-use Rattle.nef_conn.proofs.Chain.{chain-both, chain-back}
+use Rattle.nef_space.proofs.Chains.{chain-trans, chain-turned}
 use Rattle.law_complex.proofs.FacetEnds.{level-normal}
+use Rattle.nef_space.proofs.Elementary.{same-itself}
 
 -- ---- an even segment from a point of a facet stays in its plane
 module _ (s : Set) (h : Form) (r t : SpacePoint) (on : form_at h r ≡ pos 0) (F : IsFlatIn s h r) (even : IsEven s 2 r t) where
@@ -38,7 +39,7 @@ module _ (s : Set) (C : Complex) (S : Shows s C) (names : NamesOfSegments s C) (
       let m = facet-behind s C S h t N on-t d some level G in
       let c = m.2.0 in
       let named : RayNames C h t d c = (m.0, m.1, m.2.1) in
-      chain-both (FacetLink C) k c l (names h d r t k c N on F inward even a named) (walk rs t q c l on-t G named path b)
+      chain-trans (FacetLink C) k c l (names h d r t k c N on F inward even a named) (walk rs t q c l on-t G named path b)
 
 module _ (s : Set) (C : Complex) (S : Shows s C) (names : NamesOfSegments s C) (j i : Corner) (v w : Vertex) (x y : Item) (K : IsCorner C j v x) (L : IsCorner C i w y) (p q : SpacePoint) (k l : Corner)
     (A : NamesFor s C j v x p k) (B : NamesFor s C i w y q l) (J : Joined s p q) where
@@ -64,10 +65,10 @@ module _ (s : Set) (C : Complex) (S : Shows s C) (names : NamesOfSegments s C) (
   to-g = through-same (item_normal y) w.point (normal-direction (item_normal y) y-normal)
 
   h-normal : IsNormal (normal_of h)
-  h-normal = normal-scaled (item_normal x) (pos v.point.w) (weight v.point) x-normal
+  h-normal = normal-scaled (item_normal x) (pos v.point.w) (weight-positive v.point) x-normal
 
   g-normal : IsNormal (normal_of g)
-  g-normal = normal-scaled (item_normal y) (pos w.point.w) (weight w.point) y-normal
+  g-normal = normal-scaled (item_normal y) (pos w.point.w) (weight-positive w.point) y-normal
 
   path : IsEvenPath s 2 p J.1 q
   path = subst (λ (e : ℕ). IsEvenPath s e p J.1 q) (FlatDim-one s p J.0 2 J.2 A.flat.0) J.3
@@ -104,4 +105,4 @@ converse-by_segments s C S names j i p q a b t =
     let l = B.1 in
     let way = joined-both s y p z (joined-turned s p y (A.2.joined p a)) (joined-both s p q z t (B.2.joined q b)) in
     let one = joined-names s C S names j i a.vertex b.vertex a.item b.item a.corner b.corner y z k l A.2 B.2 way in
-    chain-both (FacetLink C) j k i A.3 (chain-both (FacetLink C) k l i one (chain-back (FacetLink C) i l B.3))
+    chain-trans (FacetLink C) j k i A.3 (chain-trans (FacetLink C) k l i one (chain-turned (FacetLink C) i l B.3))

@@ -1,11 +1,12 @@
 -- What falls from a point b beside a start y, where all between is free: it comes down on the edge through the point y' at which y's own fall ends, or, where that is a vertex of the plane, on the first edge that leaves it, or all is free below.
-use Rattle.nef_conn.proofs.Prelude.{◌≡◌, ℕ, zero, suc, ◌<◌, ℤ, pos, ◌+ℤ◌, ◌*ℤ◌, ◌<ℤ◌, arith, ap, sym, ◌∙◌, ◌⊎◌, inl, inr, ⊎_elim, subst, ints, by_order, mul_pos, plus-of, even-germs, flat-toward, Flat-from_cone, ahead-back, flats-carried, Flat, FlatDim, IsEven, SpacePoint, Form, form_at, normal_of, slope, SamePoint, Within, toward, IsBetween, Set, Vector, opposite, dot, cross, triple, IsZero, IsDirection, SameDirection, up, carriers, Drop, IsFlatBelow, FlatDim-one, between-turned, between-inner, ahead, start-close, start-toward, even-until, same-point_sym, reach_all, toward-point, point-toward, Beside, same_way, other_way, beside, turn-last, same-plus, same-minus, IsFlatIn, near_point, near-between, same-by, zero-by, aligned, angle, turn_form, turn-at, angle-turned, angle-self, angle-inside, between-plus, between-minus, cut-at, plane-between, dim-same, plane-ahead, even-by, plane-way, between-way, between-start, between-outer, ahead-close, ahead-toward, dot-zero, triple-dot, triple-turned, SameDirection-turned, SameDirection-trans, dir-self, parallel-in_plane, dot-opposite, opposite-way, opposite-dot, cross-none, opposite-twice, direction-left}
+use Rattle.nef_conn.proofs.Prelude.{◌≡◌, ℕ, zero, suc, ◌<◌, ℤ, pos, ◌+ℤ◌, ◌*ℤ◌, ◌<ℤ◌, arith, ap, sym, ◌∙◌, ◌⊎◌, inl, inr, ⊎_elim, subst, ints, by_order, mul_pos, plus-of, even-germs, flat-toward, Flat-from_cone, ahead-back, flats-carried, Flat, FlatDim, IsEven, SpacePoint, Form, form_at, normal_of, slope, SamePoint, Within, toward, IsBetween, Set, Vector, opposite, dot, cross, triple, IsZero, IsDirection, SameDirection, up, carriers, Drop, IsFlatBelow, between-turned, between-inner, ahead, start-close, start-toward, even-until, same-point_sym, reach_all, toward-point, point-toward, Beside, same_way, other_way, beside, turn-last, same-plus, same-minus, IsFlatIn, near_point, near-between, same-by, zero-by, aligned, angle, turn_form, turn-at, angle-turned, angle-self, angle-inside, between-plus, between-minus, cut-at, plane-between, plane-ahead, even-by, plane-way, between-way, between-start, between-outer, ahead-close, ahead-toward, dot-zero, triple-dot, triple-turned, SameDirection-turned, SameDirection-trans, dir-self, parallel-in_plane, dot-opposite, opposite-way, opposite-dot, cross-none, opposite-twice, direction-left}
 use Rattle.nef_conn.proofs.Sweep.{minus-any}
 use Rattle.nef_conn.proofs.Fall.{corner-two, corner-wedge, corner-edge, Run, run-edge, run-near, lam-down, lam-chain, lam-self, lam-zero}
 use Rattle.nef_conn.proofs.Near.{Wedge, wedge-of, wedge-way}
 use Rattle.nef_conn.proofs.Fans.{IsOff, off-close, off-ahead, off-between, off-dim}
 use Rattle.nef_conn.proofs.NearOver.{up-some, blend-rises}
 use Rattle.nef_conn.proofs.SliceStrip.{lam, up_line, lam-at, lam-turned, lam-sum, down-turn, Clear, slope-to, along-start, along-end, along-back}
+use Rattle.law_near.proofs.Same.{one-not_two, dim-same}
 
 module _ (t : Set) (h : Form) (hn : IsDirection (normal_of h)) (level : slope h up ≡ pos 0) where
   abbrev n : Vector
@@ -257,9 +258,6 @@ module _ (t : Set) (h : Form) (hn : IsDirection (normal_of h)) (level : slope h 
         at-start : pos 0 <ℤ angle n r0 b y'
         at-start = same-plus (lam n r0 b) (angle n r0 b y') (down-turn n (toward r0 b) (toward r0 y') from-r0) side-r0
 
-        clash : (x : SpacePoint) → FlatDim t x 1 → FlatDim t x 2 → ⊥
-        clash x f g = let j = FlatDim-one t x 1 2 f g in cc
-
         on-b-line : angle n r0 b K.1.place ≡ pos 0 → ⊥
         on-b-line e =
             let o = parallel-in_plane n (toward r0 b) (toward r0 K.1.place) hn (plane-way h r0 b on-r0 on-b) (plane-way h r0 K.1.place on-r0 K.1.on) e in
@@ -269,7 +267,7 @@ module _ (t : Set) (h : Form) (hn : IsDirection (normal_of h)) (level : slope h 
             plus-r0 = subst (λ (v : ℤ). pos 0 <ℤ v) (triple-dot n up (toward r0 b)) side-r0
 
             same-here : SamePoint K.1.place b → ⊥
-            same-here e = clash b (dim-same t K.1.place b 1 e K.1.here) F.0
+            same-here e = one-not_two t b (dim-same t K.1.place b 1 e K.1.here) F.0
 
             zero-there : IsZero (cross (toward r0 b) (toward K.1.place b)) → SamePoint K.1.place b
             zero-there m = toward-point K.1.place b (zero-by (opposite (cross n up)) (toward r0 b) (toward K.1.place b) m (let e = opposite-dot (cross n up) (toward r0 b) in let l = plus-r0 in omega (arith, ints))
@@ -278,7 +276,7 @@ module _ (t : Set) (h : Form) (hn : IsDirection (normal_of h)) (level : slope h 
         over-b : angle n r0 b K.1.place <ℤ pos 0 → ⊥
         over-b l =
             let k = cut-at (turn_form n r0 b) y' K.1.place (direction-left (toward y' K.1.place) K.0 K.1.dir) (let e = turn-at n r0 b y' in let m = at-start in omega (arith, ints)) (let e = turn-at n r0 b K.1.place in omega (arith, ints)) in
-            clash k.place (K.1.before k.place k.between) (to-r0-free k.place (between-turned r0 b k.place (on-way k.place k.between (sym (turn-at n r0 b k.place) ∙ k.level))))
+            one-not_two t k.place (K.1.before k.place k.between) (to-r0-free k.place (between-turned r0 b k.place (on-way k.place k.between (sym (turn-at n r0 b k.place) ∙ k.level))))
           where
             on-way : (x : SpacePoint) → IsBetween y' x K.1.place → angle n r0 b x ≡ pos 0 → IsBetween r0 x b
             on-way x m e =

@@ -1,8 +1,8 @@
 -- What lies above a vertex or an edge is linked with what lies above the edge or facet that leaves it in the first direction, down from up, that isn't free.
-use Rattle.nef_conn.proofs.Prelude.{ℕ, ◌+◌, ◌<◌, ◌≤◌, arith, sym, ◌∙◌, ◌⊎◌, inl, inr, ⊎_elim, List, subst, Chained, Flat, FlatDim, Joined, SpacePoint, SamePoint, toward, IsBetween, Set, Vector, blend, dot, cross, opposite, IsZero, IsDirection, SameDirection, up, FlatDim-one, between-turned, between-inner, between-mix, ahead, joined-both, same-point_sym, toward-point, between-same, forms, SameSigns, same-nought, is-at_one, IsAt, Beside, same_way, other_way, beside, amount, far-keeps, far-level, Vertex, Edge, Complex, Corner, HasEnds, Shows, VertexSide, edge-points, edge-way, ahead-back, dim-same, between-way, between-ends, between-outer, same-itself, same-point_trans, VolumeLink, IsUpright, IsEvenAfter, EdgeWays, edge-ways, tied-ray, AreLinkedWhereJoined, nought-or, zero-decided, SameDirection-turned, SameDirection-trans, dir-signs, opposite-way, direction-left}
+use Rattle.nef_conn.proofs.Prelude.{ℕ, ◌+◌, ◌<◌, ◌≤◌, arith, sym, ◌∙◌, ◌⊎◌, inl, inr, ⊎_elim, List, subst, Chained, Flat, FlatDim, Joined, SpacePoint, SamePoint, toward, IsBetween, Set, Vector, blend, dot, cross, opposite, IsZero, IsDirection, SameDirection, up, FlatDim-one, between-turned, between-inner, between-mix, ahead, joined-both, same-point_sym, toward-point, between-same, forms, SameSigns, same-nought, is-at_one, IsAt, Beside, same_way, other_way, beside, amount, far-keeps, far-level, Vertex, Edge, Complex, Corner, HasEnds, Shows, VertexSide, edge-points, edge-way, ahead-back, between-way, between-ends, between-outer, same-point_trans, VolumeLink, IsUpright, IsEvenAfter, EdgeWays, edge-ways, tied-ray, AreLinkedWhereJoined, nought-or, zero-decided, SameDirection-turned, SameDirection-trans, dir-signs, opposite-way, direction-left}
 use Rattle.law_near.proofs.Points.{mix_point}
 use Rattle.nef_conn.proofs.SameRay.{on-ray}
-use Rattle.nef_conn.proofs.Chain.{chain-both, chain-back}
+use Rattle.nef_space.proofs.Chains.{chain-trans, chain-turned}
 use Rattle.nef_conn.proofs.Hits.{OverEdge, OverFacet, Over, ItemAt, over-item, above}
 use Rattle.nef_conn.proofs.Near.{Above, Wedge, wedge-on, slot, to-slot}
 use Rattle.nef_conn.proofs.NearOver.{high-frame, two-views}
@@ -11,6 +11,8 @@ use Rattle.nef_conn.proofs.OneNamed.{one-vertex}
 use Rattle.nef_conn.proofs.Triangles.{half-to}
 use Rattle.nef_conn.proofs.RaysEnd.{tied-dim}
 use Rattle.nef_conn.proofs.Touch.{Seer, bound, Frame, Touch, vertex-frame, edge-frame, touched, turn-touch, same-seers, no-way}
+use Rattle.law_near.proofs.Same.{one-not_zero, dim-same}
+use Rattle.nef_space.proofs.Elementary.{same-itself}
 
 -- the way from an equal point
 pub toward-same : (y c z : SpacePoint) → SamePoint y c → IsDirection (toward y z) → SameDirection (toward y z) (toward c z)
@@ -30,14 +32,11 @@ toward-same y c z e i =
 -- ---- a vertex from which all points to a point of an edge lie on an edge is an end of that edge
 module _ (s : Set) (y z v w : SpacePoint) (vertex : FlatDim s y 0) (all : (r : SpacePoint) → IsBetween y r z → FlatDim s r 1) (b : IsBetween v z w) (edge : (r : SpacePoint) → IsBetween v r w → FlatDim s r 1)
     (flat : Flat s z (toward v w)) (low : FlatDim s v 0) (high : FlatDim s w 0) where
-  not-both : (r : SpacePoint) → FlatDim s r 1 → FlatDim s r 0 → ⊥
-  not-both r f g = let e = FlatDim-one s r 1 0 f g in absurd (omega arith)
-
   one : FlatDim s z 1
   one = edge z b
 
   apart : IsDirection (toward z y)
-  apart o = not-both z one (dim-same s y z 0 (same-point_sym z y (toward-point z y o)) vertex)
+  apart o = one-not_zero s z one (dim-same s y z 0 (same-point_sym z y (toward-point z y o)) vertex)
 
   back : (r : SpacePoint) → IsBetween z r y → FlatDim s r 1
   back r c = all r (between-turned z y r c)
@@ -50,9 +49,9 @@ module _ (s : Set) (y z v w : SpacePoint) (vertex : FlatDim s y 0) (all : (r : S
   toward-end c inner end w = by (on-ray z y c w)
     where
       by : IsBetween z y c ⊎ (SamePoint y c ⊎ IsBetween z c y) → SamePoint y c
-      by (inl d) = absurd (not-both y (inner y d) vertex)
+      by (inl d) = absurd (one-not_zero s y (inner y d) vertex)
       by (inr (inl e)) = e
-      by (inr (inr d)) = absurd (not-both c (back c d) end)
+      by (inr (inr d)) = absurd (one-not_zero s c (back c d) end)
 
   pub is-end : SamePoint y v ⊎ SamePoint y w
   is-end = by (beside (toward v w) (toward z y) (between-ends v z w b) apart parallel)
@@ -87,10 +86,6 @@ module _ (s : Set) (C : Complex) (S : Shows s C) (upright : IsUpright C) (linked
   beside-over z x n (inr (inl A)) = inr A
   beside-over z x n (inr (inr A)) = absurd (n (facet-dim s C S z x A))
 
-  pub over-beside : (z : SpacePoint) (x : VertexSide) → Beside-point z up x → Over s C S z x
-  over-beside z x (inl A) = inl A
-  over-beside z x (inr A) = inr (inl A)
-
   -- by free directions to another one
   pub turn-beside : (z : SpacePoint) (f g : Vector) (x : VertexSide) → FlatDim s (ahead s z f) 3 → FlatDim s (ahead s z g) 3 → Wedge s 3 z f g → Beside-point z f x → (x' : VertexSide) × Beside-point z g x' × Chained (VolumeLink C) x x'
   turn-beside z f g x hf hg all (inl (i, v, a, e, T)) =
@@ -109,8 +104,8 @@ module _ (s : Set) (C : Complex) (S : Shows s C) (upright : IsUpright C) (linked
         let t = tied-ray s 2 y z g to even in
         let two = tied-dim s z (ahead s y g) 2 t (facet-dim s C S z x' B) in
         let L = slot s C S upright y F g two in
-        chain-both (VolumeLink C) x (above L.corner) x' (to-slot s C S upright y F g two f up-side free wedge x T)
-        (chain-back (VolumeLink C) x' (above L.corner) (over-item s C S linked z x' L.corner B (item-there L.corner t.0 L.item)))
+        chain-trans (VolumeLink C) x (above L.corner) x' (to-slot s C S upright y F g two f up-side free wedge x T)
+        (chain-turned (VolumeLink C) x' (above L.corner) (over-item s C S linked z x' L.corner B (item-there L.corner t.0 L.item)))
       where
         item-there : (j : Corner) → Joined s z (ahead s y g) → ItemAt s C S (ahead s y g) j → ItemAt s C S z j
         item-there j J (v, i, c, (d, o, t)) = (v, i, c, (d, o, joined-both s z (ahead s y g) (ahead s v.point d) J t))
@@ -129,7 +124,7 @@ module _ (s : Set) (C : Complex) (S : Shows s C) (upright : IsUpright C) (linked
             let o = touched s C S y F (blend m g 1 f) k.0 in
             let p = subst (λ (r : Vector). Seer i v o.0 r) (no-way o.1.steps (blend m g 1 f)) o.1.seer in
             let same = one-vertex s C S i j v w a b (same-point_trans v.point y w.point e at-y) in
-            chain-both (VolumeLink C) x o.0 h (turn-touch s C S y F f (blend m g 1 f) free k.0 k.1 x o.0 T o.1)
+            chain-trans (VolumeLink C) x o.0 h (turn-touch s C S y F f (blend m g 1 f) free k.0 k.1 x o.0 T o.1)
             (by o.0 p (subst (λ (r : ℕ). IsAt C.vertices r w) (sym same) b) (subst (λ (r : ℕ). Seer r w h (blend n d 1 up)) (sym same) U))
           where
             by : (x0 : VertexSide) → Seer i v x0 (blend (bound s v f + 1) g 1 f) → IsAt C.vertices i w → Seer i w h (blend n d 1 up) → Chained (VolumeLink C) x0 h
@@ -176,9 +171,9 @@ module _ (s : Set) (C : Complex) (S : Shows s C) (upright : IsUpright C) (linked
               let E = edge-ways s C S k e' v' w' a' H in
               let d = SameDirection-trans (toward w'.point z) (toward w'.point v'.point) E.high.dir (between-way w'.point z v'.point c)
               (SameDirection-trans (toward w'.point v'.point) (opposite E.low.dir) E.high.dir (ahead-back v'.point w'.point E.low.dir E.onward) (opposite-way E.low.dir E.high.dir E.back)) in
-              chain-both (VolumeLink C) x o.0 x'
+              chain-trans (VolumeLink C) x o.0 x'
               (at-end e'.high w' H.high E.high.dir f (from-end w'.point f E.high.dir d) o.0 o.1.steps o.1.large o.1.seer)
-              (chain-back (VolumeLink C) x' o.0 (two-views s C S upright linked k e' v' w' a' H z b free' x' o.0 U o.1))
+              (chain-turned (VolumeLink C) x' o.0 (two-views s C S upright linked k e' v' w' a' H z b free' x' o.0 U o.1))
 
     -- ---- all of them, from a vertex or an edge
     pub near-over : (k : ℕ) → 0 < k → IsEvenAfter s k y z → (Flat s y (toward y z) → ⊥) → Beside-point y f x → Over s C S z x' → Chained (VolumeLink C) x x'

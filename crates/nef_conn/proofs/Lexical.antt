@@ -1,6 +1,6 @@
 -- The order of points: what lies below another point on a line along up comes before it, and so does what lies between two points that do.
-use Rattle.nef_conn.proofs.Prelude.{◌≡◌, ℕ, ◌+◌, ◌<◌, ℤ, pos, ◌+ℤ◌, ◌-ℤ◌, ◌*ℤ◌, ◌<ℤ◌, ◌≤ℤ◌, arith, ap, inl, inr, ◌∷◌, subst, [], ints, at, num, ◌⊕◌, ◌⊖◌, ◌⊗◌, given, none, follows, by_order, mul_pos, mul_nonneg, mul_neg, SpacePoint, toward, IsBetween, IsPointBelow, Vector, opposite, IsNormal, SameDirection, up, mixed-of, Decided, same-factor, ahead-back, SameDirection-turned, opposite-twice}
-use Rattle.nef_conn.proofs.Reached.{toward-normal}
+use Rattle.nef_conn.proofs.Prelude.{◌≡◌, ℕ, ◌+◌, ◌<◌, ℤ, pos, ◌+ℤ◌, ◌-ℤ◌, ◌*ℤ◌, ◌<ℤ◌, ◌≤ℤ◌, arith, ap, inl, inr, ◌∷◌, subst, [], ints, at, num, ◌⊕◌, ◌⊖◌, ◌⊗◌, given, none, follows, by_order, mul_pos, mul_nonneg, mul_neg, SpacePoint, toward, IsBetween, IsPointBelow, Vector, opposite, IsNormal, SameDirection, up, mixed-of, Decided, ahead-back, SameDirection-turned, opposite-twice}
+use Rattle.law_near.proofs.Normals.{toward-normal, normal-kept}
 
 pub normal-below : (p q : SpacePoint) → IsNormal (toward p q) → IsPointBelow p q
 normal-below p q n = by_order (toward p q).x (pos 0)
@@ -61,18 +61,9 @@ before-between y p u q a b c =
         (at 0 ⊗ (at 6 ⊗ at 7 ⊖ at 4 ⊗ at 10)) (at 1 ⊗ (at 6 ⊗ at 8 ⊖ at 3 ⊗ at 10) ⊕ at 2 ⊗ (at 6 ⊗ at 9 ⊖ at 5 ⊗ at 10))
         (given (num (pos 0) ⊖ at 10) (at 0 ⊗ at 4) (at 1 ⊗ at 3 ⊕ at 2 ⊗ at 5) e (given (at 6) (at 0 ⊗ at 7) (at 1 ⊗ at 8 ⊕ at 2 ⊗ at 9) f none)) tt
 
--- of the same way as a normal
-pub normal-way : (a b : Vector) → SameDirection a b → IsNormal a → IsNormal b
-normal-way a b w n =
-    let f = same-factor a b w in
-    normal-sum (f.l + f.l) f.k f.k (let l = f.some_l in omega arith) f.some_k f.some_k a a b (one f.k f.l a.x b.x f.is_x) (one f.k f.l a.y b.y f.is_y) (one f.k f.l a.z b.z f.is_z) n n
-  where
-    one : (k l : ℕ) (x y : ℤ) → pos k *ℤ x ≡ pos l *ℤ y → pos (l + l) *ℤ y ≡ pos k *ℤ x +ℤ pos k *ℤ x
-    one k l x y e = follows (pos k ∷ pos l ∷ x ∷ y ∷ []) ((at 1 ⊕ at 1) ⊗ at 3) (at 0 ⊗ at 2 ⊕ at 0 ⊗ at 2) (given (num (pos 0) ⊖ num (pos 2)) (at 0 ⊗ at 2) (at 1 ⊗ at 3) e none) tt
-
 -- what lies below comes before
 pub down-before : (y r : SpacePoint) → SameDirection (toward y r) (opposite up) → IsPointBelow r y
-down-before y r w = normal-below r y (normal-way up (toward r y) (SameDirection-turned (toward r y) up (subst (λ (v : Vector). SameDirection (toward r y) v) (opposite-twice up) (ahead-back y r (opposite up) w)))
+down-before y r w = normal-below r y (normal-kept up (toward r y) (SameDirection-turned (toward r y) up (subst (λ (v : Vector). SameDirection (toward r y) v) (opposite-twice up) (ahead-back y r (opposite up) w)))
     (record { first = omega (arith, ints); second = λ e. omega (arith, ints); third = λ e f. omega (arith, ints) }))
 
 pub below-decided : (p q : SpacePoint) → Decided (IsPointBelow p q)

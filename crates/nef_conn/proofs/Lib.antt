@@ -23,7 +23,6 @@ pub mod AcrossFacet
 pub mod FromFacet
 pub mod Ahead
 pub mod Steps
-pub mod Chain
 pub mod RaysEnd
 pub mod SidePaths
 pub mod Slice

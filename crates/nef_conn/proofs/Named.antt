@@ -6,12 +6,13 @@
 --   and names the arc at its lower end, which is this one or linked with it along the edge.
 -- * an arc ends at the svertex of d. Then the arc at the other end of the edge is linked with it, has the same plane, and lies further along d, where
 --   the number of its vertex is greater for each such step, or smaller for each. So this comes to an end, by induction on the vertices left.
-use Rattle.nef_conn.proofs.Prelude.{◌≡◌, ℕ, pos, ◌<ℤ◌, sym, ◌∙◌, ◌⊎◌, inl, inr, ⊎_elim, subst, Chained, FlatDim, SpacePoint, Form, form_at, normal_of, plane_through, SamePoint, toward, IsBetween, Set, Vector, opposite, dot, triple, IsDirection, SameDirection, plane_dir, SameGerms, FlatDim-by_germs, ahead, joined-germs, joined-turned, joined-both, between-turned, point-toward, IsAt, Arc, Item, arc_item, item_normal, dir_of, OnItem, normal-is, same-plus, same-minus, on-direction, on-level, dir-at, arc-at, turn-same, turn-last, Vertex, Edge, Complex, Corner, HasEnds, IsCorner, Shows, item_plane, PlaneMeet, meets_edge, Meets, IsFirstInPlane, IsArcOnSide, IsCornerAt, IsFlatIn, FlatAre, between-way, between-cases, same-itself, near_point, near-between, flats-carried, plane-ahead, two-off, meets-on, IsInFacetOf, ahead-back, through-at, weight, normal-scaled, through-level, facet-behind, LinkAcross, FacetLink, ahead-toward, even-after, IsTied, tied-both, tied-ahead, facet-near, at-item, item-has_point, one-item, EdgeWays, edge-ways, tied-low, EndsOnSide, end-level, close_way, on-close, tied-close_way, through-same, way_inward, NamesFor, dot-zero, SameDirection-turned, SameDirection-trans, dir-self, opposite-same, level-way, opposite-twice, direction-left, direction-right}
+use Rattle.nef_conn.proofs.Prelude.{◌≡◌, ℕ, pos, ◌<ℤ◌, sym, ◌∙◌, ◌⊎◌, inl, inr, ⊎_elim, subst, Chained, FlatDim, SpacePoint, Form, form_at, normal_of, plane_through, SamePoint, toward, IsBetween, Set, Vector, opposite, dot, triple, IsDirection, SameDirection, plane_dir, SameGerms, FlatDim-by_germs, ahead, joined-germs, joined-turned, joined-both, between-turned, point-toward, IsAt, Arc, Item, arc_item, item_normal, dir_of, OnItem, normal-is, same-plus, same-minus, on-direction, on-level, dir-at, arc-at, turn-same, turn-last, Vertex, Edge, Complex, Corner, HasEnds, IsCorner, Shows, item_plane, PlaneMeet, meets_edge, Meets, IsFirstInPlane, IsArcOnSide, IsCornerAt, IsFlatIn, FlatAre, between-way, between-cases, near_point, near-between, flats-carried, plane-ahead, two-off, meets-on, IsInFacetOf, ahead-back, through-at, weight-positive, normal-scaled, through-level, facet-behind, LinkAcross, FacetLink, ahead-toward, even-after, IsTied, tied-both, tied-ahead, facet-near, at-item, item-has_point, one-item, EdgeWays, edge-ways, tied-low, EndsOnSide, end-level, close_way, on-close, tied-close_way, through-same, way_inward, NamesFor, dot-zero, SameDirection-turned, SameDirection-trans, dir-self, opposite-same, level-way, opposite-twice, direction-left, direction-right}
 use Rattle.law_complex.proofs.links.ItemLinks.{items-joined}
-use Rattle.nef_conn.proofs.Chain.{chain-here, chain-before}
+use Rattle.nef_space.proofs.Chains.{chain-here, chain-before}
 use Rattle.nef_conn.proofs.SamePlanes.{on-too}
 use Rattle.nef_conn.proofs.WayInward.{names-same, dir-level, dir-some, dir-same}
 use Rattle.law_complex.proofs.FacetEnds.{level-normal}
+use Rattle.nef_space.proofs.Elementary.{same-itself}
 
 -- ---- planes
 pub own-plane : (n : Vector) (p : SpacePoint) → form_at (plane_through n p) p ≡ pos 0
@@ -97,7 +98,7 @@ module _ (s : Set) (C : Complex) (S : Shows s C) (j : Corner) (v : Vertex) (x : 
   flat-q = flats-in s q p n F.dim F.flat
 
   pub found : (m : PlaneMeet) × IsFirstInPlane C plane q d m × ((k : Corner) × IsCornerAt C plane (opposite d) m k)
-  found = facet-behind s C S plane q (normal-scaled n (pos p.w) (weight p) ((S.cones j.vertex v K.vertex).valid.shaped.normals j.item x K.item)) on-q d (on-direction v.map x d o)
+  found = facet-behind s C S plane q (normal-scaled n (pos p.w) (weight-positive p) ((S.cones j.vertex v K.vertex).valid.shaped.normals j.item x K.item)) on-q d (on-direction v.map x d o)
       ((through-level n d p).0 (on-level v.map x d o)) flat-q
 
   pub from-vertex : (m : PlaneMeet) → IsFirstInPlane C plane q d m → IsFirstInPlane C plane p d m

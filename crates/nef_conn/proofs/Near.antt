@@ -1,11 +1,12 @@
 -- What lies above a point of the skeleton, and above what leaves it in the first direction down from up that isn't free, is linked.
-use Rattle.nef_conn.proofs.Prelude.{◌≡◌, ℕ, ◌+◌, ◌*◌, ◌<◌, ◌≤◌, ℤ, pos, ◌+ℤ◌, ◌*ℤ◌, ◌<ℤ◌, arith, refl, ap, sym, ◌∙◌, inl, ⊎_elim, ◌∷◌, subst, [], ints, mul-pos, sign, ring, at, num, ◌⊕◌, ◌⊗◌, given, none, follows, product-off, Chained, FlatDim, SpacePoint, toward, IsBetween, Set, Vector, blend, dot, IsZero, IsDirection, SameDirection, up, FlatDim-one, ahead, same-factor, factor-same, same-nought, forms, SameSigns, IsAt, Item, items, item_normal, item_pos, OnItem, Shaped, item-forms, normal-form, on-level, PlaceOf, svertex_place, item_place, free_place, place_of, far-keeps, far-level, dot-comb, same-plus, Vertex, Complex, Corner, Shows, VertexSide, near_point, near-between, near-one, dim-same, VolumeLink, IsUpright, free-dim, sees-pos, ahead-toward, ahead-way, dim-cell, even-after, IsTied, nought-or, vector-same, SameDirection-turned, SameDirection-trans, direction-left, blend-turned}
+use Rattle.nef_conn.proofs.Prelude.{◌≡◌, ℕ, ◌+◌, ◌*◌, ◌<◌, ◌≤◌, ℤ, pos, ◌+ℤ◌, ◌*ℤ◌, ◌<ℤ◌, arith, refl, ap, sym, ◌∙◌, inl, ⊎_elim, ◌∷◌, subst, [], ints, mul-pos, sign, ring, at, num, ◌⊕◌, ◌⊗◌, given, none, follows, product-off, Chained, FlatDim, SpacePoint, toward, IsBetween, Set, Vector, blend, dot, IsZero, IsDirection, SameDirection, up, FlatDim-one, ahead, same-factor, factor-same, same-nought, forms, SameSigns, IsAt, Item, items, item_normal, item_pos, OnItem, Shaped, item-forms, normal-form, on-level, PlaceOf, svertex_place, item_place, free_place, place_of, far-keeps, far-level, dot-comb, same-plus, Vertex, Complex, Corner, Shows, VertexSide, near_point, near-between, near-one, VolumeLink, IsUpright, free-dim, sees-pos, ahead-toward, ahead-way, dim-cell, even-after, IsTied, nought-or, vector-same, SameDirection-turned, SameDirection-trans, direction-left, blend-turned}
 use Rattle.nef_conn.proofs.AtSides.{ahead-zero}
-use Rattle.nef_conn.proofs.Chain.{chain-both}
+use Rattle.nef_space.proofs.Chains.{chain-trans}
 use Rattle.nef_conn.proofs.Fans.{IsOff, fan}
 use Rattle.nef_conn.proofs.Hits.{ItemAt, above}
 use Rattle.nef_conn.proofs.RaysEnd.{tied-dim}
 use Rattle.nef_conn.proofs.Touch.{bound, Frame, Touch, same-seers, touched, turn-touch}
+use Rattle.law_near.proofs.Same.{dim-same}
 
 -- ---- wedges
 -- all directions between f and g are free
@@ -148,4 +149,4 @@ module _ (s : Set) (C : Complex) (S : Shows s C) (upright : IsUpright C) where
       let m = bound s F.vertex f + 1 in
       let w = wedge-on s 3 y f g m (omega arith) all in
       let o = touched s C S y F (blend m g 1 f) w.0 in
-      chain-both (VolumeLink C) x o.0 (above (slot y F g two).corner) (turn-touch s C S y F f (blend m g 1 f) free w.0 w.1 x o.0 T o.1) ((slot y F g two).links f up-side o.0 m (omega arith) o.1)
+      chain-trans (VolumeLink C) x o.0 (above (slot y F g two).corner) (turn-touch s C S y F f (blend m g 1 f) free w.0 w.1 x o.0 T o.1) ((slot y F g two).links f up-side o.0 m (omega arith) o.1)

@@ -1,13 +1,14 @@
 -- Sides above the two ends' views of an edge are linked; so what lies above a vertex or an edge is linked with what lies above the edge or facet that leaves it in the first direction, down from up, that isn't free.
-use Rattle.nef_conn.proofs.Prelude.{◌≡◌, ℕ, zero, suc, ◌<◌, ℤ, pos, ◌<ℤ◌, ◌≤ℤ◌, arith, refl, sym, ◌∙◌, inl, inr, ⊎_elim, subst, ints, mul_pos, mul_nonneg, Chained, Flat, FlatDim, SpacePoint, plane_through, toward, IsBetween, Set, Vector, blend, dot, cross, IsZero, IsDirection, SameDirection, up, Drop, IsFlatBelow, FlatDim-one, FlatDim-by_germs, dir-at, Decided, decided-or, ahead, near-ahead, even-until, flat-nearby, flat-toward, span-1, Flat-from_cone, FlatCone-from_flat, near-of_flat, toward-point, IsAt, MapVertex, Arc, arc_item, around_svertex, HasArc, Shaped, dir_of, at-arc, search_list, dot-comb, normal-is, same-plus, sees-around, Vertex, Edge, Complex, HasEnds, IsCorner, Shows, VertexSide, edge-points, through-at, between-plus, dim-same, between-start, VolumeLink, around_ends, IsUpright, EdgeWays, edge-ways, tied-low, tied-high, end-level, close_way, on-close, tied-close_way, corner_of_numbers, facet-near, level-opposite, ahead-close, ahead-toward, tied-turned, tied-both, tied-ahead, AreLinkedWhereJoined, EndsAt, dot-zero, SameDirection-turned, dir-self, dir-signs, in-span, opposite-turned, parallel-trans, level-way, direction-left, direction-right, eq-decided}
+use Rattle.nef_conn.proofs.Prelude.{◌≡◌, ℕ, zero, suc, ◌<◌, ℤ, pos, ◌<ℤ◌, ◌≤ℤ◌, arith, refl, sym, ◌∙◌, inl, inr, ⊎_elim, subst, ints, mul_pos, mul_nonneg, Chained, Flat, FlatDim, SpacePoint, plane_through, toward, IsBetween, Set, Vector, blend, dot, cross, IsZero, IsDirection, SameDirection, up, Drop, IsFlatBelow, FlatDim-one, FlatDim-by_germs, dir-at, Decided, decided-or, ahead, near-ahead, even-until, flat-nearby, flat-toward, span-1, Flat-from_cone, FlatCone-from_flat, near-of_flat, toward-point, IsAt, MapVertex, Arc, arc_item, around_svertex, HasArc, Shaped, dir_of, at-arc, search_list, dot-comb, normal-is, same-plus, sees-around, Vertex, Edge, Complex, HasEnds, IsCorner, Shows, VertexSide, edge-points, through-at, between-plus, between-start, VolumeLink, around_ends, IsUpright, EdgeWays, edge-ways, tied-low, tied-high, end-level, close_way, on-close, tied-close_way, corner_of_numbers, facet-near, level-opposite, ahead-close, ahead-toward, tied-turned, tied-both, tied-ahead, AreLinkedWhereJoined, EndsAt, dot-zero, SameDirection-turned, dir-self, dir-signs, in-span, opposite-turned, parallel-trans, level-way, direction-left, direction-right, eq-decided}
 use Rattle.nef_conn.proofs.Onward.{side-of}
 use Rattle.nef_conn.proofs.FirstMet.{all-flat}
-use Rattle.nef_conn.proofs.Chain.{chain-both, chain-back, chain-one}
+use Rattle.nef_space.proofs.Chains.{chain-trans, chain-turned, chain-link}
 use Rattle.nef_conn.proofs.Fans.{IsOff, off-ahead, off-between, off-dim}
 use Rattle.nef_conn.proofs.Hits.{items-above, above}
 use Rattle.nef_conn.proofs.Near.{Wedge, wedge-way, wedge-of, slot, to-slot}
 use Rattle.nef_conn.proofs.RaysEnd.{tied-dim}
 use Rattle.nef_conn.proofs.Touch.{Frame, Touch, edge-frame, tied-frame, same-seers}
+use Rattle.law_near.proofs.Same.{dim-same}
 
 pub up-some : IsDirection up
 up-some z = let e = z.2 in omega (arith, ints)
@@ -50,9 +51,9 @@ module _ (s : Set) (C : Complex) (S : Shows s C) (upright : IsUpright C) (linked
       by-first g two all =
           let L = slot s C S upright z low-frame g two in
           let R = slot s C S upright z high-frame g two in
-          chain-both (VolumeLink C) x (above L.corner) y (to-slot s C S upright z low-frame g two up (λ p q. refl) free all x T)
-          (chain-both (VolumeLink C) (above L.corner) (above R.corner) y (items-above s C S linked (ahead s z g) L.corner R.corner L.item R.item)
-          (chain-back (VolumeLink C) y (above R.corner) (to-slot s C S upright z high-frame g two up (λ p q. refl) free all y U)))
+          chain-trans (VolumeLink C) x (above L.corner) y (to-slot s C S upright z low-frame g two up (λ p q. refl) free all x T)
+          (chain-trans (VolumeLink C) (above L.corner) (above R.corner) y (items-above s C S linked (ahead s z g) L.corner R.corner L.item R.item)
+          (chain-turned (VolumeLink C) y (above R.corner) (to-slot s C S upright z high-frame g two up (λ p q. refl) free all y U)))
 
       module _ (n h : Vector) (along : dot n D ≡ pos 0) (level : dot n h ≡ pos 0) (high : pos 0 <ℤ dot n up) (some : IsDirection h) (two : FlatDim s (ahead s z h) 2) where
         abbrev P : SpacePoint
@@ -187,7 +188,7 @@ module _ (s : Set) (C : Complex) (S : Shows s C) (upright : IsUpright C) (linked
             (record { here = refl; label = r.0; has = (W.low, W.is_low, r.1); sees = sees-around v.map V e.low_svertex W.low W.is_low lone up T.steps (let l = T.large in omega arith) not-along }) (λ g l. refl) in
             let d = same-seers s C S e.high w H.high y there (blend U.steps W.high.dir 1 up) (blend U.steps W.high.dir 1 up) U.seer
             (record { here = refl; label = q.0; has = (W.high, W.is_high, q.1); sees = sees-around w.map V' e.high_svertex W.high W.is_high lone' up U.steps (let l = U.large in omega arith) not-along' }) (λ g l. refl) in
-            let m = chain-one (VolumeLink C) here there (inr (inl (record {
+            let m = chain-link (VolumeLink C) here there (inr (inl (record {
               number = k;
               edge = e;
               is_edge = a;
@@ -197,7 +198,7 @@ module _ (s : Set) (C : Complex) (S : Shows s C) (upright : IsUpright C) (linked
               is_high = (q.0, refl, refl, (w, H.high, (W.high, W.is_high, q.1)));
               along = around_ends refl refl;
             }))) in
-            chain-both (VolumeLink C) x here y c (chain-both (VolumeLink C) here there y m (chain-back (VolumeLink C) y there d))
+            chain-trans (VolumeLink C) x here y c (chain-trans (VolumeLink C) here there y m (chain-turned (VolumeLink C) y there d))
 
       ends-at : (i : ℕ) (c : Arc) (j : ℕ) → Decided (EndsAt c j)
       ends-at i c j = decided-or (eq-decided c.source j) (eq-decided c.target j)

@@ -1,18 +1,12 @@
 -- What a ray within a plane first meets, and the corner there, are one.
-use Rattle.nef_conn.proofs.Prelude.{◌≡◌, ℕ, ◌<◌, pos, ◌<ℤ◌, ◌+ℤ◌, ◌*ℤ◌, arith, ap, sym, ◌∙◌, inl, inr, ◌⊎◌, ⊎_elim, ◌∷◌, subst, [], cases_order, ints, ring, at, num, ◌⊕◌, ◌⊗◌, SpacePoint, Form, normal_of, slope, toward, SamePoint, IsBetween, Set, Vector, dot, cross, opposite, blend, triple, IsDirection, IsZero, IsNormal, SameDirection, Label, between-same, between-turned, between-inner, point_below-apart, same-point_sym, forms, IsAt, MapVertex, Arc, arc_item, items, OnItem, Map, dir_of, Shaped, at-arc, Ends, ends-of, normals-same, amount, is-at_one, dir-at, dot-comb, Vertex, Edge, Complex, Corner, HasEnds, IsEdge, IsEdgeBelow, Shows, IsEdgePoint, PlaneMeet, meets_vertex, meets_edge, Meets, IsFirstInPlane, IsArcOnSide, IsCornerAt, RayNames, edge-points, source-meets, target-meets, ahead-back, between-way, between-outer, same-itself, same-point_trans, SameDirection-turned, SameDirection-trans, dir-self, parallel-trans, opposite-same, opposite-way, direction-right}
+use Rattle.nef_conn.proofs.Prelude.{◌≡◌, ℕ, ◌<◌, pos, ◌<ℤ◌, ◌+ℤ◌, ◌*ℤ◌, arith, ap, sym, ◌∙◌, inl, inr, ◌⊎◌, ⊎_elim, ◌∷◌, subst, [], cases_order, ints, ring, at, num, ◌⊕◌, ◌⊗◌, SpacePoint, Form, normal_of, slope, toward, SamePoint, IsBetween, Set, Vector, dot, cross, opposite, blend, triple, IsDirection, IsZero, IsNormal, SameDirection, between-same, between-turned, between-inner, point_below-apart, same-point_sym, forms, IsAt, MapVertex, Arc, arc_item, items, OnItem, Map, dir_of, Shaped, at-arc, Ends, ends-of, normals-same, amount, is-at_one, dir-at, dot-comb, Vertex, Edge, Complex, Corner, HasEnds, IsEdge, IsEdgeBelow, Shows, IsEdgePoint, PlaneMeet, meets_vertex, meets_edge, Meets, IsFirstInPlane, IsArcOnSide, IsCornerAt, RayNames, edge-points, source-meets, target-meets, ahead-back, between-way, between-outer, same-point_trans, SameDirection-turned, SameDirection-trans, dir-self, parallel-trans, opposite-same, opposite-way, direction-right}
 use Rattle.nef_space.specs.Numbers.{IsBelow}
 use Rattle.nef_conn.proofs.SamePlanes.{side-turned}
 use Rattle.nef_conn.proofs.SameRay.{on-ray}
-use Rattle.nef_conn.proofs.Reached.{toward-normal}
 use Rattle.law_complex.proofs.FacetEnds.{level-normal}
-
-edge-same : (e f : Edge) → e.low ≡ f.low → e.low_svertex ≡ f.low_svertex → e.high ≡ f.high → e.high_svertex ≡ f.high_svertex → e.mark ≡ f.mark → e ≡ f
-edge-same e f h i j k l =
-    ap (λ n. make n e.low_svertex e.high e.high_svertex e.mark) h ∙ ap (λ n. make f.low n e.high e.high_svertex e.mark) i ∙ ap (λ n. make f.low f.low_svertex n e.high_svertex e.mark) j
-    ∙ ap (λ n. make f.low f.low_svertex f.high n e.mark) k ∙ ap (λ n. make f.low f.low_svertex f.high f.high_svertex n) l
-  where
-    make : ℕ → ℕ → ℕ → ℕ → Label → Edge
-    make a b c d m = record { low = a; low_svertex = b; high = c; high_svertex = d; mark = m }
+use Rattle.law_near.proofs.Normals.{toward-normal}
+use Rattle.law_complex.proofs.Equal.{edges-equal, corners-equal}
+use Rattle.nef_space.proofs.Elementary.{same-itself}
 
 -- ---- arcs beside a svertex
 -- of one plane one arc leaves a svertex on one side
@@ -59,12 +53,6 @@ module _ (M : Map) (V : Shaped M) (j : ℕ) (u : MapVertex) (b : IsAt M.svertice
   one-arc : (p : SpacePoint) (i k : ℕ) (a e : Arc) → IsAt M.arcs i a → IsAt M.arcs k e → SameDirection a.normal n → SameDirection e.normal n
       → IsArcOnSide (record { point = p; map = M }) j n f a → IsArcOnSide (record { point = p; map = M }) j n f e → i ≡ k
   one-arc p i k a e l m w r o q = V.no_items_meet i k (arc_item a) (arc_item e) c (at-arc M.arcs M.sloop i a l) (at-arc M.arcs M.sloop k e m) (met p i a l w o) (met p k e m r q)
-
-pub corners-same : (j k : Corner) → j.vertex ≡ k.vertex → j.item ≡ k.item → j ≡ k
-corners-same j k e f = ap (λ n. make n j.item) e ∙ ap (λ n. make k.vertex n) f
-  where
-    make : ℕ → ℕ → Corner
-    make a b = record { vertex = a; item = b }
 
 -- no edge comes before itself in the order
 never-below : (a b : ℕ) → IsBelow (pos a ∷ pos b ∷ []) (pos a ∷ pos b ∷ []) → ⊥
@@ -162,7 +150,7 @@ module _ (s : Set) (C : Complex) (S : Shows s C) where
         (SameDirection-trans (opposite way_e) (opposite way_f) F.high_end.dir (opposite-same way_e way_f ways) (opposite-way way_f F.high_end.dir F.back)) in
         let n = (shaped f.high F.high_vertex F.is_high).svertices_apart e.high_svertex f.high_svertex E.high_end F.high_end arrives F.arrives back in
         let start = is-at_one F.low_vertex.map.svertices f.low_svertex E.low_end F.low_end (subst (λ (j : ℕ). IsAt F.low_vertex.map.svertices j E.low_end) m leaves) F.leaves in
-        edge-same e f g m h n (E.mark ∙ ap (λ (x : MapVertex). x.mark) start ∙ sym F.mark)
+        edges-equal e f g m h n (E.mark ∙ ap (λ (x : MapVertex). x.mark) start ∙ sym F.mark)
 
   -- the point of an edge is between the ends that the edge has
   pub edge-inside : (k : ℕ) (z : SpacePoint) → IsEdgePoint C k z → (e : Edge) × (E : IsEdge C.vertices e) × IsAt C.edges k e × IsBetween E.low_vertex.point z E.high_vertex.point
@@ -222,7 +210,7 @@ module _ (s : Set) (C : Complex) (S : Shows s C) where
         let same = is-at_one C.vertices k.vertex v w (subst (λ (a : ℕ). IsAt C.vertices a v) n c.vertex) b.vertex in
         let item = subst (λ (u : Vertex). IsAt (items u.map) j.item x) same c.item in
         let on = subst (λ (u : Vertex). OnItem u.map x d) same o in
-        corners-same j k n ((shaped k.vertex w b.vertex).no_items_meet j.item k.item x z d item b.item on q)
+        corners-equal j k n ((shaped k.vertex w b.vertex).no_items_meet j.item k.item x z d item b.item on q)
     one-corner (meets_edge i) (e, v, a, l, p, b, t, r, o) (f, w, c, m, q, g, u, z, x) =
         let one = is-at_one C.edges i e f l m in
         let E = S.edges.edges i f m in
@@ -230,7 +218,7 @@ module _ (s : Set) (C : Complex) (S : Shows s C) where
         let low' = is-at_one C.vertices f.low w E.low_vertex g E.is_low in
         let side = subst (λ (y : Vertex). IsArcOnSide y f.low_svertex (normal_of h) d a) low (subst (λ (y : Edge). IsArcOnSide v y.low_svertex (normal_of h) d a) one o) in
         let side' = subst (λ (y : Vertex). IsArcOnSide y f.low_svertex (normal_of h) d c) low' x in
-        corners-same j k (p ∙ ap (λ (y : Edge). y.low) one ∙ sym q)
+        corners-equal j k (p ∙ ap (λ (y : Edge). y.low) one ∙ sym q)
         (one-arc E.low_vertex.map (shaped f.low E.low_vertex E.is_low) f.low_svertex E.low_end E.leaves (normal_of h) d some level E.low_vertex.point j.item k.item a c
         (subst (λ (y : Vertex). IsAt y.map.arcs j.item a) low t) (subst (λ (y : Vertex). IsAt y.map.arcs k.item c) low' u) r z side side')
 

@@ -1,12 +1,14 @@
 -- Sides above one place, or above points of one edge or one facet, are linked.
-use Rattle.nef_conn.proofs.Prelude.{◌≡◌, ℕ, ◌≤◌, arith, ap, sym, ◌∙◌, ◌⊎◌, inl, inr, ⊎_elim, List, subst, sign, Chained, Flat, FlatDim, Joined, IsEven, SpacePoint, SamePoint, toward, IsBetween, Set, Vector, blend, dot, cross, opposite, IsZero, IsDirection, IsNormal, SameDirection, zero_vector, up, carriers, FlatDim-one, Flat-by_germs, between-turned, between-inner, ahead, even-germs, signs-same, same-point_sym, toward-point, between-same, same-nought, forms, SameSigns, IsAt, pos_item, Beside, same_way, other_way, beside, normals-not_opposite, amount, far-keeps, far-level, is-at_one, Vertex, Edge, Complex, HasEnds, Shows, VertexSide, edge-points, edge-way, ahead-back, dim-same, between-way, between-cases, same-itself, same-point_trans, VolumeLink, edge-ways, normal-direction, flat_dim-of, facet-near, joined-even, tied-turned, even-cell, AreLinkedWhereJoined, joined-both, nought-or, zero-decided, SameDirection-turned, SameDirection-trans, dir-self, dir-signs, opposite-turned, opposite-way, direction-left}
+use Rattle.nef_conn.proofs.Prelude.{◌≡◌, ℕ, ◌≤◌, arith, ap, sym, ◌∙◌, ◌⊎◌, inl, inr, ⊎_elim, List, subst, sign, Chained, Flat, FlatDim, Joined, IsEven, SpacePoint, SamePoint, toward, IsBetween, Set, Vector, blend, dot, cross, opposite, IsZero, IsDirection, IsNormal, SameDirection, zero_vector, up, carriers, FlatDim-one, Flat-by_germs, between-turned, between-inner, ahead, even-germs, signs-same, same-point_sym, toward-point, between-same, same-nought, forms, SameSigns, IsAt, pos_item, Beside, same_way, other_way, beside, normals-not_opposite, amount, far-keeps, far-level, is-at_one, Vertex, Edge, Complex, HasEnds, Shows, VertexSide, edge-points, edge-way, ahead-back, between-way, between-cases, same-point_trans, VolumeLink, edge-ways, normal-direction, flat_dim-of, facet-near, joined-even, tied-turned, even-cell, AreLinkedWhereJoined, joined-both, nought-or, zero-decided, SameDirection-turned, SameDirection-trans, dir-self, dir-signs, opposite-turned, opposite-way, direction-left}
 use Rattle.nef_conn.proofs.OneNamed.{one-vertex}
 use Rattle.nef_conn.proofs.SameRay.{on-ray}
 use Rattle.nef_conn.proofs.Hits.{OverVertex, OverEdge, OverFacet, Over, over-item, side-is}
 use Rattle.nef_conn.proofs.Triangles.{half-to}
-use Rattle.nef_conn.proofs.Reached.{toward-normal}
 use Rattle.nef_conn.proofs.RaysEnd.{tied-dim}
 use Rattle.nef_conn.proofs.Touch.{Seer, bound, same-seers, no-way}
+use Rattle.law_near.proofs.Normals.{toward-normal}
+use Rattle.law_near.proofs.Same.{one-not_zero, dim-same}
+use Rattle.nef_space.proofs.Elementary.{same-itself}
 
 -- ---- directions close to two vectors of one way
 pub ways-same : (gs : List Vector) (d e f : Vector) (k l : ℕ) → SameDirection d e → amount gs f ≤ k → amount gs f ≤ l → SameSigns gs (blend k d 1 f) (blend l e 1 f)
@@ -18,9 +20,6 @@ ways-same gs d e f k l w h i g m = ⊎_elim
 -- ---- the lower ends of two edges on one line
 module _ (s : Set) (v w z v' w' z' : SpacePoint) (b : IsBetween v z w) (b' : IsBetween v' z' w') (same : SameDirection (toward v w) (toward v' w'))
     (all : (r : SpacePoint) → IsBetween v r w → FlatDim s r 1) (all' : (r : SpacePoint) → IsBetween v' r w' → FlatDim s r 1) (zero : FlatDim s v 0) (zero' : FlatDim s v' 0) where
-  one-zero : (r : SpacePoint) → FlatDim s r 1 → FlatDim s r 0 → ⊥
-  one-zero r f g = let e = FlatDim-one s r 1 0 f g in absurd (omega arith)
-
   to-low : SameDirection (toward z v) (opposite (toward v w))
   to-low = ahead-back v z (toward v w) (between-way v z w b)
 
@@ -44,11 +43,11 @@ module _ (s : Set) (v w z v' w' z' : SpacePoint) (b : IsBetween v z w) (b' : IsB
       back = ahead-back v z' (toward v w) (SameDirection-trans (toward v z') (toward v z) (toward v w) (SameDirection-turned (toward v z) (toward v z') (between-way v z z' first)) (between-way v z w b))
 
       by : IsBetween z' v v' ⊎ (SamePoint v v' ⊎ IsBetween z' v' v) → SamePoint v v'
-      by (inl c) = absurd (one-zero v (between-low' v c) zero)
+      by (inl c) = absurd (one-not_zero s v (between-low' v c) zero)
       by (inr (inl e)) = e
       by (inr (inr c)) = ⊎_elim
-          (λ d. absurd (one-zero v' (even v' (between-turned z' z v' d)) zero'))
-          (λ o. ⊎_elim (λ e. absurd (one-zero z (all z b) (dim-same s v' z 0 e zero'))) (λ d. absurd (one-zero v' (between-low v' d) zero')) o)
+          (λ d. absurd (one-not_zero s v' (even v' (between-turned z' z v' d)) zero'))
+          (λ o. ⊎_elim (λ e. absurd (one-not_zero s z (all z b) (dim-same s v' z 0 e zero'))) (λ d. absurd (one-not_zero s v' (between-low v' d) zero')) o)
           (between-cases z' z v v' (between-turned v z' z first) c)
 
   pub same-low : SamePoint z z' → SamePoint v v'
@@ -61,9 +60,9 @@ module _ (s : Set) (v w z v' w' z' : SpacePoint) (b : IsBetween v z w) (b' : IsB
       back = ahead-back v z' (toward v w) (between-way v z' w moved)
 
       by : IsBetween z' v v' ⊎ (SamePoint v v' ⊎ IsBetween z' v' v) → SamePoint v v'
-      by (inl c) = absurd (one-zero v (between-low' v c) zero)
+      by (inl c) = absurd (one-not_zero s v (between-low' v c) zero)
       by (inr (inl f)) = f
-      by (inr (inr c)) = absurd (one-zero v' (all v' (between-inner v z' w v' moved (between-turned z' v v' c))) zero')
+      by (inr (inr c)) = absurd (one-not_zero s v' (all v' (between-inner v z' w v' moved (between-turned z' v v' c))) zero')
 
 module _ (s : Set) (C : Complex) (S : Shows s C) where
   -- sides of one vertex, by whatever number and record
@@ -97,9 +96,6 @@ module _ (s : Set) (C : Complex) (S : Shows s C) where
     where
       one : FlatDim s z 1
       one = (edge-points s C k e v w z S a H b).0
-
-      one' : FlatDim s z' 1
-      one' = (edge-points s C k' e' v' w' z' S a' H' b').0
 
       all : (r : SpacePoint) → IsBetween v.point r w.point → FlatDim s r 1
       all r c = (edge-points s C k e v w r S a H c).0

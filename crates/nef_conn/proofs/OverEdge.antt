@@ -1,6 +1,6 @@
 -- From a vertex beside which z lies, whose arc ends at an edge that leads to z's line: z's ray comes to this edge, and names the arc or the one linked with it along the edge.
 use Rattle.nef_conn.proofs.Prelude.{◌≡◌, ℕ, ℤ, pos, neg_ℤ, ◌<ℤ◌, arith, refl, ap, sym, ◌∙◌, ◌⊎◌, inl, inr, subst, ints, sign, Chained, Flat, FlatDim, SpacePoint, Form, form_at, normal_of, toward, IsBetween, Set, Vector, opposite, dot, triple, IsDirection, SameDirection, between-inner, span-1, IsAt, Arc, Item, arc_item, item_normal, dir_of, same-plus, same-minus, normal-direction, at-arc, is-at_one, arc-at, dir-at, turn-same, Vertex, Edge, Complex, Corner, HasEnds, IsCorner, Shows, Cut, PlaneMeet, meets_edge, Meets, IsFirstInPlane, IsArcOnSide, IsCornerAt, RayNames, between-way, between-ends, two-off, meets-on, FacetLink, level-of_opposite, SameDirection-turned, dir-self, direction-opposite, direction-right, right-turn, back-triple}
-use Rattle.nef_conn.proofs.Chain.{chain-here, chain-before}
+use Rattle.nef_space.proofs.Chains.{chain-here, chain-before}
 use Rattle.nef_conn.proofs.OneNamed.{one-met, one-corner}
 use Rattle.nef_conn.proofs.Sector.{Seen, sector_end, Stops}
 use Rattle.nef_conn.proofs.Leads.{LeadsFrom, edge-point, edge-lies_in, link-of}

@@ -3,7 +3,7 @@ pub use Rattle.law_near.proofs.Prelude.{EdgeAround, IsEvenPath, IsPointBelow, No
 pub use Rattle.law_sphere.proofs.cyclic.Prelude.{AboutFour, AboutThree}
 pub use Rattle.law_sphere.proofs.Prelude.{BoundsSector, Passes, SeenAs, cancel_eq, cancel_lt, cross-none, decided-or, decided-to, each, from-opposite, gather, is-at_first, is-at_none, length, level-of_opposite, level-opposite-back, lies-each, lies-left, lies-right, minus-is, on_item, opposite-twice, opposites, triple-in_plane, ◌++◌}
 pub use Rattle.law_complex.proofs.Prelude.{Arc, Beside, Bool, Complex, Corner, Decided, Decides, Drop, Edge, Ends, Flat, Flat-by_germs, Flat-from_cone, FlatCone-from_flat, FlatDim, FlatDim-by_germs, FlatDim-one, Form, Germ, Germ-unique, Germ-zero, HasCorner, HasEnds, HasLabel, In, InFrame, IsAhead, IsArcOnSide, IsAt, IsBetween, IsCorner, IsCornerAt, IsDirection, IsEdge, IsEdgePoint, IsEven, IsFacetPoint, IsFirstInPlane, IsFlatBelow, IsFlatIn, IsNormal, IsOnCircle, IsOpposite, IsSkeletonPoint, IsSpot, IsStrictlyOn, IsVertex, IsVertexPoint, IsZero, Item, Keeps, Label, Lies, LiesIn, List, Map, MapLabel, MapVertex, Meets, NearLabel, NearPlain, OnItem, Out, PlaceOf, PlaneMeet, Poly, RayNames, SameDirection, SameDirection-decided, SameDirection-trans, SameDirection-turned, SameGerms, SamePoint, SameSigns, SameUpToFactor, Set, Shaped, Shows, Sign, SpacePoint, Spot, Valid, Vector, Vertex, [], amount, ap, apart, arc-at, arc_item, arith, at, at-arc, is-at_one, at_svertex, at_vertex, beside, beside_x, beside_y, between-inner, between-of, between-same, between-turned, blend, by_order, by_side, cancel_le, carriers, cases_order, cond, cross, cross-turned, decided-both, dir-at, dir-self, dir-signs, dir_of, direction-around, direction-left, direction-opposite, direction-right, dot, dot-comb, dot-comm, dot-opposite, dot-zero, edge-around, ends-of, even-germs, even-until, factor-same, false, far-keeps, far-level, flat-germ, flat-nearby, flat-plane, flat-toward, flat_dim-of, follows, form, form_at, forms, free_place, germ_of, germs-by_cell, given, half_side, in-span, in_facet, inl, inr, ints, item-forms, item_normal, item_place, item_plane, item_pos, items, label-one, label_of, labels-by_germs, level-way, meets_edge, meets_vertex, minus-of, mixed-mix, mixed-of, mul-pos, mul_neg, mul_nonneg, mul_pos, nat_abs, near-of_flat, neg, neg_ℤ, negsuc, none, nonneg-of, normal-direction, normal-is, normal_of, normals-same, nought, nought-if, nought-is, nought-or, num, of_direction, of_point, on-direction, on-level, on_edge, opposite, opposite-dot, opposite-same, other_way, parallel-in_plane, place_of, plane_axis, plane_through, plus, plus-of, point-toward, pos, positive-or, product-off, ray-cell, reach_all, refl, ring, same-minus, same-nought, same-plus, same-point_sym, same_way, self-pos, sign, sign-minus, sign-plus, sign-scaled, sign_at, signs-same, sloop_item, slope, slope-toward, span-1, span-3, square-cross, start, start-between, start-close, start-toward, step, subst, suc, svertex-around, svertex-neither, svertex_place, sym, toward, toward-point, triple, triple-dot, triple-middle, triple-turned, true, turn-last, turn-same, up, vector, vector-same, zero, zero-decided, zero_vector, ℕ, ℤ, ⊎_elim, ◌&&◌, ◌*ℤ◌, ◌*◌, ◌+ℤ◌, ◌+◌, ◌-ℤ◌, ◌<ℤ◌, ◌<◌, ◌∙◌, ◌∷◌, ◌≡◌, ◌≤ℤ◌, ◌≤◌, ◌⊎◌, ◌⊕◌, ◌⊖◌, ◌⊗◌}
-pub use Rattle.law_complex.proofs.links.Prelude.{FacetLink, HasArc, HasSide, HasSideLabel, IsAbove, IsAtSide, IsClear, IsEvenAfter, IsFree, IsInFacetOf, IsUpright, Joined, LinkAcross, LinkAlong, Ratio, Sees, Side, VertexSide, VolumeLink, Within, ahead, ahead-back, ahead-same, around_ends, around_svertex, axes-forms, axis-in, back-triple, beside-vertex, between-outer, between-start, between-way, blend-turned, dim-same, edge-points, end-meets, even-by, facet-of, facet-point, flat-way, form-step, frame, free-by_signs, free-close, here, is_nought, joined-both, joined-itself, joined-turned, keeps-all, kept-not_opposite, label-germ, level-blend, link, near-ahead, near-between, near_point, opposite-turned, opposite-way, parallel-trans, plane-ahead, plane_dir, plus-is, pos_arcs, pos_item, right-turn, same-factor, same-itself, seen, sees-around, steep, through-level}
+pub use Rattle.law_complex.proofs.links.Prelude.{FacetLink, HasArc, HasSide, HasSideLabel, IsAbove, IsAtSide, IsClear, IsEvenAfter, IsFree, IsInFacetOf, IsUpright, Joined, LinkAcross, LinkAlong, Ratio, Sees, Side, VertexSide, VolumeLink, Within, ahead, ahead-back, ahead-same, around_ends, around_svertex, axes-forms, axis-in, back-triple, beside-vertex, between-outer, between-start, between-way, blend-turned, edge-points, end-meets, even-by, facet-of, facet-point, flat-way, form-step, frame, free-by_signs, free-close, here, is_nought, joined-both, joined-itself, joined-turned, keeps-all, kept-not_opposite, label-germ, level-blend, link, near-ahead, near-between, near_point, opposite-turned, opposite-way, parallel-trans, plane-ahead, plane_dir, plus-is, pos_arcs, pos_item, right-turn, same-factor, seen, sees-around, steep, through-level}
 pub use Rattle.std.proofs.Common.{map}
 pub use Rattle.nef_space.proofs.Lists.{lies-append}
 pub use Rattle.nef_space.specs.Limits.{axis_factor}
@@ -14,9 +14,8 @@ pub use Rattle.law_near.proofs.Decided.{every}
 pub use Rattle.law_near.proofs.Even.{joined-germs, span-2}
 pub use Rattle.law_near.proofs.Flats.{FlatCone-from_carriers, sign-toward}
 pub use Rattle.law_near.proofs.Germs.{sample, sign-along}
-pub use Rattle.law_near.proofs.PointOrder.{point_below-apart, point_below-same, point_below-trans, same-point_below, weight}
+pub use Rattle.law_near.proofs.PointOrder.{point_below-apart, point_below-same, point_below-trans, same-point_below}
 pub use Rattle.law_near.proofs.Skeleton.{flat_dim-nearby}
-pub use Rattle.law_near.proofs.Sums.{some-pos}
 pub use Rattle.law_near.proofs.Topology.{near-germ_zero}
 pub use Rattle.law_near.proofs.Vertices.{all-vertices}
 pub use Rattle.law_sphere.proofs.Around.{opposite-in_plane}
@@ -59,3 +58,4 @@ pub use Rattle.nef_conn.specs.Items.{ArcsGoOn, AreLinkedWhereJoined, ConverseByS
 pub use Rattle.nef_conn.specs.Reach.{CornersReached, PointsReachItems, PointsReachSides, SidesReached}
 pub use Rattle.nef_conn.specs.Sides.{ConverseByItems, ConverseForAll, NamesOfFreeSegments, RaysEnd, SidesName}
 pub use Rattle.nef_conn.specs.Slices.{minus_form, plane_set, sliced}
+pub use Rattle.nef_space.proofs.Elementary.{weight-positive, counted-positive}

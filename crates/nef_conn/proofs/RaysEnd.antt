@@ -1,7 +1,8 @@
 -- From a point of the frame with three flat directions the ray down ends at a skeleton point, above which some side lies.
-use Rattle.nef_conn.proofs.Prelude.{◌≡◌, ℕ, ◌+◌, ◌≤◌, ℤ, pos, ◌+ℤ◌, ◌-ℤ◌, ◌*ℤ◌, ◌<ℤ◌, arith, refl, ◌∙◌, ⊎_elim, ◌∷◌, subst, [], ints, ring, at, num, ◌⊕◌, ◌⊖◌, ◌⊗◌, FlatDim, SpacePoint, form_at, InFrame, toward, IsAhead, IsBetween, Set, Vector, opposite, blend, dot, cross, IsZero, IsDirection, SameDirection, up, plane_axis, Label, carriers, flat-germ, FlatDim-by_germs, between-turned, label_of, ahead, joined-germs, steep, signs-same, same-point_sym, forms, BoundsSector, IsAt, MapVertex, Arc, Item, arc_item, item_normal, item_pos, IsFree, Side, pos_item, HasSide, SeenAs, Shaped, at-arc, Beside, same_way, other_way, beside, axes-forms, on-level, amount, far-keeps, kept-not_opposite, bounded, unrayed-ahead, normal-is, Vertex, Complex, Corner, IsCorner, Shows, item_plane, IsVertexPoint, IsEdgePoint, IsFacetPoint, Spot, at_vertex, on_edge, in_facet, IsSpot, IsSkeletonPoint, HasCorner, VertexSide, HasSideLabel, IsAbove, RayDown, IsFlatIn, through-at, ahead-back, weight, normal-scaled, through-level, axis-in, facet-of, facets-complete, facet-point, dim-same, way-ends, skeleton-not_flat, skeleton-or_flat, IsEvenAfter, IsUpright, across, facet-at, edge-ways, tied-low, tied-turn, seen-free, ahead-cells, dim-cell, IsTied, tied-both, tied-ahead, tied-ray, RaysEnd, opposite-twice}
+use Rattle.nef_conn.proofs.Prelude.{◌≡◌, ℕ, ◌+◌, ◌≤◌, ℤ, pos, ◌+ℤ◌, ◌-ℤ◌, ◌*ℤ◌, ◌<ℤ◌, arith, refl, ◌∙◌, ⊎_elim, ◌∷◌, subst, [], ints, ring, at, num, ◌⊕◌, ◌⊖◌, ◌⊗◌, FlatDim, SpacePoint, form_at, InFrame, toward, IsAhead, IsBetween, Set, Vector, opposite, blend, dot, cross, IsZero, IsDirection, SameDirection, up, plane_axis, Label, carriers, flat-germ, FlatDim-by_germs, between-turned, label_of, ahead, joined-germs, steep, signs-same, same-point_sym, forms, BoundsSector, IsAt, MapVertex, Arc, Item, arc_item, item_normal, item_pos, IsFree, Side, pos_item, HasSide, SeenAs, Shaped, at-arc, Beside, same_way, other_way, beside, axes-forms, on-level, amount, far-keeps, kept-not_opposite, bounded, unrayed-ahead, normal-is, Vertex, Complex, Corner, IsCorner, Shows, item_plane, IsVertexPoint, IsEdgePoint, IsFacetPoint, Spot, at_vertex, on_edge, in_facet, IsSpot, IsSkeletonPoint, HasCorner, VertexSide, HasSideLabel, IsAbove, RayDown, IsFlatIn, through-at, ahead-back, weight-positive, normal-scaled, through-level, axis-in, facet-of, facets-complete, facet-point, way-ends, skeleton-not_flat, skeleton-or_flat, IsEvenAfter, IsUpright, across, facet-at, edge-ways, tied-low, tied-turn, seen-free, ahead-cells, dim-cell, IsTied, tied-both, tied-ahead, tied-ray, RaysEnd, opposite-twice}
 use Rattle.nef_conn.proofs.AtSides.{side-toward}
 use Rattle.nef_conn.proofs.FirstMet.{all-flat}
+use Rattle.law_near.proofs.Same.{dim-same}
 
 -- what is tied is as flat
 pub tied-dim : (s : Set) (p q : SpacePoint) (k : ℕ) → IsTied s p q → FlatDim s p k → FlatDim s q k
@@ -91,7 +92,7 @@ module _ (s : Set) (C : Complex) (S : Shows s C) where
           let V = (S.cones k.vertex v c.vertex).valid.shaped in
           let flat : IsFlatIn s (item_plane v x) z = (G.dim, λ d. let a = through-level n d p in let b = G.flat d in (λ g. a.0 (b.0 g), λ o. b.1 (a.1 o))) in
           let on : form_at (item_plane v x) z ≡ pos 0 = through-at n p z ∙ on-level v.map x (toward p z) F.on_item in
-          let H = facets-complete s C S (item_plane v x) z (normal-scaled n (pos p.w) (weight p) (V.normals k.item x c.item)) on flat in
+          let H = facets-complete s C S (item_plane v x) z (normal-scaled n (pos p.w) (weight-positive p) (V.normals k.item x c.item)) on flat in
           over-corner H.0 H.1
         where
           over-corner : (j : Corner) → HasCorner C z j → Covers z (in_facet k)

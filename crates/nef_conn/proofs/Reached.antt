@@ -1,10 +1,11 @@
 -- The facet beside each item has a point that names a corner of its class: by the cases of the way inward, and by induction on the vertices ahead of it.
-use Rattle.nef_conn.proofs.Prelude.{◌≡◌, ℕ, ◌<◌, ◌≤◌, ◌+◌, suc, zero, pos, ◌<ℤ◌, List, length, arith, refl, sym, ◌∙◌, ◌⊎◌, inl, inr, ⊎_elim, ◌∷◌, subst, [], ints, SpacePoint, form_at, toward, IsPointBelow, Set, Vector, opposite, dot, triple, IsDirection, IsNormal, SameDirection, plane_dir, Decided, IsAt, MapVertex, Arc, arc_item, sloop_item, dir_of, OnItem, normal-is, OnItem-decided, SameDirection-decided, dir-at, arc-at, normals-not_opposite, at-arc, Ends, ends-of, Vertex, Edge, Complex, Corner, HasEnds, IsCorner, Shows, item_plane, svertex-edge, through-at, ahead-back, FacetLink, EndsOnSide, end-level, corner_of_numbers, EndsAt, way_inward, ItemsName, level-of_opposite, triple-turned, SameDirection-turned, SameDirection-trans, opposite-same, level-way, opposite-twice, from-opposite, right-turn, is-at_none}
+use Rattle.nef_conn.proofs.Prelude.{◌≡◌, ℕ, ◌<◌, ◌≤◌, ◌+◌, suc, zero, pos, ◌<ℤ◌, length, arith, refl, sym, ◌∙◌, ◌⊎◌, inl, inr, ⊎_elim, subst, ints, form_at, toward, IsPointBelow, Set, Vector, opposite, dot, triple, IsDirection, IsNormal, SameDirection, plane_dir, Decided, IsAt, MapVertex, Arc, arc_item, sloop_item, dir_of, OnItem, normal-is, OnItem-decided, SameDirection-decided, dir-at, arc-at, normals-not_opposite, at-arc, Ends, ends-of, Vertex, Edge, Complex, Corner, HasEnds, IsCorner, Shows, item_plane, svertex-edge, through-at, ahead-back, FacetLink, EndsOnSide, end-level, corner_of_numbers, EndsAt, way_inward, ItemsName, level-of_opposite, triple-turned, SameDirection-turned, SameDirection-trans, opposite-same, level-way, opposite-twice, from-opposite, right-turn}
 use Rattle.nef_conn.proofs.Onward.{EdgeAway, from-low, from-high, arc-there, goes-on, link-up, link-down}
 use Rattle.nef_conn.proofs.WayInward.{dir-level, dir-some, dir-same}
 use Rattle.nef_conn.proofs.Named.{ReachesItem, carried, onward-named, edge-named, side-same}
 use Rattle.nef_conn.proofs.Faces.{leads-away}
 use Rattle.nef_space.proofs.Lists.{is-at_within}
+use Rattle.law_near.proofs.Normals.{toward-normal}
 
 -- the far end of an edge at which an arc ends lies in the arc's plane
 far-on : (s : Set) (C : Complex) (S : Shows s C) (i a : ℕ) (v : Vertex) (j b : ℕ) (w : Vertex) (V : EdgeAway s C i a v j b w) (k : Corner) (c : Arc) (K : IsCorner C k v (arc_item c)) → EndsAt c a
@@ -157,11 +158,6 @@ module _ (s : Set) (C : Complex) (S : Shows s C) (j : Corner) (v : Vertex) (c : 
       by (inr f) (inr g) (inr h) = inl (off (leads-away c.normal from to d n-some ends.source_direction ends.target_direction d-some ends.source_level ends.target_level level-d f g h))
 
 -- ---- the steps end
-pub toward-normal : (p q : SpacePoint) → IsPointBelow p q → IsNormal (toward p q)
-toward-normal p q (inl h) = record { first = omega (arith, ints); second = λ e. absurd (omega (arith, ints)); third = λ e f. absurd (omega (arith, ints)) }
-toward-normal p q (inr (e, inl h)) = record { first = omega (arith, ints); second = λ z. omega (arith, ints); third = λ z w. absurd (omega (arith, ints)) }
-toward-normal p q (inr (e, inr (f, inl h))) = record { first = omega (arith, ints); second = λ z. omega (arith, ints); third = λ z w. omega (arith, ints) }
-toward-normal p q (inr (e, inr (f, inr h))) = absurd h.1
 
 -- the direction, or its opposite, is the same as one in normal form
 abbrev pub Rises : Vector → Type 0

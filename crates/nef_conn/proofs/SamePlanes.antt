@@ -1,5 +1,5 @@
 -- Two forms of one plane through a point: the same points, the same first meets and corners, the same numbers nought.
-use Rattle.nef_conn.proofs.Prelude.{◌≡◌, ℕ, ℤ, pos, ◌*ℤ◌, ◌<◌, ap, sym, ◌∙◌, inl, inr, ⊎_elim, ◌∷◌, [], sign, cancel_eq, ring, at, num, ◌⊗◌, SpacePoint, Form, form_at, normal_of, toward, Vector, cross, triple, SameDirection, SameUpToFactor, of_direction, some-pos, item_normal, Arc, dir_of, turn-last, same-plus, same-minus, Vertex, Complex, Corner, PlaneMeet, meets_vertex, meets_edge, LiesIn, Meets, IsFirstInPlane, IsArcOnSide, IsCornerAt, plane-onward, plane-way, on_item-way, dot-comm, SameDirection-turned, SameDirection-trans, dir-signs, direction-left}
+use Rattle.nef_conn.proofs.Prelude.{◌≡◌, ℕ, ℤ, pos, ◌*ℤ◌, ◌<◌, ap, sym, ◌∙◌, inl, inr, ⊎_elim, ◌∷◌, [], sign, cancel_eq, ring, at, num, ◌⊗◌, SpacePoint, Form, form_at, normal_of, toward, Vector, cross, triple, SameDirection, SameUpToFactor, of_direction, counted-positive, item_normal, Arc, dir_of, turn-last, same-plus, same-minus, Vertex, Complex, Corner, PlaneMeet, meets_vertex, meets_edge, LiesIn, Meets, IsFirstInPlane, IsArcOnSide, IsCornerAt, plane-onward, plane-way, on_item-way, dot-comm, SameDirection-turned, SameDirection-trans, dir-signs, direction-left}
 use Rattle.std.specs.Bool.{one_answer}
 use Rattle.std.specs.Ordering.{int_eq}
 use Rattle.std.proofs.lemmas.Bool.Decides.{Decides-int_eq}
@@ -51,7 +51,7 @@ module _ (n m : Vector) (F : SameUpToFactor (of_direction n) (of_direction m)) w
 
   -- both numbers are nought or neither is
   nought-too : (k l : ℕ) (x y : ℤ) → 0 < l → pos k *ℤ x ≡ pos l *ℤ y → x ≡ pos 0 → y ≡ pos 0
-  nought-too k l x y h e z = cancel_eq y (pos 0) (pos l) (some-pos l h) (ring (y ∷ pos l ∷ []) (at 0 ⊗ at 1) (at 1 ⊗ at 0) tt ∙ sym e ∙ ap (λ r. pos k *ℤ r) z ∙ ring (pos k ∷ pos l ∷ []) (at 0 ⊗ num (pos 0)) (num (pos 0) ⊗ at 1) tt)
+  nought-too k l x y h e z = cancel_eq y (pos 0) (pos l) (counted-positive l h) (ring (y ∷ pos l ∷ []) (at 0 ⊗ at 1) (at 1 ⊗ at 0) tt ∙ sym e ∙ ap (λ r. pos k *ℤ r) z ∙ ring (pos k ∷ pos l ∷ []) (at 0 ⊗ num (pos 0)) (num (pos 0) ⊗ at 1) tt)
 
   pub same-test : (x y : ℤ) → pos F.k *ℤ x ≡ pos F.l *ℤ y → int_eq x (pos 0) ≡ int_eq y (pos 0)
   same-test x y e =

@@ -1,8 +1,9 @@
 -- Along a path of even segments of points with three flat directions, the ends of each segment in its turn: so the converse comes to single segments, and to one point at each side.
-use Rattle.nef_conn.proofs.Prelude.{◌≡◌, ℕ, refl, sym, ◌∙◌, ◌⊎◌, inl, inr, ⊎_elim, List, ◌∷◌, subst, [], Chained, HasLabel, FlatDim, Joined, IsEven, IsEvenPath, SpacePoint, InFrame, Set, Label, Out, Not, In, FlatDim-one, label_of, label-one, ahead, near-ahead, even-germs, joined-germs, labels-by_germs, joined-both, Germ-zero, near-germ_zero, zero_vector, HasSide, seen, Complex, Shows, VertexSide, RayDown, label-germ, same-itself, VolumeLink, IsAtSide, IsUpright, side-sees, at-side, one-side, SidesName, NamesOfFreeSegments}
+use Rattle.nef_conn.proofs.Prelude.{◌≡◌, ℕ, refl, sym, ◌∙◌, ◌⊎◌, inl, inr, ⊎_elim, List, ◌∷◌, subst, [], Chained, HasLabel, FlatDim, Joined, IsEven, IsEvenPath, SpacePoint, InFrame, Set, Label, Out, Not, In, FlatDim-one, label_of, label-one, ahead, near-ahead, even-germs, joined-germs, labels-by_germs, joined-both, Germ-zero, near-germ_zero, zero_vector, HasSide, seen, Complex, Shows, VertexSide, RayDown, label-germ, VolumeLink, IsAtSide, IsUpright, side-sees, at-side, one-side, SidesName, NamesOfFreeSegments}
 use Rattle.nef_conn.specs.Sides.{SidesBySegments}
-use Rattle.nef_conn.proofs.Chain.{chain-both, chain-one, chain-back}
+use Rattle.nef_space.proofs.Chains.{chain-trans, chain-link, chain-turned}
 use Rattle.nef_conn.proofs.RaysEnd.{rays-end}
+use Rattle.nef_space.proofs.Elementary.{same-itself}
 
 -- a point with another label than Out lies in the frame
 pub label-inside : (s : Set) (p : SpacePoint) (l : Label) → HasLabel s p l → (l ≡ Out → ⊥) → InFrame p
@@ -46,7 +47,7 @@ module _ (s : Set) (C : Complex) (S : Shows s C) where
     walk (t ∷ rs) r q k l i (even, path) a b =
         let j = even-inside s 3 r t even i in
         let c = rays-end s C t S upright j (even t (inr (inr (same-itself t)))) in
-        chain-both (VolumeLink C) k c.0 l (names r t k c.0 i even a c.1) (walk rs t q c.0 l j path c.1 b)
+        chain-trans (VolumeLink C) k c.0 l (names r t k c.0 i even a c.1) (walk rs t q c.0 l j path c.1 b)
 
     path-names : (p q : SpacePoint) (k l : VertexSide) → InFrame p → FlatDim s p 3 → Joined s p q → RayDown C p k → RayDown C q l → Chained (VolumeLink C) k l
     path-names p q k l i f J a b = walk J.1 p q k l i (subst (λ (e : ℕ). IsEvenPath s e p J.1 q) (FlatDim-one s p J.0 3 J.2 f) J.3) a b
@@ -56,7 +57,7 @@ module _ (s : Set) (C : Complex) (S : Shows s C) where
       one-label = label-one s q a.label b.label ((labels-by_germs s p q (joined-germs s p q J) a.label).0 (side-label x p a)) (side-label y q b)
 
       outside : a.label ≡ Out → Chained (VolumeLink C) x y
-      outside e = chain-one (VolumeLink C) x y (inr (inr (inr (inr (
+      outside e = chain-link (VolumeLink C) x y (inr (inr (inr (inr (
         (a.vertex, a.is_vertex, subst (HasSide a.vertex.map x.side) e a.has),
         (b.vertex, b.is_vertex, subst (HasSide b.vertex.map y.side) (sym one-label ∙ e) b.has),
       )))))
@@ -67,7 +68,7 @@ module _ (s : Set) (C : Complex) (S : Shows s C) where
           let B = sides y b.label (b.vertex, b.is_vertex, b.has) (λ e. n (one-label ∙ e)) in
           let way = joined-both s A.0 p B.0 (one-side s C S x A.0 p A.2 a).0 (joined-both s p q B.0 J (one-side s C S y q B.0 b B.2).0) in
           let c = path-names A.0 B.0 A.1 B.1 (at-frame A.0 A.2) (three x A.0 A.2) way A.3 B.3 in
-          chain-both (VolumeLink C) x A.1 y A.4 (chain-both (VolumeLink C) A.1 B.1 y c (chain-back (VolumeLink C) y B.1 B.4))
+          chain-trans (VolumeLink C) x A.1 y A.4 (chain-trans (VolumeLink C) A.1 B.1 y c (chain-turned (VolumeLink C) y B.1 B.4))
         where
           at-frame : (r : SpacePoint) → IsAtSide s C x r → InFrame r
           at-frame r h = label-inside s r a.label ((labels-by_germs s p r (joined-germs s p r (one-side s C S x p r a h).0) a.label).0 (side-label x p a)) n

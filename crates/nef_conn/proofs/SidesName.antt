@@ -1,6 +1,6 @@
 -- Each side that isn't outside has a point at it that names, by the ray down, a side of its class; so where items whose points are joined are linked, sides are.
-use Rattle.nef_conn.proofs.Prelude.{◌≡◌, pos, ◌<ℤ◌, arith, refl, sym, ◌∙◌, inl, inr, ⊎_elim, List, ◌∷◌, subst, [], each, ring, at, num, ◌⊕◌, ◌⊖◌, ◌⊗◌, Chained, FlatDim, SpacePoint, Form, form_at, normal_of, slope, plane_through, InFrame, toward, IsBetween, Set, Vector, opposite, cross, triple, IsDirection, SameDirection, up, Label, Out, carriers, between-turned, between-inner, ray-cell, germs-by_cell, even-germs, ahead, start, start-close, start-between, signs-same, same-point_sym, all-vertices, reach_all, point-toward, IsAt, HasSide, Sees, here, is-at_one, Beside, same_way, other_way, beside, cross-self, turn-last, turn-same, same-plus, Vertex, Complex, Shows, at_vertex, VertexSide, RayDown, through-at, ahead-back, facet-of, through-level, plane-between, dim-same, plane-ahead, even-by, skeleton-not_flat, skeleton-or_flat, between-way, between-cases, same-itself, VolumeLink, IsUpright, IsEvenAfter, IsAtSide, through-same, free-dim, side-sees, sees-way, seen-free, ahead-close, ahead-toward, dim-cell, even-after, facet-at, AreLinkedWhereJoined, SidesName, NamesOfFreeSegments, ConverseByItems, ConverseForAll, sliced, zero-decided, dot-zero, self-pos, SameDirection-turned, SameDirection-trans, dir-self, opposite-way, direction-left, direction-right}
-use Rattle.nef_conn.proofs.Chain.{chain-here}
+use Rattle.nef_conn.proofs.Prelude.{◌≡◌, pos, ◌<ℤ◌, arith, refl, sym, ◌∙◌, inl, inr, ⊎_elim, List, ◌∷◌, subst, [], each, ring, at, num, ◌⊕◌, ◌⊖◌, ◌⊗◌, Chained, FlatDim, SpacePoint, Form, form_at, normal_of, slope, plane_through, InFrame, toward, IsBetween, Set, Vector, opposite, cross, triple, IsDirection, SameDirection, up, Label, Out, carriers, between-turned, between-inner, ray-cell, germs-by_cell, even-germs, ahead, start, start-close, start-between, signs-same, same-point_sym, all-vertices, reach_all, point-toward, IsAt, HasSide, Sees, here, is-at_one, Beside, same_way, other_way, beside, cross-self, turn-last, turn-same, same-plus, Vertex, Complex, Shows, at_vertex, VertexSide, RayDown, through-at, ahead-back, facet-of, through-level, plane-between, plane-ahead, even-by, skeleton-not_flat, skeleton-or_flat, between-way, between-cases, VolumeLink, IsUpright, IsEvenAfter, IsAtSide, through-same, free-dim, side-sees, sees-way, seen-free, ahead-close, ahead-toward, dim-cell, even-after, facet-at, AreLinkedWhereJoined, SidesName, NamesOfFreeSegments, ConverseByItems, ConverseForAll, sliced, zero-decided, dot-zero, self-pos, SameDirection-turned, SameDirection-trans, dir-self, opposite-way, direction-left, direction-right}
+use Rattle.nef_space.proofs.Chains.{chain-here}
 use Rattle.nef_conn.proofs.SidePaths.{side-label, label-inside, converse-by_segments}
 use Rattle.nef_conn.proofs.Downs.{vertex-falls}
 use Rattle.nef_conn.proofs.EdgeFalls.{vertex-slice}
@@ -11,6 +11,8 @@ use Rattle.nef_conn.proofs.RaysEnd.{ray-down}
 use Rattle.nef_conn.proofs.Silhouettes.{sliced-signs, sliced-ahead, germs-inside, two-of}
 use Rattle.nef_conn.proofs.SliceStrip.{lam, up_line, Clear, clear-close}
 use Rattle.nef_conn.proofs.Touch.{bound, no-way}
+use Rattle.law_near.proofs.Same.{dim-same}
+use Rattle.nef_space.proofs.Elementary.{same-itself}
 
 module _ (s : Set) (C : Complex) (S : Shows s C) (upright : IsUpright C) (linked : AreLinkedWhereJoined s C) where
   -- ---- segments

@@ -1,5 +1,5 @@
 -- What falls from a point b names a side of the class of what lies above the point at which the fall beside it ends: on an edge of the plane at once; at a vertex of the plane by what leaves it, or, where nothing does, by what lies below it.
-use Rattle.nef_conn.proofs.Prelude.{◌≡◌, ℕ, zero, suc, ◌<◌, pos, ◌<ℤ◌, arith, sym, ◌⊎◌, inl, inr, ⊎_elim, subst, Lies, lies-left, lies-right, lies-append, Germ, FlatDim, IsEven, Label, label_not, Germ-unique, facet-at, SpacePoint, Form, form_at, normal_of, slope, SamePoint, InFrame, toward, IsBetween, Set, halves, Vector, opposite, IsDirection, SameDirection, up, frame, carriers, SameGerms, FlatDim-one, FlatDim-by_germs, between-turned, between-inner, label_of, germ_of, ahead, start-close, even-germs, labels-by_germs, flat-toward, flat_dim-of, Flat-from_cone, same-point_sym, reach_all, toward-point, point-toward, between-same, Complex, Shows, VertexSide, RayDown, IsFlatIn, near_point, near-between, facet-of, plane-between, dim-same, even-by, skeleton-not_flat, skeleton-or_flat, between-outer, same-itself, same-point_trans, IsUpright, IsEvenAfter, beside-ahead, beside-cell, AreLinkedWhereJoined, plane_set, sliced, nought-or, SameDirection-turned, SameDirection-trans, opposite-same, direction-left}
+use Rattle.nef_conn.proofs.Prelude.{◌≡◌, ℕ, zero, suc, ◌<◌, pos, ◌<ℤ◌, arith, sym, ◌⊎◌, inl, inr, ⊎_elim, subst, Lies, lies-left, lies-right, lies-append, Germ, FlatDim, IsEven, Label, label_not, Germ-unique, facet-at, SpacePoint, Form, form_at, normal_of, slope, SamePoint, InFrame, toward, IsBetween, Set, halves, Vector, opposite, IsDirection, SameDirection, up, frame, carriers, SameGerms, FlatDim-one, FlatDim-by_germs, between-turned, between-inner, label_of, germ_of, ahead, start-close, even-germs, labels-by_germs, flat-toward, flat_dim-of, Flat-from_cone, same-point_sym, reach_all, toward-point, point-toward, between-same, Complex, Shows, VertexSide, RayDown, IsFlatIn, near_point, near-between, facet-of, plane-between, even-by, skeleton-not_flat, skeleton-or_flat, between-outer, same-point_trans, IsUpright, IsEvenAfter, beside-ahead, beside-cell, AreLinkedWhereJoined, plane_set, sliced, nought-or, SameDirection-turned, SameDirection-trans, opposite-same, direction-left}
 use Rattle.nef_conn.proofs.Leaves.{toward-same}
 use Rattle.law_near.specs.Cells.{SameSigns}
 use Rattle.nef_conn.proofs.SameRay.{on-ray}
@@ -8,6 +8,8 @@ use Rattle.nef_conn.proofs.Fans.{IsOff}
 use Rattle.nef_conn.proofs.Land.{Landing}
 use Rattle.nef_conn.proofs.Slice.{germ-on, germ-off, free-slice, unsliced}
 use Rattle.nef_conn.proofs.SliceStrip.{lam, Clear, back-way}
+use Rattle.law_near.proofs.Same.{dim-same}
+use Rattle.nef_space.proofs.Elementary.{same-itself}
 
 -- ---- the carriers of a slice are those of the set, and more
 pub sliced-lies : (s : Set) (h f : Form) → Lies (carriers s) f → Lies (carriers (sliced s h)) f
@@ -60,13 +62,6 @@ module _ (s : Set) (h : Form) (hn : IsDirection (normal_of h)) where
 
   pub three-of : (k : ℕ) (p r : SpacePoint) → form_at h p ≡ pos 0 → form_at h r ≡ pos 0 → IsEven (sliced s h) k p r → FlatDim s p 3 → FlatDim s r 3
   three-of k p r on-p on-r even = FlatDim-by_germs s s p r (germs-of k p r on-p on-r even) 3
-
-  -- along a way with three flat directions the slice has two
-  pub even-two : (p r : SpacePoint) → form_at h p ≡ pos 0 → form_at h r ≡ pos 0 → IsEven s 3 p r → InFrame p → IsEven (sliced s h) 2 p r
-  even-two p r on-p on-r even i = even-by (sliced s h) 2 p r (let f = two-of p on-p (even p (inl (same-itself p))) i in f.0)
-      (λ u m. let e = even-by s 3 p u (even p (inl (same-itself p))) (λ x n. even x (inr (inl (between-inner p u r x m n)))) (even u (inr (inl m))) in
-      let f = two-of u (plane-between h p u r m on-p on-r) (even u (inr (inl m))) (germs-inside s p u (even-germs s 3 p u e) i) in f.0)
-      (let f = two-of r on-r (even r (inr (inr (same-itself r)))) (germs-inside s p r (even-germs s 3 p r even) i) in f.0)
 
 -- no two close points are both vertices
 pub no-vertices : (s : Set) (c y : SpacePoint) → IsDirection (toward c y) → FlatDim s (near_point s c y) 0 → ⊥

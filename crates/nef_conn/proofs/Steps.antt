@@ -10,9 +10,9 @@
 --   too (AlongEdge). Where the item goes on to d and further, k is linked across the facet with the corner that a point of y's line close to w names, from which the way to z
 --   is clear (AcrossFacet); so it is the same again from there.
 -- Each step leads to a vertex further along d, where the number of the vertex is greater, or smaller for each; so it comes to an end.
-use Rattle.nef_conn.proofs.Prelude.{◌≡◌, ℤ, pos, neg_ℤ, ◌<ℤ◌, arith, ap, sym, ◌∙◌, inl, inr, ⊎_elim, ◌∷◌, subst, [], ints, ring, at, neg, ◌⊕◌, ◌⊗◌, sign, by_order, sign-plus, sign-minus, plus-is, minus-is, Chained, FlatDim, IsEven, SpacePoint, Form, form, form_at, normal_of, slope, SamePoint, toward, IsBetween, Set, Vector, opposite, cross, triple, IsDirection, IsNormal, SameDirection, plane_dir, between-turned, toward-point, between-same, Beside, same_way, other_way, beside, normal-direction, Vertex, Complex, Corner, Shows, IsFirstInPlane, RayNames, IsFlatIn, plane-way, same-itself, through-at, ahead-back, ahead-same, FacetLink, line_form, HasClearStrip, NamesOfSteps, JoinedItemsAreLinked, zero-decided, triple-dot, level-of_opposite, triple-turned, dir-self, parallel-in_plane, level-way, opposite-way, opposite-twice, direction-right, right-turn, toward-turned}
+use Rattle.nef_conn.proofs.Prelude.{◌≡◌, ℤ, pos, neg_ℤ, ◌<ℤ◌, arith, ap, sym, ◌∙◌, inl, inr, ⊎_elim, ◌∷◌, subst, [], ints, ring, at, neg, ◌⊕◌, ◌⊗◌, sign, by_order, sign-plus, sign-minus, plus-is, minus-is, Chained, FlatDim, IsEven, SpacePoint, Form, form, form_at, normal_of, slope, SamePoint, toward, IsBetween, Set, Vector, opposite, cross, triple, IsDirection, IsNormal, SameDirection, plane_dir, between-turned, toward-point, between-same, Beside, same_way, other_way, beside, normal-direction, Vertex, Complex, Corner, Shows, IsFirstInPlane, RayNames, IsFlatIn, plane-way, through-at, ahead-back, ahead-same, FacetLink, line_form, HasClearStrip, NamesOfSteps, JoinedItemsAreLinked, zero-decided, triple-dot, level-of_opposite, triple-turned, dir-self, parallel-in_plane, level-way, opposite-way, opposite-twice, direction-right, right-turn, toward-turned}
 use Rattle.nef_conn.proofs.WayInward.{dir-level}
-use Rattle.nef_conn.proofs.Chain.{chain-here}
+use Rattle.nef_space.proofs.Chains.{chain-here}
 use Rattle.nef_conn.proofs.SameRay.{names-along}
 use Rattle.nef_conn.proofs.ItemPaths.{even-on, even-flat}
 use Rattle.nef_conn.proofs.Sweep.{converse-by_steps}
@@ -20,6 +20,7 @@ use Rattle.nef_conn.proofs.OneNamed.{one-named}
 use Rattle.nef_conn.proofs.FacetStrip.{Strip}
 use Rattle.nef_conn.proofs.AlongEdge.{opposite-normal}
 use Rattle.nef_conn.proofs.Ahead.{strip-names}
+use Rattle.nef_space.proofs.Elementary.{same-itself}
 
 -- ---- the line through p
 line-at : (n d : Vector) (p q : SpacePoint) → form_at (line_form n d p) q ≡ triple n (toward q p) d

@@ -1,9 +1,10 @@
 -- A segment is cut where a line along the way inward, through a vertex of the plane, crosses it; so the converse comes to segments beside which, but on the line of their start, no vertex lies.
-use Rattle.nef_conn.proofs.Prelude.{◌≡◌, ℕ, zero, suc, pos, ◌<ℤ◌, ◌≤ℤ◌, arith, refl, sym, ◌∙◌, ◌⊎◌, inl, inr, ⊎_elim, List, ◌∷◌, subst, [], ints, sign, by_order, sign-plus, sign-minus, minus-is, Chained, FlatDim, IsEven, SpacePoint, Form, form_at, normal_of, slope, SamePoint, toward, IsBetween, Set, Vector, opposite, IsZero, IsDirection, IsNormal, SameDirection, plane_dir, signs-same, between-turned, between-inner, toward-point, IsAt, Vertex, Complex, Corner, Shows, RayNames, IsFlatIn, between-outer, same-itself, near_point, near-between, even-by, facet-behind, between-plus, between-minus, cut-at, Cut, below-or, FacetLink, same-between, line_form, NamesOfSteps, ConverseBySteps, zero-decided, level-of_opposite, level-way, direction-right, is-at_none, is-at_first}
+use Rattle.nef_conn.proofs.Prelude.{◌≡◌, ℕ, zero, suc, pos, ◌<ℤ◌, ◌≤ℤ◌, arith, refl, sym, ◌∙◌, ◌⊎◌, inl, inr, ⊎_elim, List, ◌∷◌, subst, [], ints, sign, by_order, sign-plus, sign-minus, minus-is, Chained, FlatDim, IsEven, SpacePoint, Form, form_at, normal_of, slope, SamePoint, toward, IsBetween, Set, Vector, opposite, IsZero, IsDirection, IsNormal, SameDirection, plane_dir, signs-same, between-turned, between-inner, toward-point, IsAt, Vertex, Complex, Corner, Shows, RayNames, IsFlatIn, between-outer, near_point, near-between, even-by, facet-behind, between-plus, between-minus, cut-at, Cut, below-or, FacetLink, same-between, line_form, NamesOfSteps, ConverseBySteps, zero-decided, level-of_opposite, level-way, direction-right, is-at_none, is-at_first}
 use Rattle.nef_conn.proofs.WayInward.{dir-level}
-use Rattle.nef_conn.proofs.Chain.{chain-both, chain-back}
+use Rattle.nef_space.proofs.Chains.{chain-trans, chain-turned}
 use Rattle.nef_conn.proofs.ItemPaths.{even-on, even-flat, converse-by_segments}
 use Rattle.nef_conn.proofs.Triangles.{cut-up}
+use Rattle.nef_space.proofs.Elementary.{same-itself}
 
 -- ---- the sign of a form between two points
 module _ (h : Form) (p r q : SpacePoint) (b : IsBetween p r q) where
@@ -148,7 +149,7 @@ module _ (s : Set) (C : Complex) (S : Shows s C) (steps : NamesOfSteps s C) (h :
           let left = steps h d y r k c.0 N on F inward first (λ i u p q off. keeps-start (Line u) y r z m (none i u p q) off) a c.1 in
           let right = steps h d z r l c.0 N (even-on s h y z on F even) (even-flat s h y z on F even) inward (second-back s y r z even m)
           (λ i u p q off. keeps-start (Line u) z r y (between-turned y z r m) (λ x. none i u p q (turned-crossing (Line u) y z x)) off) b c.1 in
-          chain-both (FacetLink C) k c.0 l left (chain-back (FacetLink C) l c.0 right)
+          chain-trans (FacetLink C) k c.0 l left (chain-turned (FacetLink C) l c.0 right)
 
   sweep : (xs : List Vertex) (y z : SpacePoint) (k l : Corner) → form_at h y ≡ pos 0 → IsFlatIn s h y → IsEven s 2 y z → RayNames C h y d k → RayNames C h z d l
       → ((i : ℕ) (u : Vertex) → IsAt C.vertices i u → form_at h u.point ≡ pos 0 → Crosses (Line u) y z → (j : ℕ) × IsAt xs j u) → Chained (FacetLink C) k l
@@ -161,7 +162,7 @@ module _ (s : Set) (C : Complex) (S : Shows s C) (steps : NamesOfSteps s C) (h :
       let on-r = even-on s h y r on F first in
       let G = even-flat s h y r on F first in
       let c = named-at r on-r G in
-      chain-both (FacetLink C) k c.0 l
+      chain-trans (FacetLink C) k c.0 l
       (sweep xs y r k c.0 on F first a c.1 (λ i u p q o. later x xs u (only i u p q (crosses-first (Line u) y r z t.between o)) (λ e. level-end (Line x) y r t.level (subst (λ (w : Vertex). Crosses (Line w) y r) (sym e) o))))
       (sweep xs r z c.0 l on-r G (second-part s y r z even t.between) c.1 b
       (λ i u p q o. later x xs u (only i u p q (crosses-second (Line u) y r z t.between o)) (λ e. level-start (Line x) r z t.level (subst (λ (w : Vertex). Crosses (Line w) r z) (sym e) o)))))

@@ -2,7 +2,7 @@
 use Rattle.nef_conn.proofs.Prelude.{◌≡◌, ℕ, ◌+◌, ◌<◌, ◌≤◌, ℤ, pos, ◌+ℤ◌, ◌*ℤ◌, neg_ℤ, arith, refl, ap, sym, ◌∙◌, inl, ⊎_elim, ◌∷◌, subst, [], sign, ring, at, num, neg, ◌⊕◌, ◌⊗◌, Chained, FlatDim, SpacePoint, SamePoint, IsBetween, Set, Vector, opposite, blend, dot, zero_vector, IsZero, IsOpposite, Label, carriers, ahead, steep, signs-same, same-point_sym, same-factor, forms, SameSigns, IsAt, Map, IsFree, HasSide, IsClear, Sees, here, link, Shaped, free-by_signs, amount, far-keeps, far-level, far-same, dot-comb, Vertex, Edge, Complex, HasEnds, Shows, VertexSide, VolumeLink, edge-ways, tied-low, tied-turn, seen-free, ahead-cells, IsTied, tied-cell, tied-both, tied-ahead, nought-or, vector-same, opposite-way}
 use Rattle.law_sphere.proofs.Labels.{same-clear, mixed-sign}
 use Rattle.law_sphere.proofs.Sight.{sees_both}
-use Rattle.nef_conn.proofs.Chain.{chain-both, chain-one}
+use Rattle.nef_space.proofs.Chains.{chain-trans, chain-link}
 use Rattle.nef_conn.proofs.RaysEnd.{tied-dim, seen-toward}
 
 -- ---- sides that see a direction
@@ -19,7 +19,7 @@ module _ (s : Set) (C : Complex) (S : Shows s C) (i : ℕ) (v : Vertex) (listed 
 
   -- two sides that see one direction are linked
   pub meet : (x z : VertexSide) (a : Vector) → Seer i v x a → Seer i v z a → Chained (VolumeLink C) x z
-  meet x z a p q = chain-one (VolumeLink C) x z (inl (record {
+  meet x z a p q = chain-link (VolumeLink C) x z (inl (record {
     vertex = v;
     is_vertex = subst (λ (n : ℕ). IsAt C.vertices n v) (sym p.here) listed;
     one_vertex = q.here ∙ sym p.here;
@@ -41,7 +41,7 @@ module _ (s : Set) (C : Complex) (S : Shows s C) (i : ℕ) (v : Vertex) (listed 
       )
 
   pub across-way : (x z : VertexSide) (a b : Vector) → Seer i v x a → IsClear v.map a b → Seer i v z b → Chained (VolumeLink C) x z
-  across-way x z a b p c q = let m = move x a b p c (seen-free v.map z.side b q.sees) in chain-both (VolumeLink C) x m.0 z m.2 (meet m.0 z b m.1 q)
+  across-way x z a b p c q = let m = move x a b p c (seen-free v.map z.side b q.sees) in chain-trans (VolumeLink C) x m.0 z m.2 (meet m.0 z b m.1 q)
 
   -- sides that see directions with the same signs are linked
   pub same-seers : (x z : VertexSide) (a b : Vector) → Seer i v x a → Seer i v z b → SameSigns (forms v.map) a b → Chained (VolumeLink C) x z
@@ -139,11 +139,6 @@ module _ (s : Set) (C : Complex) (S : Shows s C) (y : SpacePoint) (F : Frame s C
         record { steps = k; large = omega arith; seer = record { here = refl; label = o.0; has = o.1.has; sees = o.1.sees } },
       )
 
-  -- two sides that touch in one direction
-  pub one-touch : (f : Vector) (x z : VertexSide) → Touch s C y F x f → Touch s C y F z f → Chained (VolumeLink C) x z
-  one-touch f x z p q = same-seers s C S F.number F.vertex F.listed x z (blend p.steps F.dir 1 f) (blend q.steps F.dir 1 f) p.seer q.seer
-      (far-same (forms M) F.dir f p.steps q.steps (let l = p.large in omega arith) (let l = q.large in omega arith))
-
   -- ---- from one direction to another
   module _ (f g : Vector) (hf : Free f) (hg : Free g) (all : (i j : ℕ) → 0 < i → 0 < j → Free (blend i f j g)) where
     abbrev K : ℕ
@@ -192,4 +187,4 @@ module _ (s : Set) (C : Complex) (S : Shows s C) (y : SpacePoint) (F : Frame s C
         let d = same-clear M b (blend q.steps F.dir 1 g) (far-same (forms M) F.dir g K q.steps (omega arith) (let l = q.large in omega arith)) (free-close g hg K (omega arith)) in
         let m = move s C S i v F.listed x (blend p.steps F.dir 1 f) a p.seer c (free-close f hf K (omega arith)) in
         let n = move s C S i v F.listed m.0 a b m.1 clear (free-close g hg K (omega arith)) in
-        chain-both (VolumeLink C) x m.0 z m.2 (chain-both (VolumeLink C) m.0 n.0 z n.2 (across-way s C S i v F.listed n.0 z b (blend q.steps F.dir 1 g) n.1 d q.seer))
+        chain-trans (VolumeLink C) x m.0 z m.2 (chain-trans (VolumeLink C) m.0 n.0 z n.2 (across-way s C S i v F.listed n.0 z b (blend q.steps F.dir 1 g) n.1 d q.seer))

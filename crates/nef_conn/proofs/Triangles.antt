@@ -1,5 +1,6 @@
 -- Where a side of a triangle lies within a facet of a set, another within it or on an edge, and no vertex in it but the corner between both, the third side lies within the facet: an edge that crosses it would leave the triangle by another side.
-use Rattle.nef_conn.proofs.Prelude.{◌≡◌, zero, suc, pos, ◌<ℤ◌, ◌≤ℤ◌, arith, refl, ap, sym, ◌∙◌, ◌⊎◌, inl, inr, ⊎_elim, ◌∷◌, subst, [], ints, by_order, sign-plus, nought, plus, sign, Flat, FlatDim, IsVertex, SpacePoint, Form, form_at, normal_of, SamePoint, toward, IsBetween, Set, Vector, cross, IsZero, IsDirection, carriers, Drop, IsFlatBelow, EdgeAround, FlatDim-one, Flat-by_germs, between-turned, between-inner, start-close, start-toward, even-until, edge-around, even-germs, flat-way, span-1, signs-same, same-point_sym, reach_all, toward-point, point-toward, between-same, normal-direction, IsFlatIn, plane-way, between-way, between-start, between-ends, between-outer, same-itself, near_point, near-between, not-along, even-by, plane-back, plane-onward, flat-onto, same-by, same-by-minus, zero-by, Cut, cross-back, aligned, angle, turn_form, turn-at, angle-turned, angle-self, angle-start, angle-inside, between-plus, between-minus, between-level, cut-at, HalfEdge, plane-between, below-or, rises, falls-to, falls, IsInTriangle, LiesAlong, ThirdSides, zero-decided, dot-zero, cross-turned, SameDirection-turned, SameDirection-trans, dir-self, in-span, parallel-trans, parallel-in_plane, level-way, direction-right}
+use Rattle.nef_conn.proofs.Prelude.{◌≡◌, zero, suc, pos, ◌<ℤ◌, ◌≤ℤ◌, arith, refl, ap, sym, ◌∙◌, ◌⊎◌, inl, inr, ⊎_elim, ◌∷◌, subst, [], ints, by_order, sign-plus, nought, plus, sign, Flat, FlatDim, IsVertex, SpacePoint, Form, form_at, normal_of, SamePoint, toward, IsBetween, Set, Vector, cross, IsZero, IsDirection, carriers, Drop, IsFlatBelow, EdgeAround, FlatDim-one, Flat-by_germs, between-turned, between-inner, start-close, start-toward, even-until, edge-around, even-germs, flat-way, span-1, signs-same, same-point_sym, reach_all, toward-point, point-toward, between-same, normal-direction, IsFlatIn, plane-way, between-way, between-start, between-ends, between-outer, near_point, near-between, not-along, even-by, plane-back, plane-onward, flat-onto, same-by, same-by-minus, zero-by, Cut, cross-back, aligned, angle, turn_form, turn-at, angle-turned, angle-self, angle-start, angle-inside, between-plus, between-minus, between-level, cut-at, HalfEdge, plane-between, below-or, rises, falls-to, falls, IsInTriangle, LiesAlong, ThirdSides, zero-decided, dot-zero, cross-turned, SameDirection-turned, SameDirection-trans, dir-self, in-span, parallel-trans, parallel-in_plane, level-way, direction-right}
+use Rattle.nef_space.proofs.Elementary.{same-itself}
 
 -- where a form rises through nought
 pub cut-up : (h : Form) (p q : SpacePoint) → IsDirection (toward p q) → form_at h p <ℤ pos 0 → pos 0 <ℤ form_at h q → Cut h p q

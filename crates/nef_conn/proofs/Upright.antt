@@ -1,6 +1,6 @@
 -- Where an edge runs down from a vertex of a plane, along up, nothing else is at that svertex, nor at the lower end of the edge; what falls beside the vertex falls beside the edge to its lower end.
-use Rattle.nef_conn.proofs.Prelude.{◌≡◌, ℕ, ◌+◌, ◌<◌, ◌≤◌, ℤ, pos, ◌-ℤ◌, ◌*ℤ◌, ◌<ℤ◌, ◌≤ℤ◌, arith, refl, ap, sym, ◌∙◌, ◌⊎◌, inl, inr, ◌∷◌, subst, [], ints, sign, ring, at, num, ◌⊕◌, ◌⊖◌, ◌⊗◌, by_order, nought-is, sign-scaled, sign-plus, plus-is, turn-last, same-plus, same-minus, plane-way, Chained, FlatDim, IsEven, SpacePoint, Form, form_at, normal_of, slope, plane_through, SamePoint, InFrame, toward, IsBetween, Set, Vector, blend, dot, cross, opposite, IsZero, IsDirection, SameDirection, up, carriers, germs-by_cell, between-turned, between-inner, ahead, start-close, even-germs, joined-germs, signs-same, same-point_sym, reach_all, slope-toward, point-toward, between-same, forms, SameSigns, IsAt, MapVertex, arc_item, HasArc, Shaped, at-arc, amount, free-close, Vertex, Edge, Complex, HasEnds, IsCorner, Shows, VertexSide, RayDown, IsFlatIn, near_point, near-between, edge-points, through-at, through-slope, between-plus, ahead-back, plane-between, dim-same, plane-ahead, even-by, between-way, between-outer, same-itself, VolumeLink, IsUpright, IsEvenAfter, EdgeWays, edge-ways, ends-tied, tied-turn, end-level, corner_of_numbers, free-dim, even-fan, dim-cell, ahead-cells, tied-cell, tied-both, tied-ahead, tied-ray, tied-turned, AreLinkedWhereJoined, sliced, triple-dot, cross-turned, SameDirection-turned, SameDirection-trans, dir-self, in-span, parallel-trans, opposite-same, dot-opposite, level-way, opposite-way, opposite-twice, direction-left, direction-right}
-use Rattle.nef_conn.proofs.Chain.{chain-both}
+use Rattle.nef_conn.proofs.Prelude.{◌≡◌, ℕ, ◌+◌, ◌<◌, ◌≤◌, ℤ, pos, ◌-ℤ◌, ◌*ℤ◌, ◌<ℤ◌, ◌≤ℤ◌, arith, refl, ap, sym, ◌∙◌, ◌⊎◌, inl, inr, ◌∷◌, subst, [], ints, sign, ring, at, num, ◌⊕◌, ◌⊖◌, ◌⊗◌, by_order, nought-is, sign-scaled, sign-plus, plus-is, turn-last, same-plus, same-minus, plane-way, Chained, FlatDim, IsEven, SpacePoint, Form, form_at, normal_of, slope, plane_through, SamePoint, InFrame, toward, IsBetween, Set, Vector, blend, dot, cross, opposite, IsZero, IsDirection, SameDirection, up, carriers, germs-by_cell, between-turned, between-inner, ahead, start-close, even-germs, joined-germs, signs-same, same-point_sym, reach_all, slope-toward, point-toward, between-same, forms, SameSigns, IsAt, MapVertex, arc_item, HasArc, Shaped, at-arc, amount, free-close, Vertex, Edge, Complex, HasEnds, IsCorner, Shows, VertexSide, RayDown, IsFlatIn, near_point, near-between, edge-points, through-at, through-slope, between-plus, ahead-back, plane-between, plane-ahead, even-by, between-way, between-outer, VolumeLink, IsUpright, IsEvenAfter, EdgeWays, edge-ways, ends-tied, tied-turn, end-level, corner_of_numbers, free-dim, even-fan, dim-cell, ahead-cells, tied-cell, tied-both, tied-ahead, tied-ray, tied-turned, AreLinkedWhereJoined, sliced, triple-dot, cross-turned, SameDirection-turned, SameDirection-trans, dir-self, in-span, parallel-trans, opposite-same, dot-opposite, level-way, opposite-way, opposite-twice, direction-left, direction-right}
+use Rattle.nef_space.proofs.Chains.{chain-trans}
 use Rattle.nef_conn.proofs.Claims.{Claim}
 use Rattle.nef_conn.proofs.EdgeFalls.{ways-toward, vertex-slice, edge-slice}
 use Rattle.nef_conn.proofs.Fall.{corner-wedge, lam-down, lam-zero}
@@ -13,6 +13,8 @@ use Rattle.nef_conn.proofs.RaysEnd.{tied-dim}
 use Rattle.nef_conn.proofs.Silhouettes.{germs-inside, toward-end, sliced-ahead, two-of, three-of}
 use Rattle.nef_conn.proofs.SliceStrip.{lam, up_line, lam-at, Clear, along-start, lam-plus}
 use Rattle.nef_conn.proofs.Touch.{Seer, bound, Touch, edge-frame, vertex-frame, same-seers, touched, no-way}
+use Rattle.law_near.proofs.Same.{dim-same}
+use Rattle.nef_space.proofs.Elementary.{same-itself}
 
 pub up-square : (m : Vector) → dot (cross m up) up ≡ pos 0
 up-square m = ring (m.x ∷ m.y ∷ m.z ∷ up.x ∷ up.y ∷ up.z ∷ []) ((at 1 ⊗ at 5 ⊖ at 2 ⊗ at 4) ⊗ at 3 ⊕ (at 2 ⊗ at 3 ⊖ at 0 ⊗ at 5) ⊗ at 4 ⊕ (at 0 ⊗ at 4 ⊖ at 1 ⊗ at 3) ⊗ at 5) (num (pos 0)) tt
@@ -293,4 +295,4 @@ module _ (s : Set) (C : Complex) (S : Shows s C) (upright : IsUpright C) (linked
             let T = turn-beside s C S upright linked v.point a' (toward v.point b) touch-a.0 (free-to r' (inl amid-r')) (free-to b at-b) wedge-v (inl (e.low, v, H.low, same-itself v.point, touch-a.1)) in
             let l = claim vertex-v b T.0 z on-b (side-on (sliced s h) h hn level y v.point b (lam-down n y v.point down) side) (clear-on (sliced s h) h hn level y v.point b (lam-down n y v.point down) clear)
             (λ r c. way-three b at-b r c) three inside T.1 R in
-            chain-both (VolumeLink C) o touch-a.0 z first-link (chain-both (VolumeLink C) touch-a.0 T.0 z T.2 l)
+            chain-trans (VolumeLink C) o touch-a.0 z first-link (chain-trans (VolumeLink C) touch-a.0 T.0 z T.2 l)

@@ -1,18 +1,18 @@
 -- What falls beside a vertex of a plane from which an edge runs down along up: it falls beside the edge.
-use Rattle.nef_conn.proofs.Prelude.{◌≡◌, ℕ, ◌+◌, ℤ, pos, ◌<ℤ◌, arith, refl, ap, sym, inl, inr, ⊎_elim, subst, ints, Chained, FlatDim, IsVertex, SpacePoint, Form, form_at, normal_of, slope, SamePoint, InFrame, toward, IsBetween, IsPointBelow, Set, Vector, blend, dot, cross, opposite, IsZero, IsDirection, SameDirection, up, ahead, same-point_sym, forms, IsAt, MapVertex, around_svertex, HasArc, Shaped, amount, is-at_one, sees-around, Vertex, Edge, Complex, HasEnds, Shows, VertexSide, RayDown, ahead-back, dim-same, plane-ahead, svertex-edge, VolumeLink, around_ends, IsUpright, IsEvenAfter, EdgeWays, edge-ways, tied-ray, AreLinkedWhereJoined, sliced, point_below-same, triple-dot, SameDirection-turned, SameDirection-trans, dir-self, opposite-turned, opposite-same, dot-opposite, level-way, opposite-way, opposite-twice, direction-left}
-use Rattle.nef_conn.proofs.Chain.{chain-both, chain-back, chain-one}
+use Rattle.nef_conn.proofs.Prelude.{◌≡◌, ℕ, ◌+◌, ℤ, pos, ◌<ℤ◌, arith, refl, ap, sym, inl, inr, ⊎_elim, subst, ints, Chained, FlatDim, IsVertex, SpacePoint, Form, form_at, normal_of, slope, SamePoint, InFrame, toward, IsBetween, IsPointBelow, Set, Vector, blend, dot, cross, opposite, IsZero, IsDirection, SameDirection, up, ahead, same-point_sym, forms, IsAt, MapVertex, around_svertex, HasArc, Shaped, amount, is-at_one, sees-around, Vertex, Edge, Complex, HasEnds, Shows, VertexSide, RayDown, ahead-back, plane-ahead, svertex-edge, VolumeLink, around_ends, IsUpright, IsEvenAfter, EdgeWays, edge-ways, tied-ray, AreLinkedWhereJoined, sliced, point_below-same, triple-dot, SameDirection-turned, SameDirection-trans, dir-self, opposite-turned, opposite-same, dot-opposite, level-way, opposite-way, opposite-twice, direction-left}
+use Rattle.nef_space.proofs.Chains.{chain-trans, chain-turned, chain-link}
 use Rattle.nef_conn.proofs.Claims.{Claim}
 use Rattle.nef_conn.proofs.Downs.{along-up}
 use Rattle.nef_conn.proofs.Fall.{lam-zero}
 use Rattle.nef_conn.proofs.Leaves.{toward-same}
-use Rattle.nef_conn.proofs.Lexical.{normal-way}
 use Rattle.nef_conn.proofs.Near.{Wedge, wedge-way, wedge-on}
 use Rattle.nef_conn.proofs.NearOver.{blend-rises}
-use Rattle.nef_conn.proofs.Reached.{toward-normal}
 use Rattle.nef_conn.proofs.RaysEnd.{tied-dim}
 use Rattle.nef_conn.proofs.SliceStrip.{lam, Clear}
 use Rattle.nef_conn.proofs.Touch.{Seer, bound, Touch, vertex-frame, meet, touched, turn-touch, no-way}
 use Rattle.nef_conn.proofs.Upright.{lone-along, aside-any, up-square, beside-edge}
+use Rattle.law_near.proofs.Normals.{toward-normal, normal-kept}
+use Rattle.law_near.proofs.Same.{dim-same}
 
 module _ (s : Set) (C : Complex) (S : Shows s C) (upright : IsUpright C) (linked : AreLinkedWhereJoined s C) where
   module _ (h : Form) (hn : IsDirection (normal_of h)) (level : slope h up ≡ pos 0) where
@@ -71,7 +71,7 @@ module _ (s : Set) (C : Complex) (S : Shows s C) (upright : IsUpright C) (linked
             let o = touched s C S y (vertex-frame s C i v y a same) (blend N u.dir 1 f) close.0 in
             let p = subst (λ (g : Vector). Seer i v o.0 g) (no-way o.1.steps (blend N u.dir 1 f)) o.1.seer in
             let r = V'.around_lone j u b lone-high in
-            chain-both (VolumeLink C) x o.0 high (turn-touch s C S y (vertex-frame s C i v y a same) f (blend N u.dir 1 f) free-f close.0 close.1 x o.0 T o.1)
+            chain-trans (VolumeLink C) x o.0 high (turn-touch s C S y (vertex-frame s C i v y a same) f (blend N u.dir 1 f) free-f close.0 close.1 x o.0 T o.1)
             (meet s C S i v a o.0 high (blend N u.dir 1 f) p (record { here = refl; label = r.0; has = (u, b, r.1); sees = sees-around v.map V' j u b lone-high f N (omega arith) (aside-any s C S upright linked h hn level u.dir u-some u-along y c side) }))
 
         -- by the edge
@@ -121,7 +121,7 @@ module _ (s : Set) (C : Complex) (S : Shows s C) (upright : IsUpright C) (linked
               let r = V''.around_lone e.low_svertex W.low W.is_low lone-there in
               let r2 = V'.around_lone j u b lone-high in
               let K = bound s l f in
-              let link = chain-one (VolumeLink C) low high (inr (inl (record {
+              let link = chain-link (VolumeLink C) low high (inr (inl (record {
                 number = k;
                 edge = e;
                 is_edge = d;
@@ -133,7 +133,7 @@ module _ (s : Set) (C : Complex) (S : Shows s C) (upright : IsUpright C) (linked
               }))) in
               let seer : Seer e.low l low (blend K W.low.dir 1 f) = record { here = refl; label = r.0; has = (W.low, W.is_low, r.1); sees = sees-around l.map V'' e.low_svertex W.low W.is_low lone-there f K (omega arith) (aside-any s C S upright linked h hn level W.low.dir (direction-left W.low.dir up along) (let o = along in o.parallel) y c side) } in
               let rest = beside-edge s C S upright linked h hn level k e l w d H along y on-y top c x z on-c side clear first three inside R wedge-three wedge-two K (omega arith) low seer (λ g. claims l.point on-l lower (S.vertices e.low l H.low) g) in
-              chain-both (VolumeLink C) x high z to-around (chain-both (VolumeLink C) high low z (chain-back (VolumeLink C) low high link) rest)
+              chain-trans (VolumeLink C) x high z to-around (chain-trans (VolumeLink C) high low z (chain-turned (VolumeLink C) low high link) rest)
 
         -- an edge that begins there goes up
         not-low : (k : ℕ) (e : Edge) (l w : Vertex) (d : IsAt C.edges k e) (H : HasEnds C e l w) → e.low ≡ i → e.low_svertex ≡ j → ⊥
@@ -142,7 +142,7 @@ module _ (s : Set) (C : Complex) (S : Shows s C) (upright : IsUpright C) (linked
             let one = is-at_one C.vertices i l v (subst (λ (q : ℕ). IsAt C.vertices q l) at-low H.low) a in
             let is = is-at_one v.map.svertices j W.low u (subst (λ (q : ℕ). IsAt v.map.svertices q W.low) at-svertex (subst (λ (q : Vertex). IsAt q.map.svertices e.low_svertex W.low) one W.is_low)) b in
             let g = subst (λ (q : MapVertex). SameDirection q.dir (opposite up)) (sym is) runs in
-            let m = normal-way (toward l.point w.point) (opposite up) (SameDirection-trans (toward l.point w.point) W.low.dir (opposite up) W.onward g)
+            let m = normal-kept (toward l.point w.point) (opposite up) (SameDirection-trans (toward l.point w.point) W.low.dir (opposite up) W.onward g)
             (toward-normal l.point w.point (S.ordered e.low e.high l w (let E = S.edges.edges k e d in E.upward) H.low H.high)) in
             let q = m.first in
             absurd (omega (arith, ints))

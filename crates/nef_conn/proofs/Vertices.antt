@@ -1,6 +1,6 @@
 -- What falls from a point beside a vertex of a plane names a side of the class of what touches the vertex toward it: by what leaves the vertex first, or, where nothing does, by what lies below.
-use Rattle.nef_conn.proofs.Prelude.{◌≡◌, ℤ, pos, ◌<ℤ◌, arith, sym, ◌⊎◌, inl, inr, ⊎_elim, subst, ints, Chained, FlatDim, IsEven, SpacePoint, Form, form_at, normal_of, slope, SamePoint, InFrame, toward, IsBetween, Set, Vector, opposite, cross, IsDirection, SameDirection, up, carriers, SameGerms, FlatDim-by_germs, germs-by_cell, between-turned, between-inner, ray-cell, ahead, even-germs, signs-same, same-point_sym, Complex, Shows, VertexSide, RayDown, IsFlatIn, facet-of, plane-between, dim-same, plane-ahead, even-by, plane-way, skeleton-not_flat, skeleton-or_flat, between-way, between-cases, between-outer, between-start, VolumeLink, IsUpright, IsEvenAfter, ahead-close, dim-cell, tied-ray, facet-at, AreLinkedWhereJoined, sliced, triple-dot, triple-turned, SameDirection-turned, SameDirection-trans, dir-self, dot-opposite, level-way, direction-left}
-use Rattle.nef_conn.proofs.Chain.{chain-both}
+use Rattle.nef_conn.proofs.Prelude.{◌≡◌, ℤ, pos, ◌<ℤ◌, arith, sym, ◌⊎◌, inl, inr, ⊎_elim, subst, ints, Chained, FlatDim, IsEven, SpacePoint, Form, form_at, normal_of, slope, SamePoint, InFrame, toward, IsBetween, Set, Vector, opposite, cross, IsDirection, SameDirection, up, carriers, SameGerms, FlatDim-by_germs, germs-by_cell, between-turned, between-inner, ray-cell, ahead, even-germs, signs-same, same-point_sym, Complex, Shows, VertexSide, RayDown, IsFlatIn, facet-of, plane-between, plane-ahead, even-by, plane-way, skeleton-not_flat, skeleton-or_flat, between-way, between-cases, between-outer, between-start, VolumeLink, IsUpright, IsEvenAfter, ahead-close, dim-cell, tied-ray, facet-at, AreLinkedWhereJoined, sliced, triple-dot, triple-turned, SameDirection-turned, SameDirection-trans, dir-self, dot-opposite, level-way, direction-left}
+use Rattle.nef_space.proofs.Chains.{chain-trans}
 use Rattle.nef_conn.proofs.Fall.{lam-zero}
 use Rattle.nef_conn.proofs.Fans.{off-between}
 use Rattle.nef_conn.proofs.Hits.{ray-over}
@@ -10,8 +10,9 @@ use Rattle.nef_conn.proofs.Near.{Wedge, wedge-of, wedge-way}
 use Rattle.nef_conn.proofs.NearOver.{blend-rises}
 use Rattle.nef_conn.proofs.RaysEnd.{free-above, ray-down, tied-dim}
 use Rattle.nef_conn.proofs.Silhouettes.{sliced-signs, sliced-off, sliced-ahead, germs-inside, toward-end, two-of, germs-of, three-of, lands, some-flat, even-hit, flatness}
-use Rattle.nef_conn.proofs.Claims.{Claim, up-side, not-flat, beside-fall, down-some}
+use Rattle.nef_conn.proofs.Claims.{Claim, up-side, not-flat, beside-fall}
 use Rattle.nef_conn.proofs.SliceStrip.{lam, Clear}
+use Rattle.law_near.proofs.Same.{dim-same}
 
 module _ (s : Set) (C : Complex) (S : Shows s C) (upright : IsUpright C) (linked : AreLinkedWhereJoined s C) (h : Form) (hn : IsDirection (normal_of h)) (level : slope h up ≡ pos 0) where
   abbrev n : Vector
@@ -187,7 +188,7 @@ module _ (s : Set) (C : Complex) (S : Shows s C) (upright : IsUpright C) (linked
             by-ray : Chained (VolumeLink C) x z
             by-ray =
                 let T = turn-beside s C S upright linked y (toward y b) (opposite up) x free-toward free-down wedge-down B in
-                chain-both (VolumeLink C) x T.0 z T.2 (chain-both (VolumeLink C) T.0 x2 z (falls T.0 x2 T.1 ray-y second)
+                chain-trans (VolumeLink C) x T.0 z T.2 (chain-trans (VolumeLink C) T.0 x2 z (falls T.0 x2 T.1 ray-y second)
                 (beside-fall s C S upright linked h hn level y D.place b on-y on-place on-b to-place side clear first second three inside (inr wedge-two) x2 z (ray-over s C S Q x2 D) R (below D.place on-place to-place)))
 
           by-open : Chained (VolumeLink C) x z

@@ -1,8 +1,9 @@
 -- The same ray names the same corners in each form of a plane, and there is one way inward.
-use Rattle.nef_conn.proofs.Prelude.{◌≡◌, ℕ, ℤ, pos, ◌+ℤ◌, ◌*ℤ◌, neg_ℤ, Bool, true, false, cond, ◌&&◌, arith, refl, ◌∷◌, subst, Decides, [], ints, given, none, follows, ring, at, num, neg, ◌⊕◌, ◌⊗◌, axis_factor, SpacePoint, Form, form_at, normal_of, Vector, opposite, dot, blend, IsDirection, SameDirection, plane_dir, beside_x, beside_y, beside_z, SameUpToFactor, of_direction, same-factor, factor-same, Complex, Corner, RayNames, opposed, opposite-same, direction-left, level-blend}
+use Rattle.nef_conn.proofs.Prelude.{◌≡◌, ℕ, ℤ, pos, ◌+ℤ◌, ◌*ℤ◌, neg_ℤ, Bool, true, false, cond, ◌&&◌, arith, refl, ◌∷◌, subst, Decides, [], ints, given, none, follows, at, num, ◌⊕◌, ◌⊗◌, axis_factor, SpacePoint, Form, form_at, normal_of, Vector, opposite, dot, blend, IsDirection, SameDirection, plane_dir, beside_x, beside_y, beside_z, SameUpToFactor, of_direction, same-factor, factor-same, Complex, Corner, RayNames, opposed, opposite-same, direction-left, level-blend}
 use Rattle.std.specs.Ordering.{int_eq}
 use Rattle.std.proofs.lemmas.Bool.Decides.{Decides-int_eq}
 use Rattle.nef_conn.proofs.SamePlanes.{first-same, corner-same, level, same-test}
+use Rattle.nef_space.proofs.Vectors.{level-beside_x, level-beside_y, level-beside_z}
 
 -- the same ray names the same corners in each form of a plane
 pub names-same : (C : Complex) (g h : Form) (y : SpacePoint) → form_at g y ≡ pos 0 → form_at h y ≡ pos 0 → SameDirection (normal_of g) (normal_of h) → (d f : Vector) → SameDirection d f
@@ -14,23 +15,14 @@ names-same C g h y on_g on_h w d f u k (m, I, c) = (m, first-same C g h y on_g o
 abbrev dir_by : Bool → Bool → Vector → Vector
 dir_by a b v = blend axis_factor (cond (a && b) (beside_y v) (beside_x v)) 1 (cond a (beside_z v) (beside_y v))
 
-level-x : (n : Vector) → dot n (beside_x n) ≡ pos 0
-level-x n = ring (n.x ∷ n.y ∷ n.z ∷ []) (at 0 ⊗ num (pos 0) ⊕ at 1 ⊗ at 2 ⊕ at 2 ⊗ neg (at 1)) (num (pos 0)) tt
-
-level-y : (n : Vector) → dot n (beside_y n) ≡ pos 0
-level-y n = ring (n.x ∷ n.y ∷ n.z ∷ []) (at 0 ⊗ neg (at 2) ⊕ at 1 ⊗ num (pos 0) ⊕ at 2 ⊗ at 0) (num (pos 0)) tt
-
-level-z : (n : Vector) → dot n (beside_z n) ≡ pos 0
-level-z n = ring (n.x ∷ n.y ∷ n.z ∷ []) (at 0 ⊗ at 1 ⊕ at 1 ⊗ neg (at 0) ⊕ at 2 ⊗ num (pos 0)) (num (pos 0)) tt
-
 -- it is a direction of the plane
 pub dir-level : (n : Vector) → dot n (plane_dir n) ≡ pos 0
 dir-level n = by (int_eq n.z (pos 0)) (int_eq n.y (pos 0))
   where
     by : (a b : Bool) → dot n (dir_by a b n) ≡ pos 0
-    by true true = level-blend n (beside_y n) (beside_z n) axis_factor 1 (level-y n) (level-z n)
-    by true false = level-blend n (beside_x n) (beside_z n) axis_factor 1 (level-x n) (level-z n)
-    by false b = level-blend n (beside_x n) (beside_y n) axis_factor 1 (level-x n) (level-y n)
+    by true true = level-blend n (beside_y n) (beside_z n) axis_factor 1 (level-beside_y n) (level-beside_z n)
+    by true false = level-blend n (beside_x n) (beside_z n) axis_factor 1 (level-beside_x n) (level-beside_z n)
+    by false b = level-blend n (beside_x n) (beside_y n) axis_factor 1 (level-beside_x n) (level-beside_y n)
 
 pub dir-some : (n : Vector) → IsDirection n → IsDirection (plane_dir n)
 dir-some n i = by (int_eq n.z (pos 0)) (int_eq n.y (pos 0)) (Decides-int_eq n.z (pos 0)) (Decides-int_eq n.y (pos 0))

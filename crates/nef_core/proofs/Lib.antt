@@ -1,4 +1,5 @@
 pub mod Prelude
+pub mod Facts
 pub mod Places
 pub mod Schedules
 pub mod Counting

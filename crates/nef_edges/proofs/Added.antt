@@ -1,21 +1,13 @@
 -- The edges from the svertices that lead on, collected svertex by svertex.
-use Rattle.nef_edges.proofs.Prelude.{◌≡◌, ℕ, ◌+◌, ◌≤◌, pos, List, [], ◌∷◌, ◌++◌, length, map, arith, refl, sym, ap, subst, ◌∙◌, inl, inr, ◌⊎◌, ⊎_elim, ints, IsNormal, vector_of, IsAt, MapVertex, InOrder, is-at_one, IsEdge, IsEdgeBelow, Edges, SVertex, svertex_of, Vertex, Edge, vertex_of, edge_of, EdgeEnd, IsEarlierSvertex, AreJoined, AreEdges, is-at_none}
+use Rattle.nef_edges.proofs.Prelude.{◌≡◌, ℕ, ◌+◌, ◌≤◌, pos, List, [], ◌∷◌, ◌++◌, length, map, arith, refl, sym, ap, subst, ◌∙◌, inl, inr, ◌⊎◌, ⊎_elim, ints, IsNormal, vector_of, IsAt, MapVertex, is-at_one, IsEdge, IsEdgeBelow, Edges, SVertex, svertex_of, Vertex, Edge, vertex_of, edge_of, EdgeEnd, IsEarlierSvertex, AreJoined, AreEdges}
 use Rattle.law_complex.specs.Complexes.{Vertex as PlainVertex, Edge as PlainEdge}
-use Rattle.nef_edges.proofs.Arrivals.{before-more, before-row}
-use Rattle.nef_edges.proofs.Existing.{edge-same, one-edge}
+use Rattle.nef_edges.proofs.Arrivals.{before-more, before-row, earlier-row, earlier-next}
+use Rattle.nef_edges.proofs.Existing.{one-edge}
 use Rattle.nef_edges.proofs.Partners.{IsPair}
 use Rattle.nef_edges.proofs.Rays.{ahead-normal}
 use Rattle.nef_space.proofs.Lists.{is-at_last, is-at_left, is-at_map, is-at_more, is-at_within, map-is_at}
-
--- one more element that is above all others
-pub order-more : {A : Type 0} (Below : A → A → Type 0) (xs : List A) (y : A) → InOrder Below xs → ((k : ℕ) (x : A) → IsAt xs k x → Below x y) → InOrder Below (xs ++ y ∷ [])
-order-more {A} Below xs y o f i k x z l a b = by (is-at_more xs y i x a) (is-at_more xs y k z b)
-  where
-    by : IsAt xs i x ⊎ ((i ≡ length xs) × (y ≡ x)) → IsAt xs k z ⊎ ((k ≡ length xs) × (y ≡ z)) → Below x z
-    by (inl c) (inl d) = o i k x z l c d
-    by (inl c) (inr d) = subst (Below x) d.1 (f i x c)
-    by (inr c) (inl d) = absurd (let m = is-at_within xs k z d in let e = c.0 in omega arith)
-    by (inr c) (inr d) = absurd (let e = c.0 in let g = d.0 in omega arith)
+use Rattle.law_complex.proofs.Equal.{edges-equal}
+use Rattle.law_sphere.proofs.Lists.{order-more}
 
 module _ (vs : List Vertex) (J : AreJoined (map vertex_of vs)) where
   -- the lower end of an edge as the program has it
@@ -29,23 +21,15 @@ module _ (vs : List Vertex) (J : AreJoined (map vertex_of vs)) where
   -- all svertices of vertex i have been counted
   pub edges-row : (i k : ℕ) (es : List Edge) (v : Vertex) → IsAt vs i v → length v.map.svertices ≤ k → AreEdges vs (IsEarlierSvertex i k) es → AreEdges vs (IsEarlierSvertex (i + 1) 0) es
   edges-row i k es v a l A = record {
-    edges = λ n e b. let c = A.edges n e b in (c.0, more e.low e.low_svertex c.1);
+    edges = λ n e b. let c = A.edges n e b in (c.0, earlier-row i k e.low e.low_svertex c.1);
     complete = λ e E q. let w = low-end e E in A.complete e E (before-row vs i k v a l e.low e.low_svertex w.0 w.1 w.2 w.3 q);
     ordered = A.ordered;
   }
-    where
-      more : (j m : ℕ) → IsEarlierSvertex i k j m → IsEarlierSvertex (i + 1) 0 j m
-      more j m (inl h) = inl (omega arith)
-      more j m (inr h) = inl (let e = h.0 in omega arith)
-
-  step : (i k j m : ℕ) → IsEarlierSvertex i k j m → IsEarlierSvertex i (k + 1) j m
-  step i k j m (inl h) = inl h
-  step i k j m (inr h) = inr (h.0, (let l = h.1 in omega arith))
 
   -- a svertex that no edge leads on from
   pub edges-pass : (i k : ℕ) (es : List Edge) (v : Vertex) (s : SVertex) → IsAt vs i v → IsAt v.map.svertices k s → (IsNormal (vector_of s.dir) → ⊥) → AreEdges vs (IsEarlierSvertex i k) es → AreEdges vs (IsEarlierSvertex i (k + 1)) es
   edges-pass i k es v s a b n A = record {
-    edges = λ l e c. let d = A.edges l e c in (d.0, step i k e.low e.low_svertex d.1);
+    edges = λ l e c. let d = A.edges l e c in (d.0, earlier-next i k e.low e.low_svertex d.1);
     complete = λ e E q. ⊎_elim (λ h. A.complete e E h) (λ h. absurd (this e E h.0 h.1)) (before-more i k e.low e.low_svertex q);
     ordered = A.ordered;
   }
@@ -78,7 +62,7 @@ module _ (vs : List Vertex) (J : AreJoined (map vertex_of vs)) where
         E.mark ∙ ap (λ (x : MapVertex). x.mark) t
 
     new-is : P.edge ≡ edge_of new_edge
-    new-is = edge-same P.edge (edge_of new_edge) low-is end-is P.high P.high_svertex mark-is
+    new-is = edges-equal P.edge (edge_of new_edge) low-is end-is P.high P.high_svertex mark-is
 
     below : (n : ℕ) (e : Edge) → IsAt es n e → IsEdgeBelow (edge_of e) (edge_of new_edge)
     below n e c = by (A.edges n e c).1
@@ -92,7 +76,7 @@ module _ (vs : List Vertex) (J : AreJoined (map vertex_of vs)) where
       where
         edges : (n : ℕ) (e : Edge) → IsAt (es ++ new_edge ∷ []) n e → IsEdge (map vertex_of vs) (edge_of e) × IsEarlierSvertex i (k + 1) e.low e.low_svertex
         edges n e c = ⊎_elim
-            (λ d. let f = A.edges n e d in (f.0, step i k e.low e.low_svertex f.1))
+            (λ d. let f = A.edges n e d in (f.0, earlier-next i k e.low e.low_svertex f.1))
             (λ d. subst (λ (f : Edge). IsEdge (map vertex_of vs) (edge_of f) × IsEarlierSvertex i (k + 1) f.low f.low_svertex) d.1 (subst (IsEdge (map vertex_of vs)) new-is E, inr (refl, omega arith)))
             (is-at_more es new_edge n e c)
 

@@ -1,6 +1,7 @@
 -- EdgeEnds that arrive, collected svertex by svertex.
-use Rattle.nef_edges.proofs.Prelude.{◌≡◌, ℕ, zero, suc, ◌+◌, ◌<◌, ◌≤◌, List, [], ◌∷◌, ◌++◌, length, Bool, false, arith, refl, sym, ap, subst, ◌∙◌, inl, inr, ◌⊎◌, ⊎_elim, IsTrue, false≢true, opposite, IsNormal, vector_of, IsAt, is-at_one, SVertex, Vertex, EdgeEnd, IsEarlierSvertex, IsArriving, AreArriving, is-at_none}
+use Rattle.nef_edges.proofs.Prelude.{◌≡◌, ℕ, zero, suc, ◌+◌, ◌<◌, ◌≤◌, List, [], ◌∷◌, ◌++◌, length, Bool, false, arith, refl, sym, ap, subst, ◌∙◌, inl, inr, ◌⊎◌, ⊎_elim, IsTrue, false≢true, opposite, IsNormal, vector_of, IsAt, is-at_one, SVertex, Vertex, EdgeEnd, IsEarlierSvertex, IsArriving, AreArriving}
 use Rattle.nef_space.proofs.Lists.{is-at_last, is-at_left, is-at_more, is-at_within}
+use Rattle.nef_space.proofs.Elementary.{less-or-last}
 
 pub IsTrue-false : (b : Bool) → IsTrue b → b ≡ false → ⊥
 IsTrue-false b h e = false≢true (sym e ∙ h)
@@ -8,13 +9,15 @@ IsTrue-false b h e = false≢true (sym e ∙ h)
 -- ---- which svertices have been counted
 pub before-more : (i k j m : ℕ) → IsEarlierSvertex i (k + 1) j m → IsEarlierSvertex i k j m ⊎ ((j ≡ i) × (m ≡ k))
 before-more i k j m (inl h) = inl (inl h)
-before-more i k j m (inr (e, h)) = elim (less m k h) [ inl l ↦ inl (inr (e, l)) | inr l ↦ inr (e, l) ]
-  where
-    less : (m k : ℕ) → m < k + 1 → (m < k) ⊎ (m ≡ k)
-    less zero zero h = inr refl
-    less zero (suc k) h = inl (omega arith)
-    less (suc m) zero h = absurd (omega arith)
-    less (suc m) (suc k) h = elim (less m k (omega arith)) [ inl l ↦ inl (omega arith) | inr l ↦ inr (ap suc l) ]
+before-more i k j m (inr (e, h)) = elim (less-or-last m k h) [ inl l ↦ inl (inr (e, l)) | inr l ↦ inr (e, l) ]
+
+pub earlier-next : (i k j m : ℕ) → IsEarlierSvertex i k j m → IsEarlierSvertex i (k + 1) j m
+earlier-next i k j m (inl h) = inl h
+earlier-next i k j m (inr h) = inr (h.0, (let l = h.1 in omega arith))
+
+pub earlier-row : (i k j m : ℕ) → IsEarlierSvertex i k j m → IsEarlierSvertex (i + 1) 0 j m
+earlier-row i k j m (inl h) = inl (omega arith)
+earlier-row i k j m (inr h) = inl (let e = h.0 in omega arith)
 
 -- all svertices of vertex i
 pub before-row : (vs : List Vertex) (i k : ℕ) (v : Vertex) → IsAt vs i v → length v.map.svertices ≤ k → (j m : ℕ) (w : Vertex) (s : SVertex) → IsAt vs j w → IsAt w.map.svertices m s → IsEarlierSvertex (i + 1) 0 j m → IsEarlierSvertex i k j m

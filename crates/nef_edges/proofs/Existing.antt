@@ -1,18 +1,12 @@
 -- Vertices in order, each with at most one svertex in every direction, have a list of all their edges.
-use Rattle.nef_edges.proofs.Prelude.{◌≡◌, ℕ, zero, suc, ◌<◌, pos, arith, refl, ap, sym, ◌∙◌, ◌⊎◌, inl, inr, ⊎_elim, List, [], ◌∷◌, ◌++◌, subst, cases_order, ints, Lies, each, lies-each, lies-left, lies-right, toward, IsAhead, IsBetween, IsPointBelow, SameDirection, IsOpposite, Label, Decided, IsAt, MapVertex, Shaped, InOrder, Found, search_list, is-at_one, lies-at, at-lies, SameDirection-decided, IsOpposite-decided, IsEdge, IsEdgeBelow, Edges, IsFrom, is-at_none, is-at_first}
+use Rattle.nef_edges.proofs.Prelude.{◌≡◌, ℕ, zero, suc, ◌<◌, pos, arith, refl, ap, sym, ◌∙◌, ◌⊎◌, inl, inr, ⊎_elim, List, [], ◌∷◌, ◌++◌, subst, cases_order, ints, Lies, each, lies-each, lies-left, lies-right, toward, IsAhead, IsBetween, IsPointBelow, SameDirection, IsOpposite, Decided, IsAt, MapVertex, Shaped, InOrder, Found, search_list, is-at_one, lies-at, at-lies, SameDirection-decided, IsOpposite-decided, IsEdge, IsEdgeBelow, Edges, IsFrom, is-at_none, is-at_first}
 use Rattle.law_near.proofs.Decided.{decided-lt}
 use Rattle.law_sphere.proofs.cones.Listing.{numbers, at-number, at-or, Collected, Sorted, collect, sort, chain-order}
 use Rattle.law_complex.specs.Complexes.{Vertex, Edge}
 use Rattle.nef_edges.proofs.Rays.{ahead-normal, middle-between, opposites-same}
+use Rattle.law_complex.proofs.Equal.{edges-equal}
 
 -- ---- one edge from each svertex
-pub edge-same : (e f : Edge) → e.low ≡ f.low → e.low_svertex ≡ f.low_svertex → e.high ≡ f.high → e.high_svertex ≡ f.high_svertex → e.mark ≡ f.mark → e ≡ f
-edge-same e f h i j k l =
-    ap (λ n. make n e.low_svertex e.high e.high_svertex e.mark) h ∙ ap (λ n. make f.low n e.high e.high_svertex e.mark) i ∙ ap (λ n. make f.low f.low_svertex n e.high_svertex e.mark) j
-    ∙ ap (λ n. make f.low f.low_svertex f.high n e.mark) k ∙ ap (λ n. make f.low f.low_svertex f.high f.high_svertex n) l
-  where
-    make : ℕ → ℕ → ℕ → ℕ → Label → Edge
-    make a b c d m = record { low = a; low_svertex = b; high = c; high_svertex = d; mark = m }
 
 module _ (vs : List Vertex) where
   abbrev pub InPlaces : Type 0
@@ -46,7 +40,7 @@ module _ (vs : List Vertex) where
             let arrives = subst (λ (v : Vertex). IsAt v.map.svertices e.high_svertex E.high_end) high E.arrives in
             let way = opposites-same F.low_end.dir E.high_end.dir F.high_end.dir (subst (λ (s : MapVertex). IsOpposite s.dir E.high_end.dir) start E.back) F.back in
             let end = (shaped f.high F.high_vertex F.is_high).svertices_apart e.high_svertex f.high_svertex E.high_end F.high_end arrives F.arrives way in
-            edge-same e f h i g end (E.mark ∙ ap (λ (s : MapVertex). s.mark) start ∙ sym F.mark)
+            edges-equal e f h i g end (E.mark ∙ ap (λ (s : MapVertex). s.mark) start ∙ sym F.mark)
 
   -- ---- whether a svertex has an edge
   module _ (i a : ℕ) (v : Vertex) (u : MapVertex) (is_low : IsAt vs i v) (leaves : IsAt v.map.svertices a u) where

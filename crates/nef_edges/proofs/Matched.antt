@@ -1,9 +1,11 @@
 -- Edges that are matched end by end are the edges of the vertices.
 use Rattle.nef_edges.proofs.Prelude.{◌≡◌, ℕ, zero, suc, ◌+◌, ◌<◌, ◌≤◌, pos, ℤ, ◌-ℤ◌, ◌*ℤ◌, neg_ℤ, List, [], ◌∷◌, length, arith, sym, ap, subst, ◌∙◌, inl, inr, ⊎_elim, cases_order, cases_lt, ints, ring, at, neg, ◌⊖◌, ◌⊗◌, SpacePoint, toward, IsAhead, IsBetween, IsPointBelow, Vector, cross, opposite, IsZero, IsNormal, SameDirection, IsOpposite, IsAt, MapVertex, is-at_one, IsEdge, IsEdgeBelow, Edges, on_line, AreJoined, IsMatched, AreMatched, SameDirection-turned, SameDirection-trans}
 use Rattle.law_complex.specs.Complexes.{Vertex, Edge}
-use Rattle.nef_edges.proofs.Existing.{edge-same, one-edge}
-use Rattle.nef_edges.proofs.Rays.{normal-kept, ahead-normal, middle-between, to_opposite, opposites-same}
+use Rattle.nef_edges.proofs.Existing.{one-edge}
+use Rattle.nef_edges.proofs.Rays.{ahead-normal, middle-between, to_opposite, opposites-same}
 use Rattle.nef_space.proofs.Lists.{is-at_within}
+use Rattle.law_near.proofs.Normals.{normal-kept}
+use Rattle.law_complex.proofs.Equal.{edges-equal}
 
 -- ---- points on one line
 line-back : (p q : SpacePoint) (d : Vector) → IsZero (cross (toward p q) d) → IsZero (cross (toward q p) d)
@@ -61,7 +63,7 @@ module _ (vs : List Vertex) (es : List Edge) (J : AreJoined vs) (M : AreMatched 
           let arrives = subst (λ (w : Vertex). IsAt w.map.svertices f.high_svertex F.high_end) high F.arrives in
           let way = opposites-same E.low_end.dir F.high_end.dir E.high_end.dir back E.back in
           let end = (J.shaped e.high E.high_vertex E.is_high).svertices_apart f.high_svertex e.high_svertex F.high_end E.high_end arrives E.arrives way in
-          subst (IsEdge vs) (edge-same f e h i g end (F.mark ∙ ap (λ (s : MapVertex). s.mark) start-is ∙ sym E.mark)) F
+          subst (IsEdge vs) (edges-equal f e h i g end (F.mark ∙ ap (λ (s : MapVertex). s.mark) start-is ∙ sym E.mark)) F
 
       -- no matched end lies before that of the edge
       not-before : e.high < f.high → ⊥

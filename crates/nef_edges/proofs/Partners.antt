@@ -3,8 +3,9 @@ use Rattle.nef_edges.proofs.Prelude.{◌≡◌, ℕ, ◌<◌, pos, neg_ℤ, List
 use Rattle.law_complex.specs.Complexes.{Vertex as PlainVertex, Edge as PlainEdge}
 use Rattle.law_complex.proofs.Joining.{svertex-edge}
 use Rattle.nef_edges.proofs.Lines.{OnOneLine, tied-line, line-tied, StandsBetween, stands-between, line_total}
-use Rattle.nef_edges.proofs.Rays.{normal-kept, ahead-normal, middle-between, to_opposite, from_opposite, opposites-same}
+use Rattle.nef_edges.proofs.Rays.{ahead-normal, middle-between, to_opposite, from_opposite, opposites-same}
 use Rattle.nef_space.proofs.Lists.{is-at_map, is-at_within, map-is_at}
+use Rattle.law_near.proofs.Normals.{normal-kept}
 
 -- ---- in a complex that shows a set a svertex that leads to later points is the lower end of an edge
 pub partner : (s : Set) (C : PlainComplex) → Shows s C → (i a : ℕ) (v : PlainVertex) (u : MapVertex) → IsAt C.vertices i v → IsAt v.map.svertices a u → IsNormal u.dir → (e : PlainEdge) × IsFrom C.vertices i a e

@@ -1,56 +1,17 @@
 -- Points on one line: those that come later in the order of points lie ahead.
-use Rattle.nef_edges.proofs.Prelude.{◌≡◌, ℕ, ◌<◌, ℤ, pos, ◌-ℤ◌, ◌*ℤ◌, neg_ℤ, ◌≤ℤ◌, ◌<ℤ◌, arith, ap, ◌∙◌, inl, inr, [], ◌∷◌, ints, ring, at, num, neg, ◌⊕◌, ◌⊖◌, ◌⊗◌, by_order, mul_pos, mul_neg, mul_nonneg, cancel_eq, SpacePoint, toward, IsAhead, IsBetween, IsPointBelow, Vector, dot, cross, opposite, IsZero, IsNormal, SameDirection, IsOpposite, on_line, SameDirection-turned, SameDirection-trans}
+use Rattle.nef_edges.proofs.Prelude.{◌≡◌, ℤ, pos, ◌-ℤ◌, ◌*ℤ◌, neg_ℤ, arith, ◌∙◌, [], ◌∷◌, ints, ring, at, neg, ◌⊕◌, ◌⊖◌, ◌⊗◌, SpacePoint, toward, IsAhead, IsBetween, IsPointBelow, Vector, dot, cross, opposite, IsZero, IsNormal, SameDirection, IsOpposite, on_line, SameDirection-turned, SameDirection-trans}
 use Rattle.nef_space.proofs.Vectors.{dot-opposite}
-use Rattle.law_near.proofs.Directions.{same-factor}
-use Rattle.law_near.proofs.Sums.{some-pos}
 use Rattle.law_sphere.proofs.Compare.{normals-same}
-
--- q - p for a later point q begins with a positive number
-pub toward-normal : (p q : SpacePoint) → IsPointBelow p q → IsNormal (toward p q)
-toward-normal p q (inl h) = record { first = omega (arith, ints); second = λ e. absurd (omega (arith, ints)); third = λ e f. absurd (omega (arith, ints)) }
-toward-normal p q (inr (e, inl h)) = record { first = omega (arith, ints); second = λ z. omega (arith, ints); third = λ z w. absurd (omega (arith, ints)) }
-toward-normal p q (inr (e, inr (f, inl h))) = record { first = omega (arith, ints); second = λ z. omega (arith, ints); third = λ z w. omega (arith, ints) }
-toward-normal p q (inr (e, inr (f, inr h))) = absurd h.1
-
--- ---- normal forms of directions
--- k x = l y
-module _ (k l : ℕ) (some_k : 0 < k) (some_l : 0 < l) (x y : ℤ) (e : pos k *ℤ x ≡ pos l *ℤ y) where
-  zero-before : y ≡ pos 0 → x ≡ pos 0
-  zero-before z =
-      cancel_eq x (pos 0) (pos k) (some-pos k some_k)
-      (ring (x ∷ pos k ∷ []) (at 0 ⊗ at 1) (at 1 ⊗ at 0) tt ∙ e ∙ ap (λ r. pos l *ℤ r) z ∙ ring (pos k ∷ pos l ∷ []) (at 1 ⊗ num (pos 0)) (num (pos 0) ⊗ at 0) tt)
-
-  nonnegative-after : pos 0 ≤ℤ x → pos 0 ≤ℤ y
-  nonnegative-after h = by_order y (pos 0)
-      (λ b. let m = mul_neg (pos l) y (some-pos l some_l) b in let n = mul_nonneg (pos k) x (omega (arith, ints)) h in absurd (omega (arith, ints)))
-      (λ z. omega (arith, ints)) (λ b. omega (arith, ints))
-
-  positive-after : pos 0 <ℤ x → pos 0 <ℤ y
-  positive-after h = by_order y (pos 0)
-      (λ b. let m = mul_neg (pos l) y (some-pos l some_l) b in let n = mul_pos (pos k) x (some-pos k some_k) h in absurd (omega (arith, ints)))
-      (λ z. let x-is = zero-before z in absurd (omega (arith, ints))) (λ b. b)
-
-pub normal-kept : (a b : Vector) → SameDirection a b → IsNormal a → IsNormal b
-normal-kept a b s n =
-    let f = same-factor a b s in record {
-      first = nonnegative-after f.k f.l f.some_k f.some_l a.x b.x f.is_x n.first;
-      second = λ x. nonnegative-after f.k f.l f.some_k f.some_l a.y b.y f.is_y (n.second (zero-before f.k f.l f.some_k f.some_l a.x b.x f.is_x x));
-      third = λ x y. positive-after f.k f.l f.some_k f.some_l a.z b.z f.is_z (n.third (zero-before f.k f.l f.some_k f.some_l a.x b.x f.is_x x) (zero-before f.k f.l f.some_k f.some_l a.y b.y f.is_y y));
-    }
+use Rattle.nef_space.proofs.Elementary.{minor-opposite, minor-opposite_back}
+use Rattle.law_near.proofs.Normals.{normal-kept, toward-normal}
 
 pub to_opposite : (d e : Vector) → IsOpposite d e → SameDirection d (opposite e)
 to_opposite d e o =
     let z = o.parallel in
-    record { parallel = (each d.y d.z e.y e.z z.0, each d.z d.x e.z e.x z.1, each d.x d.y e.x e.y z.2); forward = let h = o.backward in let r = dot-opposite d e in omega (arith, ints) }
-  where
-    each : (a b c d : ℤ) → a *ℤ d -ℤ b *ℤ c ≡ pos 0 → a *ℤ neg_ℤ d -ℤ b *ℤ neg_ℤ c ≡ pos 0
-    each a b c d e = ring (a ∷ b ∷ c ∷ d ∷ []) (at 0 ⊗ neg (at 3) ⊖ at 1 ⊗ neg (at 2)) (neg (at 0 ⊗ at 3 ⊖ at 1 ⊗ at 2)) tt ∙ ap neg_ℤ e
+    record { parallel = (minor-opposite d.y d.z e.y e.z z.0, minor-opposite d.z d.x e.z e.x z.1, minor-opposite d.x d.y e.x e.y z.2); forward = let h = o.backward in let r = dot-opposite d e in omega (arith, ints) }
 
 pub from_opposite : (d e : Vector) → SameDirection d (opposite e) → IsOpposite d e
-from_opposite d e w = record { parallel = (each d.y d.z e.y e.z w.parallel.0, each d.z d.x e.z e.x w.parallel.1, each d.x d.y e.x e.y w.parallel.2); backward = let h = w.forward in let r = dot-opposite d e in omega (arith, ints) }
-  where
-    each : (a b c d : ℤ) → a *ℤ neg_ℤ d -ℤ b *ℤ neg_ℤ c ≡ pos 0 → a *ℤ d -ℤ b *ℤ c ≡ pos 0
-    each a b c d e = ring (a ∷ b ∷ c ∷ d ∷ []) (at 0 ⊗ at 3 ⊖ at 1 ⊗ at 2) (neg (at 0 ⊗ neg (at 3) ⊖ at 1 ⊗ neg (at 2))) tt ∙ ap neg_ℤ e
+from_opposite d e w = record { parallel = (minor-opposite_back d.y d.z e.y e.z w.parallel.0, minor-opposite_back d.z d.x e.z e.x w.parallel.1, minor-opposite_back d.x d.y e.x e.y w.parallel.2); backward = let h = w.forward in let r = dot-opposite d e in omega (arith, ints) }
 
 -- two directions opposite to one are the same
 pub opposites-same : (d a b : Vector) → IsOpposite d a → IsOpposite d b → SameDirection a b

@@ -1,10 +1,10 @@
 -- Edges laid out svertex by svertex, and those that are joined later.
 use Rattle.nef_edges.proofs.Prelude.{◌≡◌, ℕ, zero, suc, ◌+◌, ◌<◌, ◌≤◌, pos, set, List, [], ◌∷◌, ◌++◌, length, map, arith, refl, sym, ap, subst, ◌∙◌, inl, inr, ◌⊎◌, ⊎_elim, Bool, true, cases_order, ints, IsNormal, vector_of, IsAt, MapVertex, InOrder, is-at_one, IsEdgeBelow, Edges, SVertex, svertex_of, Vertex, Edge, vertex_of, edge_of, IsEarlierSvertex, AreJoined, IsMatched, AreMatched, ArriveApart, AreMarkedArrivals, slot_of, AreLaid, IsPart, IsJoinedAt, is-at_none, is-at_first}
 use Rattle.law_complex.specs.Complexes.{Vertex as PlainVertex, Edge as PlainEdge}
-use Rattle.nef_edges.proofs.Added.{order-more}
-use Rattle.nef_edges.proofs.Arrivals.{before-more, before-row}
+use Rattle.nef_edges.proofs.Arrivals.{before-more, before-row, earlier-row, earlier-next}
 use Rattle.nef_edges.proofs.Matched.{matched-are_edges}
 use Rattle.nef_space.proofs.Lists.{is-at_last, is-at_left, is-at_map, is-at_more, is-at_within, map-is_at}
+use Rattle.law_sphere.proofs.Lists.{order-more}
 
 -- ---- one element is another
 module _ {A : Type 0} where
@@ -45,24 +45,16 @@ module _ (vs : List Vertex) where
   -- all svertices of vertex i have been counted
   pub laid-row : (i k : ℕ) (es : List Edge) (ns : List ℕ) (v : Vertex) → IsAt vs i v → length v.map.svertices ≤ k → AreLaid vs (IsEarlierSvertex i k) es ns 0 → AreLaid vs (IsEarlierSvertex (i + 1) 0) es ns 0
   laid-row i k es ns v a l A = record {
-    each = λ n e b. more e.low e.low_svertex (A.each n e b);
+    each = λ n e b. earlier-row i k e.low e.low_svertex (A.each n e b);
     matched = A.matched;
     all = λ j m w s b c n q. A.all j m w s b c n (before-row vs i k v a l j m w s b c q);
     ordered = A.ordered;
   }
-    where
-      more : (j m : ℕ) → IsEarlierSvertex i k j m → IsEarlierSvertex (i + 1) 0 j m
-      more j m (inl h) = inl (omega arith)
-      more j m (inr h) = inl (let e = h.0 in omega arith)
-
-  next : (i k j m : ℕ) → IsEarlierSvertex i k j m → IsEarlierSvertex i (k + 1) j m
-  next i k j m (inl h) = inl h
-  next i k j m (inr h) = inr (h.0, (let l = h.1 in omega arith))
 
   -- a svertex that no edge leads on from
   pub laid-pass : (i k : ℕ) (es : List Edge) (ns : List ℕ) (v : Vertex) (s : SVertex) → IsAt vs i v → IsAt v.map.svertices k s → (IsNormal (vector_of s.dir) → ⊥) → AreLaid vs (IsEarlierSvertex i k) es ns 0 → AreLaid vs (IsEarlierSvertex i (k + 1)) es ns 0
   laid-pass i k es ns v s a b n A = record {
-    each = λ l e c. next i k e.low e.low_svertex (A.each l e c);
+    each = λ l e c. earlier-next i k e.low e.low_svertex (A.each l e c);
     matched = A.matched;
     all = λ j m w t c d up q. ⊎_elim (λ h. A.all j m w t c d up h) (λ h. absurd (this j m w t c d up h.0 h.1)) (before-more i k j m q);
     ordered = A.ordered;
@@ -89,7 +81,7 @@ module _ (vs : List Vertex) where
       where
         each : (n : ℕ) (e : Edge) → IsAt (es ++ f ∷ []) n e → IsEarlierSvertex i (k + 1) e.low e.low_svertex
         each n e c = ⊎_elim
-            (λ d. next i k e.low e.low_svertex (A.each n e d))
+            (λ d. earlier-next i k e.low e.low_svertex (A.each n e d))
             (λ d. subst (λ (g : Edge). IsEarlierSvertex i (k + 1) g.low g.low_svertex) d.1 (inr (fi, omega (arith, fk))))
             (is-at_more es f n e c)
 

@@ -7,6 +7,7 @@ use Rattle.nef_case.proofs.TurnLemmas.{same_triple}
 use Rattle.law_sphere.proofs.Vectors.{normal-direction}
 use Rattle.law_turns.proofs.Numbers.{at_most-turned, lowest_form-turned}
 use Rattle.law_turns.proofs.Vectors.{direction-turned}
+use Rattle.nef_space.proofs.Vectors.{neg-zero}
 
 abbrev pub word : ℤ → ℤ
 word n = to_z w64 (of_z w64 n)
@@ -29,10 +30,7 @@ module _ (g : Plane) where
   given-small false = record { a_small = g.a_small; b_small = g.b_small; c_small = g.c_small; d_small = g.d_small }
 
   pub given-some : (b : Bool) → IsDirection (normal_of (given_form (record { plane = g; flipped = b })))
-  given-some true = λ z. normal-direction (vector g.a g.b g.c) g.normal (nought g.a z.0, nought g.b z.1, nought g.c z.2)
-    where
-      nought : (x : ℤ) → neg_ℤ x ≡ pos 0 → x ≡ pos 0
-      nought x e = omega (arith, ints, e)
+  given-some true = λ z. normal-direction (vector g.a g.b g.c) g.normal (neg-zero g.a z.0, neg-zero g.b z.1, neg-zero g.c z.2)
   given-some false = normal-direction (vector g.a g.b g.c) g.normal
 
   pub given-lowest : (b : Bool) → IsLowest (form_numbers (given_form (record { plane = g; flipped = b })))

@@ -5,6 +5,7 @@ use Rattle.nef_space.specs.Sets.{Holds}
 use Rattle.nef_geo.specs.declared.sign.Sign.TheVariants.{Minus, Zero, Plus}
 use Rattle.nef_expr.specs.declared.nodes.Node.TheVariants as node
 use Rattle.nef_expr.proofs.Sets.{each-set}
+use Rattle.nef_geo.proofs.Signs.{plus-above}
 
 minus-below : (z : ℤ) → Minus ≡ sign_of z → z <ℤ pos 0
 minus-below (pos zero) e = cc
@@ -15,11 +16,6 @@ zero-is : (z : ℤ) → Zero ≡ sign_of z → z ≡ pos 0
 zero-is (pos zero) e = refl
 zero-is (pos (suc n)) e = cc
 zero-is (negsuc n) e = cc
-
-plus-above : (z : ℤ) → Plus ≡ sign_of z → pos 0 <ℤ z
-plus-above (pos zero) e = cc
-plus-above (pos (suc n)) e = omega (arith, ints)
-plus-above (negsuc n) e = cc
 
 pub half-minus : (h : Form) (c : Bool) (p : SpacePoint) → Minus ≡ sign_of (form_at h p) → IsTrue true ↔ InHalf h c p
 half-minus h false p e = let b = minus-below (form_at h p) e in (λ _. b, λ _. refl)

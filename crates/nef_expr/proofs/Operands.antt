@@ -11,7 +11,7 @@ pub operand-below : (n k : ℕ) (m : Node) → NamesBelow n m → IsOperand k m 
 operand-below n k m below is = use-below n k (shape_of m) below is
 
 -- a node names nodes below n where its operands are below n
-uses-from : (n : ℕ) (s : Shape) → ((k : ℕ) → Uses k s → k < n) → UsesBelow n s
+pub uses-from : (n : ℕ) (s : Shape) → ((k : ℕ) → Uses k s → k < n) → UsesBelow n s
 uses-from n (Shape.leaf s) each = tt
 uses-from n (Shape.unary make i) each = each i refl
 uses-from n (Shape.binary make i j) each = (each i (inl refl), each j (inr refl))

@@ -1,5 +1,5 @@
 -- Places in a list with one element more.
-use Rattle.nef_expr.proofs.Prelude.{◌≡◌, ℕ, zero, suc, ◌<◌, ◌⊎◌, List, [], ◌∷◌, ◌++◌, length, Some, refl, ap, sym, ◌∙◌, arith, inl, inr, length-append, Result, Ok, Err, IfOk, slice_get, cases_lt, slice_get_within}
+use Rattle.nef_expr.proofs.Prelude.{◌≡◌, ℕ, zero, suc, ◌<◌, ◌⊎◌, List, [], ◌∷◌, ◌++◌, length, Some, refl, ap, sym, ◌∙◌, arith, inl, inr, length-append, slice_get, cases_lt, slice_get_within}
 
 pub slice_get-left : {X : Type 0} (xs ys : List X) (k : ℕ) (x : X) → slice_get xs k ≡ Some x → slice_get (xs ++ ys) k ≡ Some x
 slice_get-left [] ys k x e = cc
@@ -30,12 +30,3 @@ place-push xs y n x at = elim (cases_lt n (length xs)) [
 
 pub one-there : {X : Type 0} (xs : List X) (k : ℕ) (x y : X) → slice_get xs k ≡ Some x → slice_get xs k ≡ Some y → x ≡ y
 one-there xs k x y a b = let e : Some x ≡ Some y = sym a ∙ b in cc
-
--- two facts of what a call gives
-pub both_ok : {X E : Type 0} (P Q R : X → Type 0) (r : Result X E) → ((x : X) → P x → Q x → R x) → IfOk r P → IfOk r Q → IfOk r R
-both_ok P Q R (Ok x) f p q = f x p q
-both_ok P Q R (Err e) f p q = tt
-
-pub one_ok : {X E : Type 0} (P R : X → Type 0) (r : Result X E) → ((x : X) → P x → R x) → IfOk r P → IfOk r R
-one_ok P R (Ok x) f p = f x p
-one_ok P R (Err e) f p = tt

@@ -2,6 +2,7 @@
 use Rattle.nef_expr.proofs.Prelude.{◌≡◌, ℕ, List, [], refl, ap, sym, ◌∙◌, subst, Form, form, Set, given_form, Triple, IsComposition, Node, Shape, shape_of, made_of, sets_after, node_set, IsOrdered, turned_plane, turned_set, HasShape, TurnOf, of_leaf, of_unary, of_binary}
 use Rattle.nef_expr.specs.declared.nodes.Node.TheVariants as node
 use Rattle.nef_expr.proofs.Sets.{each-set}
+use Rattle.nef_space.proofs.Elementary.{equal-pairs}
 
 -- turns pass through the shape
 abbrev pub IsTurnable : Shape → Type 0
@@ -37,10 +38,7 @@ module _ (ns : List Node) (ordered : IsOrdered ns) (t : ℕ) where
   from_shapes : (k l : ℕ) (s u : Shape) → HasShape ns k s → HasShape ns l u → made_of (sets_after [] ns) u ≡ turned_set t (made_of (sets_after [] ns) s) → node_set ns l ≡ turned_set t (node_set ns k)
   from_shapes k l s u is is' e = made l u is' ∙ e ∙ ap (turned_set t) (sym (made k s is))
 
-  two : (make : Set → Set → Set) (a b c d : Set) → a ≡ c → b ≡ d → make a b ≡ make c d
-  two make a b c d e f = ap (λ (x : Set). make x b) e ∙ ap (make c) f
-
   pub node-turned : (k l : ℕ) → TurnOf ns t k l → node_set ns l ≡ turned_set t (node_set ns k)
   node-turned _ _ (of_leaf k l s is is') = from_shapes k l (Shape.leaf s) (Shape.leaf (turned_set t s)) is is' refl
   node-turned _ _ (of_unary k l i i' make is is' a) = from_shapes k l (Shape.unary make i) (Shape.unary make i') is is' (ap make (node-turned i i' a) ∙ shape-turnable ns k (Shape.unary make i) is t _)
-  node-turned _ _ (of_binary k l i j i' j' make is is' a b) = from_shapes k l (Shape.binary make i j) (Shape.binary make i' j') is is' (two make _ _ _ _ (node-turned i i' a) (node-turned j j' b) ∙ shape-turnable ns k (Shape.binary make i j) is t _ _)
+  node-turned _ _ (of_binary k l i j i' j' make is is' a b) = from_shapes k l (Shape.binary make i j) (Shape.binary make i' j') is is' (equal-pairs make (node-turned i i' a) (node-turned j j' b) ∙ shape-turnable ns k (Shape.binary make i j) is t _ _)

@@ -1,7 +1,8 @@
 -- Lists of corners.
-use Rattle.nef_facets.proofs.Prelude.{◌≡◌, ℕ, zero, suc, ◌+◌, ◌<◌, pos, List, [], ◌∷◌, ◌++◌, length, arith, refl, ap, sym, ◌∙◌, subst, inl, inr, ⊎_elim, ◌⊎◌, append_assoc, length-append, ints, IsAt, items, is-at_one, Either, earlier, last, is-at_either, is-at_last, is-at_left, is-at_within, is-at_some, less-or-last, Vertex as PlainVertex, Complex as PlainComplex, Corner, corner_of, IsCornerBelow, corner_from, corners_at, HasItem, AreCorners, StandFrom}
+use Rattle.nef_facets.proofs.Prelude.{◌≡◌, ℕ, zero, suc, ◌+◌, ◌<◌, pos, List, [], ◌∷◌, ◌++◌, length, arith, refl, ap, sym, ◌∙◌, subst, inl, inr, ⊎_elim, ◌⊎◌, append_assoc, length-append, ints, IsAt, items, is-at_one, Either, earlier, last, is-at_pushed, is-at_last, is-at_left, is-at_within, is-at_some, Vertex as PlainVertex, Complex as PlainComplex, Corner, corner_of, IsCornerBelow, corner_from, corners_at, HasItem, AreCorners, StandFrom}
 use Rattle.law_complex.specs.Complexes.{Corner as PlainCorner}
 use Rattle.nef_space.proofs.Lists.{is-at_parts, is-at_right}
+use Rattle.nef_space.proofs.Elementary.{less-or-last}
 
 abbrev pub corner : ℕ → ℕ → Corner
 corner i k = record { vertex = i; item = k }
@@ -16,7 +17,7 @@ length-corners i (suc n) = let e = length-corners i n in let f = length-append (
 
 at-corners : (i n j : ℕ) (k : Corner) → IsAt (corners_at i n) j k → (j < n) × (k ≡ corner i j)
 at-corners i zero j k a = cc
-at-corners i (suc n) j k a = by (at-corners i n j k) (is-at_either (corners_at i n) j k (corner i n) a)
+at-corners i (suc n) j k a = by (at-corners i n j k) (is-at_pushed (corners_at i n) j k (corner i n) a)
   where
     by : (IsAt (corners_at i n) j k → (j < n) × (k ≡ corner i j)) → Either (corners_at i n) j k (corner i n) → (j < suc n) × (k ≡ corner i j)
     by f (earlier b) = let r = f b in (let h = r.0 in omega arith, r.1)

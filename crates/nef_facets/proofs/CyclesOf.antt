@@ -4,7 +4,7 @@ use Rattle.law_complex.specs.Complexes.{Corner as PlainCorner}
 use Rattle.nef_facets.proofs.FirstCorners.{facet-one, facet-item, item-facet}
 use Rattle.nef_facets.proofs.NextCorners.{next-injective, next-linked}
 use Rattle.nef_facets.proofs.Order.{one-place}
-use Rattle.nef_facets.proofs.Walks.{all-of}
+use Rattle.nef_space.proofs.Lists.{all-of}
 
 -- ---- the next corners are a step
 pub next-step : (s : Set) (C : PlainComplex) (ks : List Corner) (ns : List ℕ) → Shows s C → AreCorners C ks → AreNext C ks ns → IsStep ns

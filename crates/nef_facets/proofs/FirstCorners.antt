@@ -1,7 +1,8 @@
 -- The first corners of facets, and the numbers of items.
-use Rattle.nef_facets.proofs.Prelude.{◌≡◌, ◌≢◌, ℕ, ◌<◌, ◌≤◌, ◌+◌, List, [], ◌∷◌, ◌++◌, length, arith, sym, ◌∙◌, ⊎_elim, subst, length-append, cases_order, IsAt, items, Either, earlier, last, is-at_either, is-at_one, is-at_within, is-at_some, less-or-last, Complex, Corner, corner_of, IsFacetOf, FacetNumbers, corner_from, HasItem, AreCorners, AreFirsts}
+use Rattle.nef_facets.proofs.Prelude.{◌≡◌, ◌≢◌, ℕ, ◌<◌, ◌≤◌, ◌+◌, List, [], ◌∷◌, ◌++◌, length, arith, sym, ◌∙◌, ⊎_elim, subst, length-append, cases_order, IsAt, items, Either, earlier, last, is-at_pushed, is-at_one, is-at_within, is-at_some, Complex, Corner, corner_of, IsFacetOf, FacetNumbers, corner_from, HasItem, AreCorners, AreFirsts}
 use Rattle.law_complex.specs.Complexes.{Corner as PlainCorner}
 use Rattle.nef_facets.proofs.Order.{number-below}
+use Rattle.nef_space.proofs.Elementary.{less-or-last}
 
 -- an item has one number
 pub facet-one : (rows : List (List ℕ)) (k : PlainCorner) (m n : ℕ) → IsFacetOf rows k m → IsFacetOf rows k n → m ≡ n
@@ -62,7 +63,7 @@ module _ (C : Complex) (rows : List (List ℕ)) (N : FacetNumbers C rows) (ks : 
 
   pub firsts-new : m ≡ length js → AreFirstsTo rows ks (i + 1) (js ++ k ∷ [])
   firsts-new d = record {
-    each = λ n x a. by n x (is-at_either js n x k a);
+    each = λ n x a. by n x (is-at_pushed js n x k a);
     all = λ j n x h a f. let e = length-append js (k ∷ []) in
         ⊎_elim (λ l. let g = F.all j n x l a f in omega arith) (λ q. let g = here j n x q a f in omega arith) (less-or-last j i h);
   }

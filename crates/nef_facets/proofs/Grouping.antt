@@ -1,6 +1,7 @@
 -- The cycles of orbits in rows, one orbit after the other.
-use Rattle.nef_facets.proofs.Prelude.{◌≡◌, ℕ, ◌+◌, ◌<◌, ◌≤◌, List, [], ◌∷◌, ◌++◌, length, arith, sym, ◌⊎◌, inl, inr, ⊎_elim, subst, set, cases_order, IsAt, Either, earlier, last, is-at_either, is-at_last, is-at_left, is-at_one, is-at_within, less-or-last, Corner, Cycle, AreCornersOf, IsCycleOf, AreCycleRows, set-same, set-other, set-at}
+use Rattle.nef_facets.proofs.Prelude.{◌≡◌, ℕ, ◌+◌, ◌<◌, ◌≤◌, List, [], ◌∷◌, ◌++◌, length, arith, sym, ◌⊎◌, inl, inr, ⊎_elim, subst, set, cases_order, IsAt, Either, earlier, last, is-at_pushed, is-at_last, is-at_left, is-at_one, is-at_within, Corner, Cycle, AreCornersOf, IsCycleOf, AreCycleRows, set-same, set-other, set-at}
 use Rattle.nef_facets.proofs.Lists.{HasOneForEach}
+use Rattle.nef_space.proofs.Elementary.{less-or-last}
 
 pub corners-of : (ks : List Corner) (is : List ℕ) (n : ℕ) (xs : List Corner) → HasOneForEach (λ (x : Corner) (i : ℕ). IsAt ks i x) n xs is → length is ≤ n → AreCornersOf ks is xs
 corners-of ks is n xs E h = record { as_many = let e = E.as_many in let l = E.within in omega arith; each = λ k i x a b. E.each k x i b a }
@@ -39,13 +40,13 @@ module _ (rows : List (List ℕ)) (ks : List Corner) (orbits : List (List ℕ)) 
   -- a row of before, or the one that got longer
   each-row : (j q : ℕ) (w : List Cycle) (z : Cycle) → ((j ≡ n) × (w ≡ longer)) ⊎ IsAt ys j w → IsAt w q z → (m : ℕ) × (m < i + 1) × IsCycleOf rows ks orbits j m z
   each-row j q w z (inl e) b =
-      subst (λ (p : ℕ). (m : ℕ) × (m < i + 1) × IsCycleOf rows ks orbits p m z) (sym e.0) (each-last q z (is-at_either row q z y (subst (λ (r : List Cycle). IsAt r q z) e.1 b)))
+      subst (λ (p : ℕ). (m : ℕ) × (m < i + 1) × IsCycleOf rows ks orbits p m z) (sym e.0) (each-last q z (is-at_pushed row q z y (subst (λ (r : List Cycle). IsAt r q z) e.1 b)))
   each-row j q w z (inr a) b = let r = G.each j q w z a b in (r.0, (let h = r.1 in omega arith), r.2)
 
   order-row : (j q r : ℕ) (w : List Cycle) (x z : Cycle) → q < r → ((j ≡ n) × (w ≡ longer)) ⊎ IsAt ys j w → IsAt w q x → IsAt w r z → (l : ℕ) × (m : ℕ) × (l < m) × IsCycleOf rows ks orbits j l x × IsCycleOf rows ks orbits j m z
   order-row j q r w x z h (inl e) a b =
       subst (λ (p : ℕ). (l : ℕ) × (m : ℕ) × (l < m) × IsCycleOf rows ks orbits p l x × IsCycleOf rows ks orbits p m z) (sym e.0)
-      (order-last q r x z h (is-at_either row q x y (subst (λ (v : List Cycle). IsAt v q x) e.1 a)) (is-at_either row r z y (subst (λ (v : List Cycle). IsAt v r z) e.1 b)))
+      (order-last q r x z h (is-at_pushed row q x y (subst (λ (v : List Cycle). IsAt v q x) e.1 a)) (is-at_pushed row r z y (subst (λ (v : List Cycle). IsAt v r z) e.1 b)))
   order-row j q r w x z h (inr d) a b = G.ordered j q r w x z h d a b
 
   -- a row of before still has its cycles

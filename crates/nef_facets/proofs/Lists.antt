@@ -1,6 +1,5 @@
 -- Elements of lists by their places.
-use Rattle.nef_facets.proofs.Prelude.{◌≡◌, ℕ, zero, suc, ◌+◌, List, [], ◌∷◌, ◌++◌, length, ◌≤◌, map, arith, refl, sym, ◌∙◌, subst, inl, inr, ◌⊎◌, ⊎_elim, length-append, IsAt, Either, earlier, last, is-at_either, is-at_one, is-at_within, at-parts, map-is_at}
-use Rattle.nef_space.proofs.Lists.{is-at_parts, is-at_right}
+use Rattle.nef_facets.proofs.Prelude.{◌≡◌, ℕ, ◌+◌, List, [], ◌∷◌, ◌++◌, length, ◌≤◌, arith, refl, sym, ◌∙◌, subst, length-append, IsAt, Either, earlier, last, is-at_pushed, is-at_one, is-at_within}
 
 -- one element for each of the first n of a list
 pub record HasOneForEach {A B : Type 0} (P : A → B → Type 0) (n : ℕ) (xs : List A) (ys : List B) : Type 0 where
@@ -15,7 +14,7 @@ pub each-more : {A B : Type 0} (P : A → B → Type 0) (n : ℕ) (xs : List A) 
 each-more {A} {B} P n xs ys x y E b p = record {
   as_many = let e = E.as_many in let f = length-append xs (x ∷ []) in omega arith;
   within = let h = is-at_within ys n y b in omega arith;
-  each = λ i u v a d. by i u v d (is-at_either xs i u x a);
+  each = λ i u v a d. by i u v d (is-at_pushed xs i u x a);
 }
   where
     by : (i : ℕ) (u : A) (v : B) → IsAt ys i v → Either xs i u x → P u v

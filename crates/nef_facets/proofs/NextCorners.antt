@@ -1,11 +1,12 @@
 -- Each arc has a next corner, and no two corners have one next corner.
-use Rattle.nef_facets.proofs.Prelude.{◌≡◌, ℕ, ◌+◌, pos, ◌<ℤ◌, ◌+ℤ◌, ◌*ℤ◌, neg_ℤ, arith, refl, ap, sym, ◌∙◌, inl, inr, ⊎_elim, [], ◌∷◌, subst, ints, sign, ring, at, num, ◌⊕◌, ◌⊗◌, Chained, Germ, SpacePoint, toward, Set, Vector, opposite, blend, dot, cross, triple, IsDirection, SameDirection, Label, carriers, SameGerms, FlatDim-by_germs, ahead, near-ahead, joined-germs, steep, forms, IsAt, Arc, MapSloop, Item, arc_item, sloop_item, items, item_normal, Map, OnItem, NearLabel, Valid, normal-is, dot-comb, same-plus, same-minus, amount, far-keeps, is-at_one, arc-at, direction-around, turn-same, at-arc, Vertex, Complex, IsCorner, Shows, near-label, flats-carried, IsInFacetOf, target-met, FacetLink, facet-near, IsTied, tied-turned, tied-both, tied-ahead, end-level, close_way, on-close, tied-close_way, tied-turn, chain-link, chain-turned, IsNextArc, NextCorner, dot-comm, square-cross, nought-if, SameDirection-turned, SameDirection-trans, dir-self, dot-opposite, level-way, opposite-way, direction-right}
+use Rattle.nef_facets.proofs.Prelude.{◌≡◌, ℕ, ◌+◌, pos, ◌<ℤ◌, ◌+ℤ◌, ◌*ℤ◌, neg_ℤ, arith, refl, ap, sym, ◌∙◌, inl, inr, ⊎_elim, [], ◌∷◌, subst, ints, sign, ring, at, num, ◌⊕◌, ◌⊗◌, Chained, Germ, SpacePoint, toward, Set, Vector, opposite, blend, dot, cross, triple, IsDirection, SameDirection, Label, carriers, SameGerms, FlatDim-by_germs, ahead, near-ahead, joined-germs, steep, forms, IsAt, Arc, MapSloop, Item, arc_item, sloop_item, items, item_normal, Map, OnItem, NearLabel, Valid, normal-is, dot-comb, same-plus, same-minus, amount, far-keeps, is-at_one, arc-at, direction-around, turn-same, at-arc, Vertex, Complex, IsCorner, Shows, near-label, flats-carried, IsInFacetOf, target-met, FacetLink, facet-near, IsTied, tied-turned, tied-both, tied-ahead, end-level, close_way, on-close, tied-close_way, tied-turn, chain-link, chain-turned, IsNextArc, NextCorner, square-cross, nought-if, SameDirection-turned, SameDirection-trans, dir-self, dot-opposite, level-way, opposite-way, direction-right}
 use Rattle.nef_space.proofs.Vectors.{back-triple}
 use Rattle.law_complex.specs.Complexes.{Corner}
 use Rattle.law_complex.proofs.FacetCorners.{ItemAt, item-at}
 use Rattle.law_complex.proofs.links.EdgeEnds.{corner_of_numbers, left-turn}
 use Rattle.nef_facets.proofs.EdgeViews.{EdgeFrom, edge-from, one-vertex, one-svertex}
 use Rattle.law_complex.proofs.FacetEnds.{level-normal}
+use Rattle.law_complex.proofs.Equal.{corners-equal}
 
 -- an arc of one normal that ends at a svertex
 pub record ArcInto (M : Map) (b : ℕ) (n : Vector) : Type 0 where
@@ -177,9 +178,6 @@ module _ (s : Set) (C : Complex) (S : Shows s C) where
       differ : ◌≡◌ {A = Item} (arc_item c) (sloop_item l) → ⊥
       differ e = cc
 
-  pub corner-same : (i j : Corner) → i.vertex ≡ j.vertex → i.item ≡ j.item → i ≡ j
-  corner-same i j e f = ap (λ (n : ℕ). corner_of_numbers n i.item) e ∙ ap (λ (n : ℕ). corner_of_numbers j.vertex n) f
-
   arcs-apart : (i j k : Corner) (x : IsNextArc C i k) (y : IsNextArc C j k) → x.that_arc ≡ y.that_arc → i ≡ j
   arcs-apart i j k x y e =
       let V = edge-from s C S x.number x.edge x.is_edge i.vertex x.this_arc.source k.vertex x.that_arc.target x.leads in
@@ -188,7 +186,7 @@ module _ (s : Set) (C : Complex) (S : Shows s C) where
       let same = one-vertex s C S p a q b m t V W in
       let there = is-at_one C.vertices i.vertex y.here V.from (subst (λ (n : ℕ). IsAt C.vertices n y.here) (sym same) y.is_here) V.is_from in
       let here = is-at_one C.vertices i.vertex x.here V.from x.is_here V.is_from in
-      corner-same i j same
+      corners-equal i j same
       (one-arc s C S p a m t V i.item j.item x.this_arc y.this_arc (subst (λ (v : Vertex). IsAt v.map.arcs i.item x.this_arc) here x.is_this) (subst (λ (v : Vertex). IsAt v.map.arcs j.item y.this_arc) there y.is_this)
       refl (sym (one-svertex s C S p a q b m t V W))
       (SameDirection-trans x.this_arc.normal x.that_arc.normal y.this_arc.normal x.one_normal

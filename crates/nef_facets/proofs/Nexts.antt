@@ -1,11 +1,12 @@
 -- The next corners of all corners, edge by edge.
-use Rattle.nef_facets.proofs.Prelude.{◌≡◌, ◌≢◌, ℕ, ◌+◌, ◌<◌, ◌≤◌, List, length, arith, refl, ap, sym, ◌∙◌, ◌⊎◌, inl, inr, ⊎_elim, subst, set, cases_order, IsAt, Set, vector_of, Arc, Item, arc_item, sloop_item, MapSloop, is-at_one, arc-at, at-arc, ends-of, SArc, map_of, arc_of, is-at_within, is-at_some, less-or-last, map-is_at, is-at_map, Vertex as PlainVertex, Edge as PlainEdge, Complex as PlainComplex, IsCorner, Shows, svertex-edge, Corner, vertex_of, complex_of, corner_of, Leads, NextCorner, CornersAreInOrder, AreCorners, HasItem, IsArcInto, LeavesFrom, HasNext, AreNext, set-same, set-other}
+use Rattle.nef_facets.proofs.Prelude.{◌≡◌, ◌≢◌, ℕ, ◌+◌, ◌<◌, ◌≤◌, List, length, arith, refl, ap, sym, ◌∙◌, ◌⊎◌, inl, inr, ⊎_elim, subst, set, cases_order, IsAt, Set, vector_of, Arc, Item, arc_item, sloop_item, MapSloop, is-at_one, arc-at, at-arc, ends-of, SArc, map_of, arc_of, is-at_within, is-at_some, map-is_at, is-at_map, Vertex as PlainVertex, Edge as PlainEdge, Complex as PlainComplex, IsCorner, Shows, svertex-edge, Corner, vertex_of, complex_of, corner_of, Leads, NextCorner, CornersAreInOrder, AreCorners, HasItem, IsArcInto, LeavesFrom, HasNext, AreNext, set-same, set-other}
 use Rattle.nef_complex.specs.declared.complex.Vertex.{Vertex}
 use Rattle.nef_complex.specs.declared.complex.Complex.{Complex}
 use Rattle.nef_facets.proofs.CornerLists.{corner}
 use Rattle.nef_facets.proofs.EdgeViews.{EdgeFrom, edge-from}
 use Rattle.nef_facets.proofs.NextCorners.{next-arc}
 use Rattle.nef_facets.proofs.Order.{one-place}
+use Rattle.nef_space.proofs.Elementary.{less-or-last}
 
 -- ---- one next corner noted
 module _ (C : PlainComplex) (ks : List Corner) (old new : List ℕ) (i n : ℕ) (j k : Corner) (a : IsAt ks i j) (b : IsAt ks n k) (e : new ≡ set old i n) (as-many : length old ≡ length ks) (N : NextCorner C (corner_of j) (corner_of k)) where

@@ -1,5 +1,7 @@
 -- Walks along the steps, and the orbits that they make.
-use Rattle.nef_facets.proofs.Prelude.{◌≡◌, ℕ, zero, suc, ◌+◌, ◌<◌, ◌≤◌, List, [], ◌∷◌, ◌++◌, length, Bool, true, false, arith, refl, ap, sym, ◌∙◌, ◌⊎◌, inl, inr, ⊎_elim, subst, set, get_or, replicate, Option, Some, length-set, cases_order, length-replicate, get_or-replicate, get_or_from_slice_get, All, IsAt, Either, earlier, last, is-at_either, is-at_last, is-at_left, is-at_one, is-at_within, is-at_some, is-at_get, less-or-last, set-same, set-other, set-at, IsStep, IsClosedUnderSteps, StepsOver, ComesBack, AreMarked, IsOrbit, AreOrbits}
+use Rattle.nef_facets.proofs.Prelude.{◌≡◌, ℕ, zero, suc, ◌+◌, ◌<◌, ◌≤◌, List, [], ◌∷◌, ◌++◌, length, Bool, true, false, arith, refl, ap, sym, ◌∙◌, ◌⊎◌, inl, inr, ⊎_elim, subst, set, replicate, Option, Some, length-set, cases_order, length-replicate, get_or-replicate, get_or_from_slice_get, IsAt, Either, earlier, last, is-at_pushed, is-at_last, is-at_left, is-at_one, is-at_within, is-at_some, set-same, set-other, set-at, IsStep, IsClosedUnderSteps, StepsOver, ComesBack, AreMarked, IsOrbit, AreOrbits}
+use Rattle.nef_space.proofs.Lists.{all-of}
+use Rattle.nef_space.proofs.Elementary.{less-or-last}
 
 -- ---- marks that are left
 abbrev pub unmarked_count : List Bool → ℕ
@@ -103,12 +105,12 @@ module _ (ns : List ℕ) (S : IsStep ns) (start : ℕ) (old : List Bool) (as-man
     walk-more = record {
       path = path-more ns start xs now y W.path step;
       marked = record {
-        fresh = λ k i a. fresh k i (is-at_either xs k i now a);
-        listed = λ k i a. listed k i (is-at_either xs k i now a);
+        fresh = λ k i a. fresh k i (is-at_pushed xs k i now a);
+        listed = λ k i a. listed k i (is-at_pushed xs k i now a);
         kept = λ i a. still i (W.marked.kept i a);
         only = λ i a. only i (set-at bs now i true true a);
       };
-      apart = λ k l i a b. alone k l i (is-at_either xs k i now a) (is-at_either xs l i now b);
+      apart = λ k l i a b. alone k l i (is-at_pushed xs k i now a) (is-at_pushed xs l i now b);
       as_many = length-set bs now true ∙ W.as_many;
       within = S.within now y step;
     }
@@ -150,8 +152,6 @@ module _ (ns : List ℕ) (S : IsStep ns) (start : ℕ) (old new : List Bool) (cl
       (λ b. let r = led-by xs B b.0 i b.1 in subst (λ (n : ℕ). IsAt new n true) (S.injective r.1 j i r.3 a) (M.listed r.0 r.1 r.2)) (M.only i m)
 
 -- ---- all orbits
-pub all-of : {X : Type 0} (P : X → Type 0) (xs : List X) → ((k : ℕ) (x : X) → IsAt xs k x → P x) → All P xs
-all-of P xs f k d h = f k (get_or xs k d) (is-at_get xs k d h)
 
 -- the orbits from the numbers below start on
 pub record AreOrbitsTo (ns : List ℕ) (start : ℕ) (xs : List (List ℕ)) (bs : List Bool) : Type 0 where
@@ -228,10 +228,10 @@ module _ (ns : List ℕ) (S : IsStep ns) (start : ℕ) (xs : List (List ℕ)) (b
       as_many = count;
       closed = closed-more ns S start bs new O.closed z B M;
       below = λ i h l. ⊎_elim (λ g. M.kept i (O.below i g l)) (λ e. subst (λ (j : ℕ). IsAt new j true) (sym e) (M.listed 0 start (first-there z B))) (less-or-last i start h);
-      each = λ m x a. each m x (is-at_either xs m x z a);
+      each = λ m x a. each m x (is-at_pushed xs m x z a);
       all = λ i a. ⊎_elim (λ b. let r = O.all i b in (r.0, r.1, r.2, is-at_left xs (z ∷ []) r.0 r.2 r.3, r.4)) (λ b. (length xs, b.0, z, is-at_last xs z, b.1)) (M.only i a);
-      ordered = λ m n i j x y l a b d e. order m n i j x y l (is-at_either xs m x z a) (is-at_either xs n y z b) d e;
-      low = λ m i x a b. lower m i x (is-at_either xs m x z a) b;
+      ordered = λ m n i j x y l a b d e. order m n i j x y l (is-at_pushed xs m x z a) (is-at_pushed xs n y z b) d e;
+      low = λ m i x a b. lower m i x (is-at_pushed xs m x z a) b;
     }
       where
         each : (m : ℕ) (x : List ℕ) → Either xs m x z → IsOrbit ns x

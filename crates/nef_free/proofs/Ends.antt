@@ -4,12 +4,10 @@ use mathlib.Core.Option.{some}
 use lib.ListN.{get_elem?}
 use Rattle.nef_core.specs.Machine.{State as Machine}
 use Rattle.nef_core.specs.Results.{HasResult, IsClosedWith}
+use Rattle.nef_core.proofs.Facts.{some-some}
 
 some_none : {X : Type 0} (x : X) → Some (Some x) ≡ Some None → ⊥
 some_none x e = cc
-
-some_some : {X : Type 0} (x y : X) → Some (Some x) ≡ Some (Some y) → x ≡ y
-some_some x y e = cc
 
 home_empty : {X : Type 0} (n i : ℕ) (x : X) → i < n → get_elem? (map some (replicate n x)) i ≡ some (some x)
 home_empty zero i x h = absurd (omega arith)
@@ -110,7 +108,7 @@ module _ {Out : Type 0} (right : ℕ → Out → Type 0) (jobs seats : ℕ) wher
         (λ job out h.
             elim (slot job (let k = slice_get_within rs job (Some out) h in omega arith)) [
               | inl none_there ↦ absurd (some_none out (sym h ∙ none_there))
-              | inr q ↦ subst (λ (o : Out). right job o) (some_some q.1 out (sym q.3 ∙ h)) q.4
+              | inr q ↦ subst (λ (o : Out). right job o) (some-some q.1 out (sym q.3 ∙ h)) q.4
             ]),
         (λ job h.
             let d = among m.slots job v.deposits h fv.deposits in

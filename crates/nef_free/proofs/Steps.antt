@@ -12,20 +12,14 @@ use Rattle.nef_core.specs.Accounts.{IsAccounted}
 use Rattle.nef_core.proofs.Accounts.{accounted}
 use Rattle.nef_free.specs.Laws.{IsSeat}
 use Rattle.nef_free.proofs.Views.{over_small, overs_set, overs_length, overs_snoc, still, moved, undrawn}
-
-true_not_false : (b : Bool) → b ≡ true → b ≡ false → ⊥
-true_not_false b p q = cc
-
-some_number : (x y : ℕ) → Some x ≡ Some y → x ≡ y
-some_number x y e = cc
-
-none_not_some : (h : Option ℕ) (job : ℕ) → h ≡ None → h ≡ Some job → ⊥
-none_not_some h job a b = cc
+use Rattle.nef_core.proofs.Facts.{none-not_some}
+use Rattle.std.proofs.lemmas.Option.{same_Some}
+use Rattle.std.proofs.lemmas.Bool.{false≢true}
 
 -- a job in a hand is a job
 pub below_of : (jobs : ℕ) (h : Option ℕ) (job : ℕ) → is_below jobs h ≡ true → h ≡ Some job → job < jobs
-below_of jobs None job b e = absurd (none_not_some None job refl e)
-below_of jobs (Some i) job b e = let same : i ≡ job = some_number i job e in subst (λ (z : ℕ). z < jobs) same (grind (arith, nat_tests))
+below_of jobs None job b e = absurd (none-not_some None job refl e)
+below_of jobs (Some i) job b e = let same : i ≡ job = same_Some i job e in subst (λ (z : ℕ). z < jobs) same (grind (arith, nat_tests))
 
 module _ {Out : Type 0} (right : ℕ → Out → Type 0) (jobs seats : ℕ) where
   -- a draw of a number that is a job is its claim
@@ -71,7 +65,7 @@ module _ {Out : Type 0} (right : ℕ → Out → Type 0) (jobs seats : ℕ) wher
                   o.0,
                   get_set_other m.slots f job (InHand k) n ∙ o.1,
                   moved right s t job o.0 (other_word job) (λ q. omega arith) (λ q. omega arith) (set_else s.homes f job none n)
-                      (still s.views k v (holding v f) job at (λ q. absurd (none_not_some v.hand job hand q))) o.2,
+                      (still s.views k v (holding v f) job at (λ q. absurd (none-not_some v.hand job hand q))) o.2,
                 )
           ];
           views = λ place w h alive. rw len (elim (at_set s.views k place (holding v f) w h) [
@@ -158,7 +152,7 @@ module _ {Out : Type 0} (right : ℕ → Out → Type 0) (jobs seats : ℕ) wher
                 o.0,
                 get_set_other m.slots job i x n ∙ o.1,
                 moved right s t i o.0 (get_or-set_other s.words (job + 1) (i + 1) c 0 (λ q. n (omega arith))) (λ q. omega arith) (λ q. omega arith) (set_else s.homes job i (some y) n)
-                    (still s.views k v w i at (λ q. absurd (n (some_number i job (sym q ∙ hand))))) o.2,
+                    (still s.views k v w i at (λ q. absurd (n (same_Some i job (sym q ∙ hand))))) o.2,
               )
         ];
         views = λ place u h up. rw len (elim (at_set s.views k place w u h) [
@@ -266,11 +260,11 @@ module _ {Out : Type 0} (right : ℕ → Out → Type 0) (jobs seats : ℕ) wher
               moved right s t job o.0 refl (λ q. q) (λ q. q) refl
                   (λ place u here alive has.
                   let r = still s.views k v (taken_in v w) job at (λ q. (live, q)) place u here alive has in
-                  still first other w spent job there (λ q. absurd (none_not_some w.hand job empty q)) place r.0 r.1 r.2 r.3)
+                  still first other w spent job there (λ q. absurd (none-not_some w.hand job empty q)) place r.0 r.1 r.2 r.3)
                   o.2,
             );
         views = λ place u h alive. rw len (elim (at_set first other place spent u h) [
-          | inl q ↦ absurd (true_not_false u.live alive (ap (λ (z : View). z.live) (sym q.1)))
+          | inl q ↦ absurd (false≢true (sym (ap (λ (z : View). z.live) (sym q.1)) ∙ alive))
           | inr q ↦ elim (at_set s.views k place (taken_in v w) u q.1) [
             | inl p ↦ subst (λ (z : View). Fits jobs seats m (length s.views) place z) p.1 (subst (λ (i : ℕ). Fits jobs seats m (length s.views) i (taken_in v w)) (sym p.0) mine)
             | inr p ↦ sh.views place u p.1 alive

@@ -1,6 +1,7 @@
 -- The order of points on one ray.
-use Rattle.nef_geo.proofs.Prelude.{◌≡◌, ◌≢◌, ℕ, ◌*◌, ℤ, pos, ◌+ℤ◌, ◌-ℤ◌, ◌*ℤ◌, ◌<ℤ◌, nat_abs, [], ◌∷◌, Ordering, Less, Equal, Greater, arith, ap, sym, ◌∙◌, subst, ints, MatchOrdering, SpacePoint, toward, SamePoint, IsAhead, Vector, dot, IsDirection, SameDirection, none, given, follows, mul_pos, cancel_lt, sub_pos, pos-abs, at, num, neg, ◌⊕◌, ◌⊖◌, ◌⊗◌, IsReached, self-pos}
+use Rattle.nef_geo.proofs.Prelude.{◌≡◌, ◌≢◌, ◌*◌, ℤ, pos, ◌+ℤ◌, ◌-ℤ◌, ◌*ℤ◌, ◌<ℤ◌, nat_abs, [], ◌∷◌, Ordering, Less, Equal, Greater, arith, ap, sym, ◌∙◌, subst, ints, MatchOrdering, SpacePoint, toward, SamePoint, IsAhead, Vector, dot, IsDirection, SameDirection, none, given, follows, mul_pos, cancel_lt, sub_pos, pos-abs, at, num, neg, ◌⊕◌, ◌⊖◌, ◌⊗◌, IsReached, self-pos}
 use Rattle.nef_geo.proofs.Cramer.{cancel, difference}
+use Rattle.nef_space.proofs.Elementary.{weight-positive, counted-times}
 
 -- k a = l b, with k and l positive
 record IsScaled (k l : ℤ) (a b : Vector) : Type 0 where
@@ -44,21 +45,15 @@ plain c d n m u x k b l p eb el e =
     (given (neg (at 5)) (at 8) (at 4 ⊗ at 7) el
     (given (at 0 ⊗ at 6 ⊖ at 5 ⊗ at 4) (at 7) (at 3 ⊗ at 4) eb none))) tt))
 
-pub positive_weight : (s : SpacePoint) → pos 0 <ℤ pos s.w
-positive_weight s = let p = s.proper in omega (arith, ints)
-
 on_ray : (s : SpacePoint) (d : Vector) (n m : ℤ) (p : pos 0 <ℤ m) (q : SpacePoint) → IsReached s d n m p q → IsOnRay s d n m q
 on_ray s d n m p q r =
-    let eb : pos (nat_abs m * s.w) ≡ m *ℤ pos s.w = times (nat_abs m) s.w ∙ ap (λ (k : ℤ). k *ℤ pos s.w) (pos-abs m p) in
-    let el : pos (s.w * (nat_abs m * s.w)) ≡ pos s.w *ℤ pos (nat_abs m * s.w) = times s.w (nat_abs m * s.w) in
+    let eb : pos (nat_abs m * s.w) ≡ m *ℤ pos s.w = counted-times (nat_abs m) s.w ∙ ap (λ (k : ℤ). k *ℤ pos s.w) (pos-abs m p) in
+    let el : pos (s.w * (nat_abs m * s.w)) ≡ pos s.w *ℤ pos (nat_abs m * s.w) = counted-times s.w (nat_abs m * s.w) in
     record {
-      along_x = plain s.x d.x n m (pos s.w) q.x (pos q.w) _ _ (positive_weight s) eb el r.along_x;
-      along_y = plain s.y d.y n m (pos s.w) q.y (pos q.w) _ _ (positive_weight s) eb el r.along_y;
-      along_z = plain s.z d.z n m (pos s.w) q.z (pos q.w) _ _ (positive_weight s) eb el r.along_z;
+      along_x = plain s.x d.x n m (pos s.w) q.x (pos q.w) _ _ (weight-positive s) eb el r.along_x;
+      along_y = plain s.y d.y n m (pos s.w) q.y (pos q.w) _ _ (weight-positive s) eb el r.along_y;
+      along_z = plain s.z d.z n m (pos s.w) q.z (pos q.w) _ _ (weight-positive s) eb el r.along_z;
     }
-  where
-    times : (i j : ℕ) → pos (i * j) ≡ pos i *ℤ pos j
-    times i j = omega (arith, ints)
 
 -- one coordinate of the way between two points on the ray
 between : (c d u pn pm qn qm px pw qx qw : ℤ) → px *ℤ (pm *ℤ u) ≡ (c *ℤ pm +ℤ pn *ℤ d) *ℤ pw → qx *ℤ (qm *ℤ u) ≡ (c *ℤ qm +ℤ qn *ℤ d) *ℤ qw
@@ -80,8 +75,8 @@ scaled_way s d pn pm p qn qm q i j = record {
 ahead : (s : SpacePoint) (d : Vector) (pn pm : ℤ) (p : SpacePoint) (qn qm : ℤ) (q : SpacePoint) → IsDirection d → pos 0 <ℤ pm → pos 0 <ℤ qm → IsOnRay s d pn pm p → IsOnRay s d qn qm q → (pn *ℤ qm) <ℤ (qn *ℤ pm) → IsAhead p d q
 ahead s d pn pm p qn qm q some pp qp i j less =
     SameDirection-scaled _ _ (toward p q) d
-    (mul_pos (pm *ℤ qm) (pos s.w) (mul_pos pm qm pp qp) (positive_weight s))
-    (mul_pos (pos p.w *ℤ pos q.w) (qn *ℤ pm -ℤ pn *ℤ qm) (mul_pos (pos p.w) (pos q.w) (positive_weight p) (positive_weight q)) (sub_pos (pn *ℤ qm) (qn *ℤ pm) less))
+    (mul_pos (pm *ℤ qm) (pos s.w) (mul_pos pm qm pp qp) (weight-positive s))
+    (mul_pos (pos p.w *ℤ pos q.w) (qn *ℤ pm -ℤ pn *ℤ qm) (mul_pos (pos p.w) (pos q.w) (weight-positive p) (weight-positive q)) (sub_pos (pn *ℤ qm) (qn *ℤ pm) less))
     some (scaled_way s d pn pm p qn qm q i j)
 
 level : (k l a d m n : ℤ) → pos 0 <ℤ k → k *ℤ a ≡ l *ℤ (m -ℤ n) *ℤ d → n ≡ m → a ≡ pos 0
@@ -89,7 +84,7 @@ level k l a d m n p e i = cancel k a (not_zero k p) (follows (k ∷ l ∷ a ∷ 
 
 same : (s : SpacePoint) (d : Vector) (pn pm : ℤ) (p : SpacePoint) (qn qm : ℤ) (q : SpacePoint) → pos 0 <ℤ pm → pos 0 <ℤ qm → IsOnRay s d pn pm p → IsOnRay s d qn qm q → pn *ℤ qm ≡ qn *ℤ pm → SamePoint p q
 same s d pn pm p qn qm q pp qp i j e =
-    let k = mul_pos (pm *ℤ qm) (pos s.w) (mul_pos pm qm pp qp) (positive_weight s) in
+    let k = mul_pos (pm *ℤ qm) (pos s.w) (mul_pos pm qm pp qp) (weight-positive s) in
     let t = scaled_way s d pn pm p qn qm q i j in
     record {
       along_x = sym (difference _ _ (level _ (pos p.w *ℤ pos q.w) (q.x *ℤ pos p.w -ℤ p.x *ℤ pos q.w) d.x (qn *ℤ pm) (pn *ℤ qm) k t.x_is e));

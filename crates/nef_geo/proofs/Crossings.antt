@@ -1,7 +1,7 @@
 -- Where a ray crosses a plane.
 use Rattle.nef_geo.proofs.Prelude.{◌≡◌, ◌≢◌, ℕ, ◌+◌, ◌*◌, ℤ, pos, ◌+ℤ◌, ◌-ℤ◌, ◌*ℤ◌, ◌<ℤ◌, nat_abs, List, [], ◌∷◌, inl, inr, arith, ap, ◌∙◌, ints, SpacePoint, Form, form_at, slope, toward, IsAhead, Vector, dot, IsDirection, none, given, follows, mul_pos, mul_neg, by_order, pos-abs, Poly, at, num, neg, ◌⊕◌, ◌⊖◌, ◌⊗◌, ring, IsCrossing, IsReached, IsReachedBy, IsStretched, point_at, HasOppositeSigns, self-pos}
 use Rattle.nef_geo.proofs.Directions.{SameDirection-stretched}
-use Rattle.nef_geo.proofs.Along.{positive_weight}
+use Rattle.nef_space.proofs.Elementary.{weight-positive, counted-times, times-nought}
 
 -- variables: 0 to 3 the form, 4 to 7 the start, 8 to 10 the direction, 11 and 12 the step, 13 to 16 the point
 abbrev all : Form → SpacePoint → Vector → (n m x y z w : ℤ) → List ℤ
@@ -40,7 +40,7 @@ IsAhead-reached s d n m x y z w positive some p r =
     let k = pos-abs w positive in
     let stretched : IsStretched (toward s (point_at x y z w positive)) d = record {
       factor = n *ℤ pos s.w;
-      positive = mul_pos n (pos s.w) p (positive_weight s);
+      positive = mul_pos n (pos s.w) p (weight-positive s);
       x_is = way s.x d.x n m w (pos s.w) x (pos (nat_abs w)) k r.x_is r.w_is;
       y_is = way s.y d.y n m w (pos s.w) y (pos (nat_abs w)) k r.y_is r.w_is;
       z_is = way s.z d.z n m w (pos s.w) z (pos (nat_abs w)) k r.z_is r.w_is;
@@ -57,10 +57,7 @@ IsCrossing-reached h s d n m x y z w positive some p r balance passes = record {
 
 -- ---- the step
 pos_times : (m : ℤ) (k : ℕ) → pos 0 <ℤ m → pos (nat_abs m * k) ≡ m *ℤ pos k
-pos_times m k p = times (nat_abs m) k ∙ ap (λ (n : ℤ). n *ℤ pos k) (pos-abs m p)
-  where
-    times : (i j : ℕ) → pos (i * j) ≡ pos i *ℤ pos j
-    times i j = omega (arith, ints)
+pos_times m k p = counted-times (nat_abs m) k ∙ ap (λ (n : ℤ). n *ℤ pos k) (pos-abs m p)
 
 -- one coordinate
 at_step : (c d n m w sw x k b l : ℤ) → k ≡ w → b ≡ m *ℤ sw → l ≡ sw *ℤ b → x ≡ c *ℤ m +ℤ n *ℤ d → w ≡ sw *ℤ m → x *ℤ l ≡ (c *ℤ b +ℤ n *ℤ sw *ℤ d) *ℤ k
@@ -86,17 +83,14 @@ balanced_signs t k v g pt pk e some =
     (λ n. let m : (t *ℤ g) <ℤ pos 0 = mul_neg t g pt n in
     by_order v (pos 0)
     (λ l. absurd (let i : (k *ℤ v) <ℤ pos 0 = mul_neg k v pk l in omega (arith, ints)))
-    (λ z. absurd (let i : k *ℤ v ≡ pos 0 = ap (λ r. k *ℤ r) z ∙ times_zero k in omega (arith, ints)))
+    (λ z. absurd (let i : k *ℤ v ≡ pos 0 = ap (λ r. k *ℤ r) z ∙ times-nought k in omega (arith, ints)))
     (λ l. inr (l, n)))
     (λ z. absurd (some z))
     (λ p. let m : pos 0 <ℤ (t *ℤ g) = mul_pos t g pt p in
     by_order v (pos 0)
     (λ l. inl (l, p))
-    (λ z. absurd (let i : k *ℤ v ≡ pos 0 = ap (λ r. k *ℤ r) z ∙ times_zero k in omega (arith, ints)))
+    (λ z. absurd (let i : k *ℤ v ≡ pos 0 = ap (λ r. k *ℤ r) z ∙ times-nought k in omega (arith, ints)))
     (λ l. absurd (let i : pos 0 <ℤ (k *ℤ v) = mul_pos k v pk l in omega (arith, ints))))
-  where
-    times_zero : (k : ℤ) → k *ℤ pos 0 ≡ pos 0
-    times_zero k = omega (arith, ints)
 
 -- variables: 0 to 3 the form, 4 to 7 the start, 8 to 10 the direction, 11 to 14 the point
 abbrev way_poly : ℕ → Poly
@@ -115,7 +109,7 @@ opposite-crossing h s d q some c =
     let cy : t.z *ℤ d.x -ℤ t.x *ℤ d.z ≡ pos 0 = c.ahead.parallel.1 in
     let cz : t.x *ℤ d.y -ℤ t.y *ℤ d.x ≡ pos 0 = c.ahead.parallel.2 in
     let o = num (pos 0) in
-    balanced_signs (dot t d) (dot d d *ℤ pos q.w) (form_at h s) (slope h d) c.ahead.forward (mul_pos (dot d d) (pos q.w) (self-pos d some) (positive_weight q))
+    balanced_signs (dot t d) (dot d d *ℤ pos q.w) (form_at h s) (slope h d) c.ahead.forward (mul_pos (dot d d) (pos q.w) (self-pos d some) (weight-positive q))
     (follows (h.a ∷ h.b ∷ h.c ∷ h.d ∷ s.x ∷ s.y ∷ s.z ∷ pos s.w ∷ d.x ∷ d.y ∷ d.z ∷ q.x ∷ q.y ∷ q.z ∷ pos q.w ∷ [])
     (forward_poly ⊗ slope_poly ⊕ (square_poly ⊗ at 14) ⊗ form_poly 4) o
     (given (square_poly ⊗ at 7) (form_poly 11) o c.on

@@ -1,10 +1,11 @@
 -- Directions: positive multiples of one another, and their opposites.
-use Rattle.nef_geo.proofs.Prelude.{◌≡◌, ℕ, zero, ◌≤◌, ℤ, pos, neg_ℤ, ◌-ℤ◌, ◌*ℤ◌, ◌<ℤ◌, nat_abs, List, [], ◌∷◌, arith, ap, ◌∙◌, subst, w64, to_z, of_z, ◌∣◌, ints, direction_limit, IsLowest, Vector, vector, dot, IsAtMost, IsDirection, SameDirection, load, const, wrap, ◌⊟◌, exact_of, mul_pos, at, num, ◌⊕◌, ◌⊖◌, ◌⊗◌, ring, IsStretched, self-pos}
-use Rattle.nef_geo.proofs.Divisors.{part_small, whole_zero}
+use Rattle.nef_geo.proofs.Prelude.{◌≡◌, ℕ, ◌≤◌, ℤ, pos, neg_ℤ, ◌-ℤ◌, ◌*ℤ◌, ◌<ℤ◌, nat_abs, List, [], ◌∷◌, arith, ap, ◌∙◌, subst, w64, to_z, of_z, ◌∣◌, ints, direction_limit, IsLowest, Vector, vector, dot, IsAtMost, IsDirection, SameDirection, load, const, wrap, ◌⊟◌, exact_of, mul_pos, at, num, ◌⊕◌, ◌⊖◌, ◌⊗◌, ring, IsStretched, self-pos}
+use Rattle.nef_geo.proofs.Divisors.{part_small}
+use Rattle.nef_space.proofs.Elementary.{whole-nought, size-opposite, nought-less}
 
 -- ---- positive multiples
 pub IsDirection-part : (a b : Vector) → IsStretched a b → IsDirection a → IsDirection b
-IsDirection-part a b s some z = some (whole_zero s.factor a.x b.x s.x_is z.0, whole_zero s.factor a.y b.y s.y_is z.1, whole_zero s.factor a.z b.z s.z_is z.2)
+IsDirection-part a b s some z = some (whole-nought s.factor a.x b.x s.x_is z.0, whole-nought s.factor a.y b.y s.y_is z.1, whole-nought s.factor a.z b.z s.z_is z.2)
 
 abbrev env : (a b : Vector) → IsStretched a b → List ℤ
 env a b s = s.factor ∷ b.x ∷ b.y ∷ b.z ∷ []
@@ -30,8 +31,6 @@ IsAtMost-part k a b s h = record {
 }
 
 -- ---- opposites
-pub abs-neg : (n : ℤ) → nat_abs (neg_ℤ n) ≡ nat_abs n
-abs-neg n = omega (arith, ints)
 
 pub small-neg : (k : ℕ) (n n' : ℤ) → n' ≡ neg_ℤ n → nat_abs n ≤ k → nat_abs n' ≤ k
 small-neg k n n' e h = omega (arith, ints)
@@ -45,11 +44,8 @@ pub IsLowest-opposite : (x y z x' y' z' : ℤ) → x' ≡ neg_ℤ x → y' ≡ n
 IsLowest-opposite x y z x' y' z' ex ey ez h = λ k d. h k (back k x x' ex d.0, (back k y y' ey d.1.0, (back k z z' ez d.1.1.0, tt)))
   where
     back : (k : ℕ) (n n' : ℤ) → n' ≡ neg_ℤ n → k ∣ nat_abs n' → k ∣ nat_abs n
-    back k n n' e d = subst (λ (m : ℕ). k ∣ m) (ap nat_abs e ∙ abs-neg n) d
+    back k n n' e d = subst (λ (m : ℕ). k ∣ m) (ap nat_abs e ∙ size-opposite n) d
 
 -- the negation that the machine computes
 pub negated : (n : ℤ) → nat_abs n ≤ direction_limit → to_z w64 (of_z w64 (pos 0 -ℤ to_z w64 (of_z w64 n))) ≡ neg_ℤ n
-negated n h = exact_of (direction_limit ∷ []) (n ∷ []) (wrap w64 (const (pos 0) ⊟ wrap w64 (load 0))) (h, tt) tt ∙ minus_is n
-  where
-    minus_is : (n : ℤ) → pos 0 -ℤ n ≡ neg_ℤ n
-    minus_is n = omega (arith, ints)
+negated n h = exact_of (direction_limit ∷ []) (n ∷ []) (wrap w64 (const (pos 0) ⊟ wrap w64 (load 0))) (h, tt) tt ∙ nought-less n

@@ -91,12 +91,6 @@ part_not_negative (pos zero) x (negsuc n) p q e = absurd (omega (arith, ints))
 part_not_negative (pos (suc g)) x (negsuc n) p q e = absurd (omega (arith, ints))
 part_not_negative (negsuc g) x (negsuc n) p q e = absurd (omega (arith, ints))
 
-pub whole_zero : (g x x' : ℤ) → x ≡ g *ℤ x' → x' ≡ pos 0 → x ≡ pos 0
-whole_zero g x x' e z = e ∙ ap (λ n. g *ℤ n) z ∙ times_zero g
-  where
-    times_zero : (g : ℤ) → g *ℤ pos 0 ≡ pos 0
-    times_zero g = omega (arith, ints)
-
 -- ---- numbers that pass through the machine's type
 pub IsReduced-kept : (x y z w x' y' z' w' : ℤ) → FitsSigned w64 x → FitsSigned w64 y → FitsSigned w64 z → FitsSigned w64 w → FitsSigned w64 x' → FitsSigned w64 y' → FitsSigned w64 z' → FitsSigned w64 w'
     → IsReduced (to_z w64 (of_z w64 x)) (to_z w64 (of_z w64 y)) (to_z w64 (of_z w64 z)) (to_z w64 (of_z w64 w)) x' y' z' w'

@@ -4,6 +4,8 @@ use native.Mathlib.Nat.{dvd-one}
 use Rattle.nef_geo.proofs.Cramer.{cancel}
 use Rattle.nef_geo.proofs.Divisors.{part_small}
 use Rattle.nef_geo.proofs.Products.{normal_within, dot_size}
+use Rattle.nef_space.proofs.Vectors.{level-beside_x, level-beside_y, level-beside_z}
+use Rattle.nef_space.proofs.Elementary.{size-opposite_within}
 
 -- ---- upward
 pub up-positive : (h : Plane) → pos 0 <ℤ slope (form_of h) up
@@ -60,15 +62,6 @@ kind_of n h =
 abbrev six : Vector → Vector → List ℤ
 six g n = g.x ∷ g.y ∷ g.z ∷ n.x ∷ n.y ∷ n.z ∷ []
 
-flat_x : (n : Vector) → dot n (beside_x n) ≡ pos 0
-flat_x n = ring (n.x ∷ n.y ∷ n.z ∷ []) (at 0 ⊗ num (pos 0) ⊕ at 1 ⊗ at 2 ⊕ at 2 ⊗ neg (at 1)) (num (pos 0)) tt
-
-flat_y : (n : Vector) → dot n (beside_y n) ≡ pos 0
-flat_y n = ring (n.x ∷ n.y ∷ n.z ∷ []) (at 0 ⊗ neg (at 2) ⊕ at 1 ⊗ num (pos 0) ⊕ at 2 ⊗ at 0) (num (pos 0)) tt
-
-flat_z : (n : Vector) → dot n (beside_z n) ≡ pos 0
-flat_z n = ring (n.x ∷ n.y ∷ n.z ∷ []) (at 0 ⊗ at 1 ⊕ at 1 ⊗ neg (at 0) ⊕ at 2 ⊗ num (pos 0)) (num (pos 0)) tt
-
 record IsFlat (n e f : Vector) : Type 0 where
   axis : dot n e ≡ pos 0
   beside : dot n f ≡ pos 0
@@ -77,9 +70,9 @@ flat_pair : (n a b : Vector) → IsPair n a b → dot n a ≡ pos 0 → dot n b 
 flat_pair n a b p i j = record { axis = ap (dot n) p.axis ∙ i; beside = ap (dot n) p.beside ∙ j }
 
 flat_of : (n : Vector) → IsNormalKind n → IsFlat n (plane_axis n) (second_beside n)
-flat_of n (IsNormalKind.by_z some p) = flat_pair n _ _ p (flat_x n) (flat_y n)
-flat_of n (IsNormalKind.by_y z some p) = flat_pair n _ _ p (flat_x n) (flat_z n)
-flat_of n (IsNormalKind.by_x z y some p) = flat_pair n _ _ p (flat_y n) (flat_z n)
+flat_of n (IsNormalKind.by_z some p) = flat_pair n _ _ p (level-beside_x n) (level-beside_y n)
+flat_of n (IsNormalKind.by_y z some p) = flat_pair n _ _ p (level-beside_x n) (level-beside_z n)
+flat_of n (IsNormalKind.by_x z y some p) = flat_pair n _ _ p (level-beside_y n) (level-beside_z n)
 
 -- the second direction is k times the axis and once what is beside it
 abbrev factor : ℤ
@@ -144,17 +137,15 @@ parallel_of g n (IsNormalKind.by_y z some p) i j = let f = on_pair g n _ _ p i j
 parallel_of g n (IsNormalKind.by_x z y some p) i j = let f = on_pair g n _ _ p i j in parallel_by_x g n some f.axis f.beside
 
 -- ---- sizes
-neg_small : (k : ℕ) (n : ℤ) → nat_abs n ≤ k → nat_abs (neg_ℤ n) ≤ k
-neg_small k n h = omega (arith, ints)
 
 beside_x_small : (k : ℕ) (n : Vector) → IsAtMost k n → IsAtMost k (beside_x n)
-beside_x_small k n h = record { of_x = omega arith; of_y = h.of_z; of_z = neg_small k n.y h.of_y }
+beside_x_small k n h = record { of_x = omega arith; of_y = h.of_z; of_z = size-opposite_within k n.y h.of_y }
 
 beside_y_small : (k : ℕ) (n : Vector) → IsAtMost k n → IsAtMost k (beside_y n)
-beside_y_small k n h = record { of_x = neg_small k n.z h.of_z; of_y = omega arith; of_z = h.of_x }
+beside_y_small k n h = record { of_x = size-opposite_within k n.z h.of_z; of_y = omega arith; of_z = h.of_x }
 
 beside_z_small : (k : ℕ) (n : Vector) → IsAtMost k n → IsAtMost k (beside_z n)
-beside_z_small k n h = record { of_x = h.of_y; of_y = neg_small k n.x h.of_x; of_z = omega arith }
+beside_z_small k n h = record { of_x = h.of_y; of_y = size-opposite_within k n.x h.of_x; of_z = omega arith }
 
 pub record IsSmallPair (n : Vector) : Type 0 where
   pub axis : IsAtMost normal_limit (plane_axis n)

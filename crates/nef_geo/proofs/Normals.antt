@@ -1,12 +1,13 @@
 -- The first nonzero number of a normal, and positive multiples of forms.
 use Rattle.nef_geo.proofs.Prelude.{◌≡◌, zero, suc, ℤ, pos, negsuc, neg_ℤ, ◌-ℤ◌, ◌*ℤ◌, ◌<ℤ◌, nat_abs, ◌≤◌, arith, refl, ◌∙◌, [], ◌∷◌, to_z, of_z, w64, ints, offset_limit, SpacePoint, Form, form_at, vector, opposite, IsDirection, IsNormal, load, const, wrap, ◌⊟◌, exact_of, at, neg, ◌⊕◌, ◌⊗◌, ring, opposite_form, IsPositiveMultiple}
-use Rattle.nef_geo.proofs.Divisors.{part_not_negative, part_positive, whole_zero}
+use Rattle.nef_geo.proofs.Divisors.{part_not_negative, part_positive}
+use Rattle.nef_space.proofs.Elementary.{whole-nought, nought-less}
 
 pub IsNormal-parts : (g a b c a' b' c' : ℤ) → pos 0 <ℤ g → a ≡ g *ℤ a' → b ≡ g *ℤ b' → c ≡ g *ℤ c' → IsNormal (vector a b c) → IsNormal (vector a' b' c')
 IsNormal-parts g a b c a' b' c' p ea eb ec h = record {
   first = part_not_negative g a a' p h.first ea;
-  second = λ z. part_not_negative g b b' p (h.second (whole_zero g a a' ea z)) eb;
-  third = λ z z'. part_positive g c c' p (h.third (whole_zero g a a' ea z) (whole_zero g b b' eb z')) ec;
+  second = λ z. part_not_negative g b b' p (h.second (whole-nought g a a' ea z)) eb;
+  third = λ z z'. part_positive g c c' p (h.third (whole-nought g a a' ea z) (whole-nought g b b' eb z')) ec;
 }
 
 -- a normal leads with a positive number, or its opposite does
@@ -33,10 +34,7 @@ IsNormal-not_both a b c h k =
 
 -- the negation that the machine computes
 pub negated : (n : ℤ) → nat_abs n ≤ offset_limit → to_z w64 (of_z w64 (pos 0 -ℤ to_z w64 (of_z w64 n))) ≡ neg_ℤ n
-negated n h = exact_of (offset_limit ∷ []) (n ∷ []) (wrap w64 (const (pos 0) ⊟ wrap w64 (load 0))) (h, tt) tt ∙ minus_is n
-  where
-    minus_is : (n : ℤ) → pos 0 -ℤ n ≡ neg_ℤ n
-    minus_is n = omega (arith, ints)
+negated n h = exact_of (offset_limit ∷ []) (n ∷ []) (wrap w64 (const (pos 0) ⊟ wrap w64 (load 0))) (h, tt) tt ∙ nought-less n
 
 pub IsPositiveMultiple-turned : (h g : Form) → IsPositiveMultiple (opposite_form h) g → IsPositiveMultiple h (opposite_form g)
 IsPositiveMultiple-turned h g m = record {

@@ -61,15 +61,6 @@ below-one_way (x ∷ xs) (y ∷ ys) (inr (e, h)) (inr (f, k)) = below-one_way xs
 pub never-below : (xs : List ℤ) → IsBelow xs xs → ⊥
 never-below xs h = below-one_way xs xs h h
 
-pub below-trans : (xs ys zs : List ℤ) → IsBelow xs ys → IsBelow ys zs → IsBelow xs zs
-below-trans [] ys zs h k = absurd h
-below-trans (x ∷ xs) [] zs h k = absurd h
-below-trans (x ∷ xs) (y ∷ ys) [] h k = absurd k
-below-trans (x ∷ xs) (y ∷ ys) (z ∷ zs) (inl p) (inl q) = inl (omega (arith, ints, p, q))
-below-trans (x ∷ xs) (y ∷ ys) (z ∷ zs) (inl p) (inr (e, q)) = inl (omega (arith, ints, p, e))
-below-trans (x ∷ xs) (y ∷ ys) (z ∷ zs) (inr (e, p)) (inl q) = inl (omega (arith, ints, e, q))
-below-trans (x ∷ xs) (y ∷ ys) (z ∷ zs) (inr (e, p)) (inr (f, q)) = inr (e ∙ f, below-trans xs ys zs p q)
-
 then-cons : (x y : ℤ) (xs ys : List ℤ) (k o : Ordering) → MatchOrdering k (x <ℤ y) (x ≡ y) (y <ℤ x) → MatchOrdering o (IsBelow xs ys) (xs ≡ ys) (IsBelow ys xs)
     → MatchOrdering (ordering_then k o) (IsBelow (x ∷ xs) (y ∷ ys)) (x ∷ xs ≡ y ∷ ys) (IsBelow (y ∷ ys) (x ∷ xs))
 then-cons x y xs ys Less o h k = inl h

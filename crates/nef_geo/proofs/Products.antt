@@ -1,6 +1,7 @@
 -- Products of vectors, their sizes, and how the machine computes them.
-use Rattle.nef_geo.proofs.Prelude.{◌≡◌, ℕ, ◌+◌, ◌*◌, ◌^◌, ◌≤◌, ℤ, ◌+ℤ◌, ◌-ℤ◌, ◌*ℤ◌, nat_abs, List, [], ◌∷◌, w64, to_z, of_z, arith, refl, sym, ap, subst, ◌∙◌, point_limit, normal_limit, svertex_limit, direction_limit, Vector, vector, dot, cross, IsAtMost, normal_of, Dir, Plane, form_of, vector_of, Code, load, wrap, ◌⊞◌, ◌⊟◌, ◌⊠◌, Limited, exact_of, abs_plus, abs_times, abs_minors, ◌⊕◌, ◌⊖◌, ◌⊗◌}
+use Rattle.nef_geo.proofs.Prelude.{◌≡◌, ℕ, ◌+◌, ◌*◌, ◌^◌, ◌≤◌, ℤ, ◌+ℤ◌, ◌*ℤ◌, nat_abs, List, [], ◌∷◌, w64, to_z, of_z, arith, refl, sym, ap, subst, ◌∙◌, point_limit, normal_limit, svertex_limit, direction_limit, Vector, vector, dot, cross, IsAtMost, normal_of, Dir, Plane, form_of, vector_of, Code, load, wrap, ◌⊞◌, ◌⊟◌, ◌⊠◌, Limited, exact_of, abs_plus, abs_times, abs_minors}
 use mir.Syntax.{Width, w128}
+use Rattle.nef_space.proofs.Vectors.{same-vector}
 
 -- ---- two vectors as six variables
 abbrev pub bounds : ℕ → ℕ → List ℕ
@@ -30,9 +31,6 @@ two w = product w 0 3 ⊞ product w 1 4
 abbrev pub three : Width → Code
 three w = wrap w (two w) ⊞ product w 2 5
 
-pub same_vector : (x y z x' y' z' : ℤ) → x ≡ x' → y ≡ y' → z ≡ z' → vector x y z ≡ vector x' y' z'
-same_vector x y z x' y' z' p q r = cc
-
 -- numbers that fit pass through the machine's type unchanged
 pub kept : (n : ℤ) → nat_abs n ≤ point_limit → to_z w64 (of_z w64 n) ≡ n
 kept n h = exact_of (point_limit ∷ []) (n ∷ []) (wrap w64 (load 0)) (h, tt) tt
@@ -51,7 +49,7 @@ pub IsAtMost-weaken : (k l : ℕ) (v : Vector) → k ≤ l → IsAtMost k v → 
 IsAtMost-weaken k l v h s = record { of_x = omega (arith, s.of_x); of_y = omega (arith, s.of_y); of_z = omega (arith, s.of_z) }
 
 pub kept_vector : (k : ℕ) (v : Vector) → k ≤ point_limit → IsAtMost k v → vector (to_z w64 (of_z w64 v.x)) (to_z w64 (of_z w64 v.y)) (to_z w64 (of_z w64 v.z)) ≡ v
-kept_vector k v l s = same_vector _ _ _ _ _ _ (kept v.x (omega (arith, s.of_x, l))) (kept v.y (omega (arith, s.of_y, l))) (kept v.z (omega (arith, s.of_z, l)))
+kept_vector k v l s = same-vector _ _ _ _ _ _ (kept v.x (omega (arith, s.of_x, l))) (kept v.y (omega (arith, s.of_y, l))) (kept v.z (omega (arith, s.of_z, l)))
 
 -- numbers of a vector that passed through the machine's type
 pub passed_within : (k : ℕ) (v : Vector) → k ≤ point_limit → IsAtMost k v → IsAtMost k (vector (to_z w64 (of_z w64 v.x)) (to_z w64 (of_z w64 v.y)) (to_z w64 (of_z w64 v.z)))
@@ -87,7 +85,7 @@ cross_is a b v w r p q e = e ∙ ap (λ (u : Vector). cross u w) p ∙ ap (cross
 -- the numbers that are passed on are the cross product's
 pub passed : (a b p q : Vector) (x y z : ℤ) → p ≡ a → q ≡ b → vector x y z ≡ cross p q → IsAtMost svertex_limit (vector x y z) → vector (to_z w64 (of_z w64 x)) (to_z w64 (of_z w64 y)) (to_z w64 (of_z w64 z)) ≡ cross a b
 passed a b p q x y z ep eq e s =
-    same_vector _ _ _ _ _ _ (kept x (omega (arith, s.of_x))) (kept y (omega (arith, s.of_y))) (kept z (omega (arith, s.of_z)))
+    same-vector _ _ _ _ _ _ (kept x (omega (arith, s.of_x))) (kept y (omega (arith, s.of_y))) (kept z (omega (arith, s.of_z)))
     ∙ e ∙ ap (λ (v : Vector). cross v q) ep ∙ ap (cross a) eq
 
 pub passed_small : (v : Vector) → IsAtMost svertex_limit v → IsAtMost svertex_limit (vector (to_z w64 (of_z w64 v.x)) (to_z w64 (of_z w64 v.y)) (to_z w64 (of_z w64 v.z)))

@@ -11,6 +11,11 @@ sign_of-positive (pos zero) h = absurd (omega (arith, ints))
 sign_of-positive (pos (suc n)) h = refl
 sign_of-positive (negsuc n) h = absurd (omega (arith, ints))
 
+pub plus-above : (z : ℤ) → Plus ≡ sign_of z → pos 0 <ℤ z
+plus-above (pos zero) e = cc
+plus-above (pos (suc n)) e = omega (arith, ints)
+plus-above (negsuc n) e = cc
+
 pub sign_of-negative : (z : ℤ) → z <ℤ pos 0 → sign_of z ≡ Minus
 sign_of-negative (pos n) h = absurd (omega (arith, ints))
 sign_of-negative (negsuc n) h = refl

@@ -7,6 +7,8 @@ use lib.Dec.{T}
 use Rattle.nef_geo.specs.Laws.{SamePointsAreEqual, SameDirectionsAreEqual, SamePlanesAreEqual}
 use Rattle.nef_geo.proofs.Cramer.{IsSameRatios-from_point, difference}
 use Rattle.nef_geo.proofs.Euclid.{divides_same}
+use Rattle.nef_space.proofs.Vectors.{same-vector}
+use Rattle.nef_space.proofs.Elementary.{nought-products, times-comm}
 
 turn_left : (a b c d : ℤ) → a *ℤ b ≡ c *ℤ d → b *ℤ a ≡ c *ℤ d
 turn_left a b c d e = ring (b ∷ a ∷ []) (at 0 ⊗ at 1) (at 1 ⊗ at 0) tt ∙ e
@@ -128,9 +130,6 @@ record IsSameTriple (a b : Vector) : Type 0 where
 lowest_four : (x y z : ℤ) → IsLowest (x ∷ y ∷ z ∷ []) → IsLowest (x ∷ y ∷ z ∷ pos 0 ∷ [])
 lowest_four x y z h = λ k d. h k (d.0, (d.1.0, (d.1.1.0, tt)))
 
-zero_product : (n n' : ℤ) → n *ℤ pos 0 ≡ pos 0 *ℤ n'
-zero_product n n' = omega (arith, ints)
-
 abbrev six : Vector → Vector → List ℤ
 six a b = a.x ∷ a.y ∷ a.z ∷ b.x ∷ b.y ∷ b.z ∷ []
 
@@ -142,10 +141,10 @@ same_triple a b h k some s =
     let sizes = same_sizes a.x a.y a.z (pos 0) b.x b.y b.z (pos 0) (lowest_four a.x a.y a.z h) (lowest_four b.x b.y b.z k) (record {
       xy = difference _ _ cz;
       xz = sym (difference _ _ cy);
-      xw = zero_product a.x b.x;
+      xw = nought-products a.x b.x;
       yz = difference _ _ cx;
-      yw = zero_product a.y b.y;
-      zw = zero_product a.z b.z;
+      yw = nought-products a.y b.y;
+      zw = nought-products a.z b.z;
     }) in
     let ab = at 0 ⊗ at 3 ⊕ at 1 ⊗ at 4 ⊕ at 2 ⊗ at 5 in
     let aa = at 0 ⊗ at 0 ⊕ at 1 ⊗ at 1 ⊕ at 2 ⊗ at 2 in
@@ -244,14 +243,11 @@ cross_equal g h same =
     record {
       xy = difference _ _ cz;
       xz = sym (difference _ _ cy);
-      xw = same.along_a ∙ comm h.a g.d;
+      xw = same.along_a ∙ times-comm h.a g.d;
       yz = difference _ _ cx;
-      yw = same.along_b ∙ comm h.b g.d;
-      zw = same.along_c ∙ comm h.c g.d;
+      yw = same.along_b ∙ times-comm h.b g.d;
+      zw = same.along_c ∙ times-comm h.c g.d;
     }
-  where
-    comm : (m n : ℤ) → m *ℤ n ≡ n *ℤ m
-    comm m n = ring (m ∷ n ∷ []) (at 0 ⊗ at 1) (at 1 ⊗ at 0) tt
 
 pub same_planes_equal : SamePlanesAreEqual
 same_planes_equal g h same =
@@ -272,10 +268,7 @@ all_three false q r h = absurd (subst T h tt)
 pub same_if_equal : (d e : Dir) → true ≡ equal_test d e → SameDirection (vector_of d) (vector_of e)
 same_if_equal d e h =
     let tests = all_three (int_eq d.x e.x) (int_eq d.y e.y) (int_eq d.z e.z) h in
-    subst (SameDirection (vector_of d)) (same_vector d.x d.y d.z e.x e.y e.z ((Decides-int_eq d.x e.x).0 tests.0) ((Decides-int_eq d.y e.y).0 tests.1) ((Decides-int_eq d.z e.z).0 tests.2)) (dir-self (vector_of d) d.some)
-  where
-    same_vector : (x y z x' y' z' : ℤ) → x ≡ x' → y ≡ y' → z ≡ z' → vector x y z ≡ vector x' y' z'
-    same_vector x y z x' y' z' p q r = rw (p, q, r) refl
+    subst (SameDirection (vector_of d)) (same-vector d.x d.y d.z e.x e.y e.z ((Decides-int_eq d.x e.x).0 tests.0) ((Decides-int_eq d.y e.y).0 tests.1) ((Decides-int_eq d.z e.z).0 tests.2)) (dir-self (vector_of d) d.some)
 
 pub itself : (x : ℤ) → int_eq x x ≡ true
 itself x = (Decides-int_eq x x).1 refl

@@ -1,6 +1,7 @@
 -- The numbers that stand in two rows, by one way through both.
-use Rattle.nef_index.proofs.Prelude.{◌≡◌, ℕ, ◌+◌, ◌<◌, ◌≤◌, List, [], ◌∷◌, ◌++◌, length, arith, sym, subst, ⊎_elim, cases_lt, IsAt, SpacePoint, form_of, point_of, Plane, less-or-last, is-at_one, is-at_some, is-at_within, Edge, Point, DoAllRise, HaveRows, AreCommon, AreCommonRows, AreNumbersWith, AreHolders, ArePointHolders, AreEdgeHolders, HaveEnds, HoldsBoth, HasEntry, DoRise}
+use Rattle.nef_index.proofs.Prelude.{◌≡◌, ℕ, ◌+◌, ◌<◌, ◌≤◌, List, [], ◌∷◌, ◌++◌, length, arith, sym, subst, ⊎_elim, cases_lt, IsAt, SpacePoint, form_of, point_of, Plane, is-at_one, is-at_some, is-at_within, Edge, Point, DoAllRise, HaveRows, AreCommon, AreCommonRows, AreNumbersWith, AreHolders, ArePointHolders, AreEdgeHolders, HaveEnds, HoldsBoth, HasEntry, DoRise}
 use Rattle.nef_index.proofs.Numbered.{AreThinned, thinned-none, thinned-more, thinned-skip}
+use Rattle.nef_space.proofs.Elementary.{less-or-last}
 
 -- a number at the same place or later is no less
 no-less : (ns : List ℕ) (i j k l : ℕ) → DoRise ns → i ≤ j → IsAt ns i k → IsAt ns j l → k ≤ l

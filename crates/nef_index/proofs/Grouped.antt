@@ -1,6 +1,8 @@
 -- Sorting and grouping keep all numbers: each carrier stands in a group of a cluster, and the spans of both hold the points on it.
-use Rattle.nef_index.proofs.Prelude.{ℕ, zero, suc, ◌+◌, ◌<◌, ◌⊎◌, inl, inr, ⊎_elim, List, [], ◌∷◌, ◌++◌, length, arith, sym, subst, IsPermutation, Contains-permutation, IsPermutation-sym, IsAt, point_of, Plane, less-or-last, is-at_one, is-at_some, is-at_within, is-at_get, is-at_is, is-at_left, is-at_last, Either, earlier, last, is-at_either, Point, Span, Cluster, Group, AreCarrierSpans, StandsIn, IsInGroup, IsInCluster, AreSpanned, AreClusters, AreKeyed, IsWide, IsNarrower}
+use Rattle.nef_index.proofs.Prelude.{ℕ, suc, ◌+◌, ◌<◌, ◌⊎◌, inl, inr, ⊎_elim, List, [], ◌∷◌, ◌++◌, length, arith, sym, subst, IsPermutation, Contains-permutation, IsPermutation-sym, IsAt, point_of, Plane, is-at_one, is-at_some, is-at_within, is-at_get, is-at_is, is-at_left, is-at_last, Either, earlier, last, is-at_pushed, Point, Span, Cluster, Group, AreCarrierSpans, StandsIn, IsInGroup, IsInCluster, AreSpanned, AreClusters, AreKeyed, IsWide, IsNarrower}
 use Rattle.nef_index.proofs.Spanning.{span-wider, narrower-still}
+use Rattle.nef_space.proofs.Elementary.{less-or-last}
+use Rattle.nef_space.proofs.Lists.{is-at_either}
 
 -- ---- numbers with keys
 pub keyed-none : AreKeyed 0 []
@@ -8,7 +10,7 @@ keyed-none = record { within = λ i e a. cc; all = λ k l. absurd (omega arith) 
 
 pub keyed-more : (n key : ℕ) (pairs : List (ℕ × ℕ)) → AreKeyed n pairs → AreKeyed (n + 1) (pairs ++ (key, n) ∷ [])
 keyed-more n key pairs K = record {
-  within = λ i e a. within i e (is-at_either pairs i e (key, n) a);
+  within = λ i e a. within i e (is-at_pushed pairs i e (key, n) a);
   all = λ k l. ⊎_elim
       (λ b. let o = K.all k b in (o.0, o.1, is-at_left pairs ((key, n) ∷ []) o.0 o.1 o.2, o.3))
       (λ e. (length pairs, (key, n), is-at_last pairs (key, n), sym e))
@@ -48,8 +50,8 @@ group-none spans pairs s = record {
 pub group-more : (spans : List Span) (pairs : List (ℕ × ℕ)) (n : ℕ) (s t u : Span) (ks : List ℕ) (e : ℕ × ℕ) → IsAt pairs n e → IsAt spans e.1 u → IsNarrower s t → IsNarrower u t → IsGroupTo spans pairs n (record { span = s; carriers = ks }) → IsGroupTo spans pairs (n + 1) (record { span = t; carriers = ks ++ e.1 ∷ [] })
 group-more spans pairs n s t u ks e here at w o G = record {
   wide = record {
-    within = λ k a. within a.0 k (is-at_either ks a.0 k e.1 a.1);
-    wide = λ k v a b. wide a.0 k v b (is-at_either ks a.0 k e.1 a.1);
+    within = λ k a. within a.0 k (is-at_pushed ks a.0 k e.1 a.1);
+    wide = λ k v a b. wide a.0 k v b (is-at_pushed ks a.0 k e.1 a.1);
   };
   all = λ i f l a. ⊎_elim
       (λ b. let r = G.all i f b a in (r.0, is-at_left ks (e.1 ∷ []) r.0 f.1 r.1))
@@ -70,11 +72,6 @@ behind : {X : Type 0} (xs ys : List X) (i : ℕ) (x : X) → IsAt ys i x → (j 
 behind [] ys i x a = (i, a)
 behind (y ∷ xs) ys i x a = let o = behind xs ys i x a in (suc o.0, o.1)
 
-parted : {X : Type 0} (xs ys : List X) (i : ℕ) (x : X) → IsAt (xs ++ ys) i x → IsAt xs i x ⊎ ((j : ℕ) × IsAt ys j x)
-parted [] ys i x a = inr (i, a)
-parted (y ∷ xs) ys zero x a = inl a
-parted (y ∷ xs) ys (suc i) x a = parted xs ys i x a
-
 -- each element has P, and the number of each pair stands in some element, but for the pairs that are left
 pub record AreAllButRest {X : Type 0} (has : X → ℕ → Type 0) (P : X → Type 0) (pairs rest : List (ℕ × ℕ)) (xs : List X) : Type 0 where
   pub left : (i : ℕ) (e : ℕ × ℕ) → IsAt rest i e → (j : ℕ) × IsAt pairs j e
@@ -91,13 +88,13 @@ module _ {X : Type 0} (has : X → ℕ → Type 0) where
   pub taken-more : (P Q : X → Type 0) (pairs next rest : List (ℕ × ℕ)) (xs : List X) (x : X) → ((y : X) → P y → Q y) → Q x → ((i : ℕ) (e : ℕ × ℕ) → IsAt next i e → has x e.1) → AreAllButRest has P pairs (next ++ rest) xs → AreAllButRest has Q pairs rest (xs ++ x ∷ [])
   taken-more P Q pairs next rest xs x still here taken T = record {
     left = λ i e a. let o = behind next rest i e a in T.left o.0 e o.1;
-    each = λ i y a. each i y (is-at_either xs i y x a);
+    each = λ i y a. each i y (is-at_pushed xs i y x a);
     all = λ i e a. ⊎_elim
         (λ s. inl (s.0, s.1, is-at_left xs (x ∷ []) s.0 s.1 s.2, s.3))
         (λ o. ⊎_elim
         (λ b. inl (length xs, x, is-at_last xs x, taken o.0 e b))
         inr
-        (parted next rest o.0 e o.1))
+        (is-at_either next rest o.0 e o.1))
         (T.all i e a);
   }
     where

@@ -1,5 +1,6 @@
 -- Lists of the numbers that have a property, in increasing order.
-use Rattle.nef_index.proofs.Prelude.{◌≡◌, ℕ, ◌+◌, ◌<◌, ◌≤◌, List, [], ◌∷◌, ◌++◌, length, length-append, ◌↔◌, arith, refl, sym, ◌∙◌, subst, ⊎_elim, cases_lt, IsAt, less-or-last, is-at_one, is-at_within, is-at_left, is-at_last, Either, earlier, last, is-at_either, AreNumbersWith}
+use Rattle.nef_index.proofs.Prelude.{◌≡◌, ℕ, ◌+◌, ◌<◌, ◌≤◌, List, [], ◌∷◌, ◌++◌, length, length-append, ◌↔◌, arith, refl, sym, ◌∙◌, subst, ⊎_elim, cases_lt, IsAt, is-at_one, is-at_within, is-at_left, is-at_last, Either, earlier, last, is-at_pushed, AreNumbersWith}
+use Rattle.nef_space.proofs.Elementary.{less-or-last}
 
 -- the number is below n and has P
 abbrev pub Before : (ℕ → Type 0) → ℕ → ℕ → Type 0
@@ -11,12 +12,12 @@ numbers-none P = record { each = λ i k a. cc; all = λ k (l, p). absurd (omega 
 -- of the numbers from n to before `next` only k has P, and is added
 pub numbers-in : (P : ℕ → Type 0) (n k next : ℕ) (ns : List ℕ) → AreNumbersWith (Before P n) ns → n ≤ k → k < next → P k → ((i : ℕ) → n ≤ i → i < next → P i → i ≡ k) → AreNumbersWith (Before P next) (ns ++ k ∷ [])
 numbers-in P n k next ns N from to p only = record {
-  each = λ i m a. each i m (is-at_either ns i m k a);
+  each = λ i m a. each i m (is-at_pushed ns i m k a);
   all = λ m (l, q). ⊎_elim
       (λ b. let o = N.all m (b, q) in (o.0, is-at_left ns (k ∷ []) o.0 m o.1))
       (λ b. (length ns, subst (λ (j : ℕ). IsAt (ns ++ k ∷ []) (length ns) j) (sym (only m b l q)) (is-at_last ns k)))
       (cases_lt m n);
-  ordered = λ i j a b l p q. ordered i j a b l (is-at_either ns i a k p) (is-at_either ns j b k q);
+  ordered = λ i j a b l p q. ordered i j a b l (is-at_pushed ns i a k p) (is-at_pushed ns j b k q);
 }
   where
     each : (i m : ℕ) → Either ns i m k → Before P next m
@@ -60,12 +61,12 @@ module _ (P Q : ℕ → Type 0) (ns : List ℕ) (N : AreNumbersWith P ns) (n k :
   -- the next one has Q, and is added: it is greater than those before it
   pub thinned-more : Q k → AreThinned ns Q (n + 1) (ms ++ k ∷ [])
   thinned-more q = record {
-    each = λ i m a. each i m (is-at_either ms i m k a);
+    each = λ i m a. each i m (is-at_pushed ms i m k a);
     all = λ m (x, p). ⊎_elim
         (λ l. let o = M.all m ((x.0, l, x.2), p) in (o.0, is-at_left ms (k ∷ []) o.0 m o.1))
         (λ e. (length ms, subst (λ (j : ℕ). IsAt (ms ++ k ∷ []) (length ms) j) (is-at_one ns n k m here (subst (λ (i : ℕ). IsAt ns i m) e x.2)) (is-at_last ms k)))
         (less-or-last x.0 n x.1);
-    ordered = λ i j a b l p q. ordered i j a b l (is-at_either ms i a k p) (is-at_either ms j b k q);
+    ordered = λ i j a b l p q. ordered i j a b l (is-at_pushed ms i a k p) (is-at_pushed ms j b k q);
   }
     where
       each : (i m : ℕ) → Either ms i m k → AmongFirst ns (n + 1) m × Q m
@@ -86,14 +87,6 @@ module _ (P Q : ℕ → Type 0) (ns : List ℕ) (N : AreNumbersWith P ns) (n k :
     ordered = M.ordered;
   }
 
--- the list has all that have Q
-pub thinned-all : (P Q : ℕ → Type 0) (ns ms : List ℕ) (n : ℕ) → AreNumbersWith P ns → ((k : ℕ) → Q k → P k) → length ns ≤ n → AreThinned ns Q n ms → AreNumbersWith Q ms
-thinned-all P Q ns ms n N within le M = record {
-  each = λ i k a. (M.each i k a).1;
-  all = λ k q. let o = N.all k (within k q) in M.all k ((o.0, (let l = is-at_within ns o.0 k o.1 in omega arith), o.1), q);
-  ordered = M.ordered;
-}
-
 -- ---- a value for each element
 -- the values are those of the first n elements, and each has P with its element
 pub record AreValuesTo {X Y : Type 0} (P : X → Y → Type 0) (xs : List X) (n : ℕ) (ys : List Y) : Type 0 where
@@ -106,7 +99,7 @@ values-none {X} {Y} P xs = record { as_many = refl; each = λ k x y a b. absurd 
 pub values-more : {X Y : Type 0} (P : X → Y → Type 0) (xs : List X) (n : ℕ) (ys : List Y) (x : X) (y : Y) → IsAt xs n x → P x y → AreValuesTo P xs n ys → AreValuesTo P xs (n + 1) (ys ++ y ∷ [])
 values-more {X} {Y} P xs n ys x y here p R = record {
   as_many = let e = R.as_many in let f = length-append ys (y ∷ []) in omega arith;
-  each = λ k w z a b. each k w z a (is-at_either ys k z y b);
+  each = λ k w z a b. each k w z a (is-at_pushed ys k z y b);
 }
   where
     each : (k : ℕ) (w : X) (z : Y) → IsAt xs k w → Either ys k z y → P w z

@@ -1,9 +1,10 @@
 -- Runs of parallel planes, and the one of a run that holds a point.
-use Rattle.nef_index.proofs.Prelude.{◌≡◌, ℕ, zero, suc, ◌+◌, ◌-◌, ◌<◌, ◌≤◌, ℤ, pos, negsuc, ◌+ℤ◌, ◌-ℤ◌, ◌*ℤ◌, ◌<ℤ◌, List, [], ◌∷◌, ◌++◌, length, get_or, take, drop, arith, refl, ap, sym, ◌∙◌, ◌⊎◌, inl, inr, ⊎_elim, subst, Bool, true, false, IsTrue, Option, Some, None, is_some, IfSome, Result, Ok, Err, IsNonDecreasingBy, IsSearchInRange, IsBinarySearchResult, int_cmp, ordering_index, drop_of_length-le, cases_lt, cases_order, ints, drop_more, length-drop, get_or-take, get_or-drop, lt_by, mul_pos, sub_pos, at, ◌⊕◌, ◌⊖◌, ◌⊗◌, false≢true, IsAt, IsBelow, SpacePoint, Form, form_at, form_numbers, normal_of, Vector, form_of, Plane, sign_number, sign_of, less-or-last, is-at_one, is-at_some, is-at_within, is-at_get, is-at_is, AreInOrder, IsRun, AreRunsTo, AreRuns, ContinuesRun, IsHolderIn, IsOnlyHolder}
+use Rattle.nef_index.proofs.Prelude.{◌≡◌, ℕ, zero, suc, ◌+◌, ◌-◌, ◌<◌, ◌≤◌, ℤ, pos, negsuc, ◌+ℤ◌, ◌-ℤ◌, ◌*ℤ◌, ◌<ℤ◌, List, [], ◌∷◌, ◌++◌, length, get_or, take, drop, arith, refl, ap, sym, ◌∙◌, ◌⊎◌, inl, inr, ⊎_elim, subst, Bool, true, false, IsTrue, Option, Some, None, is_some, IfSome, Result, Ok, Err, IsNonDecreasingBy, IsSearchInRange, IsBinarySearchResult, int_cmp, ordering_index, drop_of_length-le, cases_lt, cases_order, ints, drop_more, length-drop, get_or-take, get_or-drop, lt_by, mul_pos, sub_pos, at, ◌⊕◌, ◌⊖◌, ◌⊗◌, false≢true, IsAt, IsBelow, SpacePoint, Form, form_at, form_numbers, normal_of, Vector, form_of, Plane, sign_number, sign_of, is-at_one, is-at_some, is-at_within, is-at_get, is-at_is, AreInOrder, IsRun, AreRunsTo, AreRuns, ContinuesRun, IsHolderIn, IsOnlyHolder}
 use Rattle.std.proofs.Common.{Ordering, Less, Equal, Greater}
 use Rattle.std.specs.Bool.{then_some}
 use Rattle.std.specs.Result.{IfOk, is_ok}
 use Rattle.std.proofs.lemmas.List.{length-take}
+use Rattle.nef_space.proofs.Elementary.{less-or-last}
 
 -- ---- the runs, one after the other
 run-one : (hs : List Plane) (k : ℕ) → k < length hs → IsRun hs k (k + 1)

@@ -1,5 +1,5 @@
 -- Greatest upper ends of edges, in blocks and in tables.
-use Rattle.nef_index.proofs.Prelude.{◌≡◌, ℕ, ◌+◌, ◌*◌, ◌<◌, ◌≤◌, List, [], ◌∷◌, ◌++◌, length, length-append, arith, ap, sym, ◌∙◌, ◌⊎◌, inl, inr, ⊎_elim, subst, cases_lt, IsAt, is-at_one, is-at_within, Either, earlier, last, is-at_either, Edge, block_start, EndBelow, ArePeaks, HavePeaks}
+use Rattle.nef_index.proofs.Prelude.{◌≡◌, ℕ, ◌+◌, ◌*◌, ◌<◌, ◌≤◌, List, [], ◌∷◌, ◌++◌, length, length-append, arith, ap, sym, ◌∙◌, ◌⊎◌, inl, inr, ⊎_elim, subst, cases_lt, IsAt, is-at_one, is-at_within, Either, earlier, last, is-at_pushed, Edge, block_start, EndBelow, ArePeaks, HavePeaks}
 
 module _ (es : List Edge) (ns : List ℕ) where
   pub end-none : (first past n : ℕ) → past ≤ first → EndBelow es ns first past n
@@ -26,7 +26,7 @@ module _ (es : List Edge) (ns : List ℕ) where
   peaks-none i p a = cc
 
   pub peaks-more : (ps : List ℕ) (p : ℕ) → ArePeaks es ns ps → EndBelow es ns (8 * block_start (length ps + 1)) (8 * (length ps + 1)) (p + 1) → ArePeaks es ns (ps ++ p ∷ [])
-  peaks-more ps p A E i q a = by (is-at_either ps i q p a)
+  peaks-more ps p A E i q a = by (is-at_pushed ps i q p a)
     where
       by : Either ps i q p → EndBelow es ns (8 * block_start (i + 1)) (8 * (i + 1)) (q + 1)
       by (earlier b) = A i q b
@@ -50,20 +50,16 @@ have-more es rows old new number ns ps H at P rule i ms qs a b = ⊎_elim
 pub have-none : (es : List Edge) (rows table : List (List ℕ)) → table ≡ [] → HavePeaks es rows table
 have-none es rows table e i ns ps a b = let l = is-at_within table i ps b in absurd (subst (λ (t : List (List ℕ)). i < length t → ⊥) (sym e) (λ m. omega (arith, m)) l)
 
--- the row that was read of a table, or none, has the peaks
-pub row-peaks : (es : List Edge) (rows table : List (List ℕ)) (i : ℕ) (ns ps : List ℕ) → HavePeaks es rows table → IsAt rows i ns → IsAt table i ps ⊎ (ps ≡ []) → ArePeaks es ns ps
-row-peaks es rows table i ns ps H a = ⊎_elim (λ b. H i ns ps a b) (λ e. subst (ArePeaks es ns) (sym e) (peaks-none es ns))
-
 -- ---- a table with a row at its number
 pub row-fills : (old new : List (List ℕ)) (i : ℕ) (ns : List ℕ) → new ≡ old ++ [] ∷ [] → IsAt new i ns → IsAt old i ns ⊎ (ns ≡ [])
-row-fills old new i ns e a = by (is-at_either old i ns [] (subst (λ (t : List (List ℕ)). IsAt t i ns) e a))
+row-fills old new i ns e a = by (is-at_pushed old i ns [] (subst (λ (t : List (List ℕ)). IsAt t i ns) e a))
   where
     by : Either old i ns [] → IsAt old i ns ⊎ (ns ≡ [])
     by (earlier b) = inl b
     by (last l f) = inr f
 
 pub row-last : (old new : List (List ℕ)) (number : ℕ) (row : List ℕ) → new ≡ old ++ row ∷ [] → length old ≡ number → (i : ℕ) (ns : List ℕ) → IsAt new i ns → IsAt old i ns ⊎ ((i ≡ number) × (ns ≡ row))
-row-last old new number row e n i ns a = by (is-at_either old i ns row (subst (λ (t : List (List ℕ)). IsAt t i ns) e a))
+row-last old new number row e n i ns a = by (is-at_pushed old i ns row (subst (λ (t : List (List ℕ)). IsAt t i ns) e a))
   where
     by : Either old i ns row → IsAt old i ns ⊎ ((i ≡ number) × (ns ≡ row))
     by (earlier b) = inl b

@@ -10,7 +10,7 @@ pub use Rattle.nef_geo.specs.Signs.{sign_number}
 pub use Rattle.nef_geo.specs.declared.plane.Plane.{Plane}
 pub use Rattle.nef_geo.specs.declared.point.Point.{Point}
 pub use Rattle.nef_geo.specs.declared.sign.Sign.TheVariants.{Zero}
-pub use Rattle.nef_classes.proofs.ClassLists.{Either, earlier, is-at_either, is-at_take, last, less-or-last, refilled}
+pub use Rattle.nef_classes.proofs.ClassLists.{Either, earlier, is-at_take, last, refilled, is-at_pushed}
 pub use Rattle.nef_classes.proofs.Prelude.{Err, Global, List, Ok, Option, Result, Some, Vec, [], ap, append-nil, arith, drop, drop_of_length-le, get_or, get_or-take, inl, inr, ints, length, length-append, length-drop, length-set, length-take, pos, refl, rules, set, slice_get_read, subst, suc, sym, take, take-append-le, take_all, zero, ℕ, ⊎_elim, ◌++◌, ◌+◌, ◌-◌, ◌<◌, ◌^◌, ◌↔◌, ◌∙◌, ◌∷◌, ◌≡◌, ◌≢◌, ◌≤◌, ◌⊎◌}
 pub use Rattle.std.proofs.Common.{IsTrue, append_assoc, eq-eqb, is_some, ne_eqb}
 pub use Rattle.std.proofs.Math.Nat.{div-le_self, div-mul-le_self, lt-div-mul-add}
@@ -40,3 +40,4 @@ pub use Rattle.nef_index.specs.declared.groups.Group.{Group}
 pub use Rattle.nef_index.specs.declared.skeleton.Edge.{Edge}
 pub use Rattle.nef_index.specs.declared.spans.Bounds.{Bounds}
 pub use Rattle.nef_index.specs.declared.spans.Span.{Span}
+pub use Rattle.nef_space.proofs.Elementary.{less-or-last}

@@ -1,6 +1,6 @@
 -- Whole numbers that bound coordinates.
-use Rattle.nef_index.proofs.Prelude.{◌≡◌, ℕ, zero, suc, ◌⊎◌, inl, inr, ◌+◌, ◌*◌, ◌/◌, ◌<◌, ◌≤◌, ℤ, pos, negsuc, neg_ℤ, ◌+ℤ◌, ◌*ℤ◌, ◌-ℤ◌, ◌<ℤ◌, ◌≤ℤ◌, nat_abs, List, [], ◌∷◌, length, arith, sym, ◌∙◌, subst, ⊎_elim, div-le_self, div-mul-le_self, lt-div-mul-add, ints, int_div_euclid, mul_nonneg, cancel_le, ring, at, num, neg, ◌⊕◌, ◌⊖◌, ◌⊗◌, IsAt, SpacePoint, point_of, Plane, Coordinate, coordinate_of, coordinate_x, coordinate_y, coordinate_z, IsWithin, less-or-last, is-at_one, is-at_some, is-at_within, Point, Bounds, Span, AreNumbersOf, AreCarrierPoints, AreCarrierSpans, ArePointSpans, AreNarrowerListed, IsInSpan, AreInSpan, AreNarrower, IsNarrower}
-use Rattle.law_near.proofs.PointOrder.{weight}
+use Rattle.nef_index.proofs.Prelude.{◌≡◌, ℕ, zero, suc, ◌⊎◌, inl, inr, ◌+◌, ◌*◌, ◌/◌, ◌<◌, ◌≤◌, ℤ, pos, negsuc, neg_ℤ, ◌+ℤ◌, ◌*ℤ◌, ◌-ℤ◌, ◌<ℤ◌, ◌≤ℤ◌, nat_abs, List, [], ◌∷◌, length, arith, sym, ◌∙◌, subst, ⊎_elim, div-le_self, div-mul-le_self, lt-div-mul-add, ints, int_div_euclid, mul_nonneg, cancel_le, ring, at, num, neg, ◌⊕◌, ◌⊖◌, ◌⊗◌, IsAt, SpacePoint, point_of, Plane, Coordinate, coordinate_of, coordinate_x, coordinate_y, coordinate_z, IsWithin, is-at_one, is-at_some, is-at_within, Point, Bounds, Span, AreNumbersOf, AreCarrierPoints, AreCarrierSpans, ArePointSpans, AreNarrowerListed, IsInSpan, AreInSpan, AreNarrower, IsNarrower}
+use Rattle.nef_space.proofs.Elementary.{weight-positive, less-or-last}
 
 -- ---- quotients
 -- z/w rounded down, times w, is at most z
@@ -97,8 +97,8 @@ euclid-next z w p off = by (int_div_euclid z w) (euclid-small z w p) (euclid-bel
 -- ---- wider bounds
 within-wider : (c : Coordinate) (a b : Bounds) (p : SpacePoint) → AreNarrower a b → IsWithin c a.low a.high p → IsWithin c b.low b.high p
 within-wider c a b p n w =
-    let l = times-below b.low a.low (pos p.w) (weight p) n.0 in
-    let h = times-below a.high b.high (pos p.w) (weight p) n.1 in
+    let l = times-below b.low a.low (pos p.w) (weight-positive p) n.0 in
+    let h = times-below a.high b.high (pos p.w) (weight-positive p) n.1 in
     let u = w.0 in let v = w.1 in
     (lower (b.low *ℤ pos p.w) (a.low *ℤ pos p.w) (coordinate_of c p) l u, lower (coordinate_of c p) (a.high *ℤ pos p.w) (b.high *ℤ pos p.w) v h)
   where
@@ -122,7 +122,7 @@ pub within-both : (c : Coordinate) (a b : Bounds) (q : SpacePoint) → IsWithin 
 within-both c a b q i j = (below a.low b.high i.0 j.1, below b.low a.high j.0 i.1)
   where
     below : (l h : ℤ) → (l *ℤ pos q.w) ≤ℤ coordinate_of c q → coordinate_of c q ≤ℤ (h *ℤ pos q.w) → l ≤ℤ h
-    below l h u v = cancel_le l h (pos q.w) (weight q) (omega (arith, ints))
+    below l h u v = cancel_le l h (pos q.w) (weight-positive q) (omega (arith, ints))
 
 -- ---- the spans of single points
 pub within-spans : (ps : List Point) (ss : List Span) (row : List ℕ) → ArePointSpans ps ss → AreNumbersOf ps row → AreNumbersOf ss row

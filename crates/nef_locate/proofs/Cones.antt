@@ -1,16 +1,6 @@
 -- The labels and the germs of a point by its place.
-use Rattle.nef_locate.proofs.Prelude.{◌≡◌, pos, ap, sym, subst, ◌∙◌, sign, HasLabel, Germ, FlatDim, SpacePoint, SamePoint, toward, Set, Vector, IsDirection, dot, plane_axis, Label, carriers, Label-cells, signs-same, germs-by_cell, flat-germ, span-3, IsPlaneOf, MapSloop, Item, item_normal, item_pos, item_mark, item_neg, Map, MapLabel, Valid, by_side, Cone, normal-direction, on-level, Vertex, Corner, IsCorner, Shows, item_plane, HasCorner, meets-on, through-at, facet-from_behind, weight, normal-scaled, through-level, axis-in}
+use Rattle.nef_locate.proofs.Prelude.{◌≡◌, pos, ap, sym, subst, ◌∙◌, sign, HasLabel, Germ, FlatDim, SpacePoint, toward, Set, Vector, IsDirection, dot, plane_axis, Label, flat-germ, span-3, IsPlaneOf, MapSloop, Item, item_normal, item_pos, item_mark, item_neg, Map, MapLabel, Valid, by_side, Cone, normal-direction, on-level, Vertex, Corner, IsCorner, Shows, item_plane, HasCorner, meets-on, through-at, facet-from_behind, weight-positive, normal-scaled, through-level, axis-in}
 use Rattle.law_complex.specs.Complexes.{Complex}
-
--- a point that is the same has the same cone
-pub cone-same : (M : Map) (s : Set) (p q : SpacePoint) → SamePoint p q → Cone M s p → Cone M s q
-cone-same M s p q e K =
-    let same = signs-same (carriers s) p q e in
-    record {
-      valid = K.valid;
-      mark = Label-cells s M.mark p q same K.mark;
-      labels = λ d f. let l = K.labels d f in (l.0, l.1, (germs-by_cell s p q same d l.0).0 l.2);
-    }
 
 -- where all directions are flat there is one label
 pub cone-flat : (M : Map) (s : Set) (y : SpacePoint) (l : Label) → Valid M → M.mark ≡ l → ((d : Vector) → IsDirection d → MapLabel M d l) → HasLabel s y l → FlatDim s y 3 → Cone M s y
@@ -29,7 +19,7 @@ corner-labels s C S y k v x H c =
     let N = (S.cones H.beside.vertex H.vertex H.is_beside.vertex).valid.shaped.normals H.beside.item H.item H.is_beside.item in
     let axis = axis-in n (normal-direction n N) in
     let r = H.named in
-    (facet-from_behind s C S (item_plane H.vertex H.item) y (normal-scaled n (pos p.w) (weight p) N) (through-at n p y ∙ on-level H.vertex.map H.item (toward p y) H.facet_point.on_item)
+    (facet-from_behind s C S (item_plane H.vertex H.item) y (normal-scaled n (pos p.w) (weight-positive p) N) (through-at n p y ∙ on-level H.vertex.map H.item (toward p y) H.facet_point.on_item)
     (plane_axis n) axis.0 ((through-level n (plane_axis n) p).0 axis.1) (λ m e. H.facet_point.off_edges (meets-on s C S (item_plane H.vertex H.item) m y e)) r.0 k r.1 r.2).1 v x c
 
 -- a map with the labels of the corner's item is one of the point

@@ -1,9 +1,12 @@
 -- A point of an edge comes between the edge's ends in the order of vertices, and what comes between on its line lies on it.
-use Rattle.nef_locate.proofs.Prelude.{◌≡◌, ℕ, ◌+◌, ◌<◌, ◌≤◌, sym, pos, Bool, IsTrue, ◌↔◌, List, arith, inl, inr, ⊎_elim, subst, eq-or-lt_of_le, cases_lt, ints, by_order, IsAt, SpacePoint, Form, form_at, toward, SamePoint, IsBetween, IsPointBelow, Set, IsNormal, IsZero, cross, form_of, point_of, Point, point_below-same, same-point_below, point_below-trans, point_below-apart, same-point_sym, map-is_at, is-at_map, is-at_one, Shows, IsVertexPoint, IsEdgePoint, aligned, cross-back, plane-way, between-way, same-itself, Edge, Complex, edge_of, vertex_of, complex_of, AreBelow, AreAbove, EdgeLiesIn, AreNumbersWith, EndBelow, apart, edge-inside, ends, listed_edge, vertex-same, held-between, toward-normal, normal-kept, AllThrough, edge-along, lies, lying-ends, level-same, Span, AreAlone, IsInSpan, IsNarrower, span-between, PartsOn, AreThroughEnds, cross-turned, SameDirection-turned}
+use Rattle.nef_locate.proofs.Prelude.{◌≡◌, ℕ, ◌+◌, ◌<◌, ◌≤◌, sym, pos, Bool, IsTrue, ◌↔◌, List, arith, ⊎_elim, subst, eq-or-lt_of_le, cases_lt, IsAt, SpacePoint, Form, form_at, toward, SamePoint, IsBetween, IsPointBelow, Set, IsZero, cross, form_of, point_of, Point, point_below-same, same-point_below, point_below-apart, same-point_sym, map-is_at, is-at_map, is-at_one, Shows, IsVertexPoint, IsEdgePoint, aligned, cross-back, plane-way, between-way, Edge, Complex, edge_of, vertex_of, complex_of, AreBelow, AreAbove, EdgeLiesIn, AreNumbersWith, EndBelow, apart, edge-inside, ends, listed_edge, vertex-same, held-between, AllThrough, edge-along, lies, lying-ends, level-same_point, Span, AreAlone, IsInSpan, IsNarrower, span-between, PartsOn, AreThroughEnds, cross-turned, SameDirection-turned}
 use Rattle.law_sphere.proofs.Compare.{normals-same}
 use Rattle.nef_complex.specs.declared.complex.Vertex.{Vertex}
 use Rattle.nef_complex.proofs.Rising.{BeginFrom}
 use Rattle.nef_conn.proofs.Lexical.{normal-below}
+use Rattle.law_near.proofs.PointOrder.{point_below-one_way}
+use Rattle.law_near.proofs.Normals.{normal-kept, toward-normal}
+use Rattle.nef_space.proofs.Elementary.{same-itself}
 
 -- a point strictly between two others comes between them
 pub between-order : (p y q : SpacePoint) → IsPointBelow p q → IsBetween p y q → IsPointBelow p y × IsPointBelow y q
@@ -33,12 +36,9 @@ module _ (s : Set) (c : Complex) (S : Shows s (complex_of c)) (k : ℕ) (e : Edg
   pub edge-parted : (h : Form) (y : SpacePoint) (n : ℕ) → PartsOn c.vertices h y n → form_at h low ≡ pos 0 → form_at h high ≡ pos 0 → IsEdgePoint (complex_of c) k y → (e.low < n) × (n ≤ e.high)
   edge-parted h y n P f g x =
       let b = edge-order y y (same-itself y) x in (
-        ⊎_elim (λ m. m) (λ m. absurd (never low y b.0 (P.after e.low u m i f))) (cases_lt e.low n),
-        ⊎_elim (λ m. absurd (never y high b.1 (P.before e.high v m j g))) (λ m. m) (cases_lt e.high n),
+        ⊎_elim (λ m. m) (λ m. absurd (point_below-one_way low y b.0 (P.after e.low u m i f))) (cases_lt e.low n),
+        ⊎_elim (λ m. absurd (point_below-one_way y high b.1 (P.before e.high v m j g))) (λ m. m) (cases_lt e.high n),
       )
-    where
-      never : (a b : SpacePoint) → IsPointBelow a b → IsPointBelow b a → ⊥
-      never a b g h = point_below-apart a a (point_below-trans a b a g h) (same-itself a)
 
   -- and a point of the edge's line that comes between its ends lies on the edge
   pub line-edge : (y : SpacePoint) → IsPointBelow low y → IsPointBelow y high → AllThrough c.carriers low high y → IsEdgePoint (complex_of c) k y
@@ -96,7 +96,7 @@ module _ (s : Set) (c : Complex) (S : Shows s (complex_of c)) (k : ℕ) (e : Edg
 -- such a point is no vertex
 pub parts-off : (c : Complex) (h : Form) (y : SpacePoint) (n : ℕ) → form_at h y ≡ pos 0 → PartsOn c.vertices h y n → (k : ℕ) → IsVertexPoint (complex_of c) k y → ⊥
 parts-off c h y n on P k (x, a, e) =
-    let l = lies c h k x a (level-same h y x.point (same-point_sym x.point y e) on) in
+    let l = lies c h k x a (level-same_point h y x.point (same-point_sym x.point y e) on) in
     let o = vertex-same c k l.0 l.1 y (x, a, e) in
     ⊎_elim
     (λ m. point_below-apart (point_of l.0.point) y (P.before k l.0 m l.1 l.2) o)

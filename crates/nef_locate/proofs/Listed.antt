@@ -1,5 +1,5 @@
 -- The plane of a facet point is that of an item, and the vertices and edges of a plane on which a point lies are listed.
-use Rattle.nef_locate.proofs.Prelude.{◌≡◌, ℕ, List, pos, sym, subst, IsAt, SpacePoint, Form, form_at, normal_of, Set, Vector, dot, opposite, IsDirection, SameDirection, plane_axis, form_of, Plane, same-point_sym, Item, arc_item, items, item_normal, at-arc, is-at_one, normal-direction, is-at_map, Vertex as PlainVertex, Corner, IsFlatIn, PlaneMeet, meets_vertex, meets_edge, Meets, IsVertexPoint, IsEdgePoint, IsCornerAt, facet-behind, axis-in, plane-ahead, Complex, vertex_of, complex_of, ShowsSet, HasItemIn, LiesOn, EdgeLiesIn, AreNumbersWith, lies, edge-lies, level-same}
+use Rattle.nef_locate.proofs.Prelude.{◌≡◌, ℕ, List, pos, sym, subst, IsAt, SpacePoint, Form, form_at, normal_of, Set, Vector, dot, opposite, IsDirection, SameDirection, plane_axis, form_of, Plane, same-point_sym, Item, arc_item, items, item_normal, at-arc, is-at_one, normal-direction, is-at_map, Vertex as PlainVertex, Corner, IsFlatIn, PlaneMeet, meets_vertex, meets_edge, Meets, IsVertexPoint, IsEdgePoint, IsCornerAt, facet-behind, axis-in, plane-ahead, Complex, vertex_of, complex_of, ShowsSet, HasItemIn, EdgeLiesIn, AreNumbersWith, lies, edge-lies, level-same_point}
 use Rattle.law_complex.specs.Complexes.{Edge as PlainEdge, Complex as PlainComplex}
 
 module _ (s : Set) (c : Complex) (S : ShowsSet s c) (h : Plane) (y : SpacePoint) (on : form_at (form_of h) y ≡ pos 0) (F : IsFlatIn s (form_of h) y) where
@@ -24,7 +24,7 @@ module _ (s : Set) (c : Complex) (S : ShowsSet s c) (h : Plane) (y : SpacePoint)
   at-meet : (m : PlaneMeet) (q : SpacePoint) (f : Vector) → Meets C (form_of h) m q → form_at (form_of h) q ≡ pos 0 → (k : Corner) → IsCornerAt C (form_of h) f m k → HasItemIn c.vertices (form_of h)
   at-meet (meets_vertex i) q f (v, a, e) o k (u, x, p, K, w, t) =
       let r = is-at_one C.vertices i v u a (subst (λ j. IsAt C.vertices j u) p K.vertex) in
-      has-item k.vertex k.item u x K.vertex K.item (subst (λ (z : PlainVertex). form_at (form_of h) z.point ≡ pos 0) r (level-same (form_of h) q v.point (same-point_sym v.point q e) o)) w
+      has-item k.vertex k.item u x K.vertex K.item (subst (λ (z : PlainVertex). form_at (form_of h) z.point ≡ pos 0) r (level-same_point (form_of h) q v.point (same-point_sym v.point q e) o)) w
   at-meet (meets_edge i) q f (I, (e, v, z, a, H, l, m)) o k (g, u, b, a2, p, K, t, w, side) =
       let same = is-at_one C.edges i e g a a2 in
       let r = is-at_one C.vertices g.low v u (subst (λ (x : PlainEdge). IsAt C.vertices x.low v) same H.low) K in

@@ -1,5 +1,5 @@
 -- The numbers of the sides that see the upward direction, or bound the sector of a svertex in which it lies.
-use Rattle.nef_locate.proofs.Prelude.{◌≡◌, ℕ, zero, suc, ◌<◌, ℤ, pos, negsuc, ◌<ℤ◌, arith, refl, ap, sym, ◌∙◌, length, Bool, true, false, Some, slice_get, subst, ints, length-map, Vector, IsDirection, SameDirection, dot, cross, triple, up, vector_of, sign_of, Sign, Plus, Label, IsAt, MapVertex, Arc, Map, Item, arc_item, items, OnItem, IsFree, item_pos, item_neg, Side, around_svertex, pos_item, neg_item, HasSide, dir_of, BoundsSector, at-arc, on-level, is-at_one, dir-at, SArc, SVertex, SphereMap, map_of, svertex_of, arc_of, IsSphereMap, IsSide, side_number, arounds_before, is-at_within, is-at_some, side-number, IsLastArc, IsNoArc, dot-comm, cross-turned}
+use Rattle.nef_locate.proofs.Prelude.{◌≡◌, ℕ, ◌<◌, ℤ, pos, ◌<ℤ◌, arith, refl, ap, sym, ◌∙◌, length, Bool, true, false, Some, slice_get, subst, ints, length-map, Vector, IsDirection, SameDirection, dot, cross, triple, up, vector_of, sign_of, Sign, Label, IsAt, MapVertex, Arc, Map, Item, arc_item, items, OnItem, IsFree, item_pos, item_neg, Side, around_svertex, pos_item, neg_item, HasSide, dir_of, BoundsSector, at-arc, on-level, is-at_one, dir-at, SArc, SVertex, SphereMap, map_of, svertex_of, arc_of, IsSphereMap, IsSide, side_number, arounds_before, is-at_within, is-at_some, side-number, IsLastArc, IsNoArc, dot-comm, cross-turned}
 use Rattle.nef_geo.proofs.InPlane.{up-direction}
 use Rattle.nef_smap.proofs.Upward.{map-ahead, map-across}
 use Rattle.nef_locate.proofs.Marks.{image-read}
@@ -80,8 +80,3 @@ module _ (m : SphereMap) where
       let w = dir-at (map_of m).svertices s (svertex_of u) (image-read svertex_of m.svertices s u f) in
       let y = is-at_one (map_of m).arcs i (arc_of b) x (image-read arc_of m.arcs i b g) h in
       e ∙ ap (λ (v : Vector). sign_of (triple v (vector_of b.normal) n)) (sym w) ∙ ap (λ (z : Arc). sign_of (triple (dir_of (map_of m).svertices s) z.normal n)) y
-
-pub plus-turn : (z : ℤ) → Plus ≡ sign_of z → pos 0 <ℤ z
-plus-turn (pos zero) e = cc
-plus-turn (pos (suc n)) e = omega (arith, ints)
-plus-turn (negsuc n) e = cc

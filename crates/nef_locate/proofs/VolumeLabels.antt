@@ -1,7 +1,8 @@
 -- A point that has a side has the side's label.
-use Rattle.nef_locate.proofs.Prelude.{◌≡◌, ℕ, arith, ap, sym, ◌∙◌, subst, ints, sign-plus, HasLabel, Germ, FlatDim, SpacePoint, SamePoint, toward, Set, SameDirection, dot, opposite, up, Label, point-toward, label_of, Germ-unique, Germ-same, IsAt, item_normal, item_pos, item_mark, item_neg, seen, Side, HasSide, by_side, is-at_one, bounds-sees, is-at_map, IsSmall, Vertex as PlainVertex, Spot, at_vertex, on_edge, in_facet, IsSpot, IsSkeletonPoint, IsAbove, HasVolumeSide, same-itself, from_opposite, opposites-same, facet-at, facet-of, spot-toward, free-way, free-flat, Complex, vertex_of, complex_of, ShowsSet, vector-same, dir-self, direction-left}
+use Rattle.nef_locate.proofs.Prelude.{◌≡◌, ℕ, arith, ap, sym, ◌∙◌, subst, ints, sign-plus, HasLabel, Germ, FlatDim, SpacePoint, SamePoint, toward, Set, SameDirection, dot, opposite, up, Label, point-toward, label_of, Germ-unique, Germ-same, IsAt, item_normal, item_pos, item_mark, item_neg, seen, Side, HasSide, by_side, is-at_one, bounds-sees, is-at_map, IsSmall, Vertex as PlainVertex, Spot, at_vertex, on_edge, in_facet, IsSpot, IsSkeletonPoint, IsAbove, HasVolumeSide, from_opposite, opposites-same, facet-at, facet-of, spot-toward, free-way, free-flat, Complex, vertex_of, complex_of, ShowsSet, vector-same, dir-self, direction-left}
 use Rattle.nef_smap.proofs.Upward.{normal-ahead}
 use Rattle.nef_locate.proofs.Cones.{corner-labels}
+use Rattle.nef_space.proofs.Elementary.{same-itself}
 
 module _ (s : Set) (c : Complex) (S : ShowsSet s c) where
   -- off the skeleton all directions are flat

@@ -3,11 +3,9 @@ use Rattle.nef_locate.proofs.Prelude.{◌≡◌, ℕ, ◌+◌, ◌*◌, ◌≤�
 use Rattle.law_complex.specs.Spans.{IsJustAbove, IsCloseAbove}
 use Rattle.law_complex.proofs.Spans.{stays-close}
 use Rattle.nef_index.specs.declared.spans.Bounds.{Bounds}
-use Rattle.law_near.proofs.PointOrder.{weight}
+use Rattle.nef_space.proofs.Elementary.{weight-positive, times-exchange}
 
 -- ---- of one point above another
-exchange : (a v w : ℤ) → a *ℤ v *ℤ w ≡ a *ℤ w *ℤ v
-exchange a v w = ring (a ∷ v ∷ w ∷ []) (at 0 ⊗ at 1 ⊗ at 2) (at 0 ⊗ at 2 ⊗ at 1) tt
 
 some : (p : SpacePoint) → pos 0 ≤ℤ pos p.w
 some p = omega (arith, ints)
@@ -15,14 +13,14 @@ some p = omega (arith, ints)
 low-rises : (c : Coordinate) (low : ℤ) (p q : SpacePoint) → (coordinate_of c p *ℤ pos q.w) ≤ℤ (coordinate_of c q *ℤ pos p.w) → (low *ℤ pos p.w) ≤ℤ coordinate_of c p → (low *ℤ pos q.w) ≤ℤ coordinate_of c q
 low-rises c low p q e l =
     let m = mul_le_right (low *ℤ pos p.w) (coordinate_of c p) (pos q.w) (some q) l in
-    let f = exchange low (pos p.w) (pos q.w) in
-    cancel_le (low *ℤ pos q.w) (coordinate_of c q) (pos p.w) (weight p) (omega (arith, ints, e))
+    let f = times-exchange low (pos p.w) (pos q.w) in
+    cancel_le (low *ℤ pos q.w) (coordinate_of c q) (pos p.w) (weight-positive p) (omega (arith, ints, e))
 
 high-falls : (c : Coordinate) (high : ℤ) (p q : SpacePoint) → (coordinate_of c q *ℤ pos p.w) ≤ℤ (coordinate_of c p *ℤ pos q.w) → coordinate_of c p ≤ℤ (high *ℤ pos p.w) → coordinate_of c q ≤ℤ (high *ℤ pos q.w)
 high-falls c high p q e l =
     let m = mul_le_right (coordinate_of c p) (high *ℤ pos p.w) (pos q.w) (some q) l in
-    let f = exchange high (pos p.w) (pos q.w) in
-    cancel_le (coordinate_of c q) (high *ℤ pos q.w) (pos p.w) (weight p) (omega (arith, ints, e))
+    let f = times-exchange high (pos p.w) (pos q.w) in
+    cancel_le (coordinate_of c q) (high *ℤ pos q.w) (pos p.w) (weight-positive p) (omega (arith, ints, e))
 
 -- ---- of points of the frame
 at-most-side : (c : Coordinate) (high : ℤ) (q : SpacePoint) → high ≡ pos half_side → nat_abs (coordinate_of c q) ≤ half_side * q.w → coordinate_of c q ≤ℤ (high *ℤ pos q.w)
@@ -49,7 +47,7 @@ within-above n c b r p q e f j i =
     let h = mul_le_right (coordinate_of c p) (b.high *ℤ pos p.w) (pos q.w) (some q) i.1 in
     let s : (b.high +ℤ pos 1) *ℤ pos q.w *ℤ pos p.w ≡ b.high *ℤ pos p.w *ℤ pos q.w +ℤ pos p.w *ℤ pos q.w = ring (b.high ∷ pos p.w ∷ pos q.w ∷ []) ((at 0 ⊕ num (pos 1)) ⊗ at 2 ⊗ at 1) (at 0 ⊗ at 1 ⊗ at 2 ⊕ at 1 ⊗ at 2) tt in (
       subst (λ (r : ℤ). (r *ℤ pos q.w) ≤ℤ coordinate_of c q) (sym e) (low-rises c b.low p q (let a = j.0 in omega (arith, ints)) i.0),
-      subst (λ (r : ℤ). coordinate_of c q ≤ℤ (r *ℤ pos q.w)) (sym f) (cancel_le (coordinate_of c q) ((b.high +ℤ pos 1) *ℤ pos q.w) (pos p.w) (weight p) (omega (arith, ints))),
+      subst (λ (r : ℤ). coordinate_of c q ≤ℤ (r *ℤ pos q.w)) (sym f) (cancel_le (coordinate_of c q) ((b.high +ℤ pos 1) *ℤ pos q.w) (pos p.w) (weight-positive p) (omega (arith, ints))),
     )
 
 within-below : (n : ℕ) (c : Coordinate) (b r : Bounds) (p q : SpacePoint) → r.low ≡ b.low -ℤ pos 1 → r.high ≡ b.high → IsJustAbove (n + 1) (coordinate_of c q) q.w (coordinate_of c p) p.w → IsWithin c b.low b.high p → IsWithin c r.low r.high q
@@ -58,7 +56,7 @@ within-below n c b r p q e f j i =
     let l = mul_le_right (b.low *ℤ pos p.w) (coordinate_of c p) (pos q.w) (some q) i.0 in
     let m : pos q.w *ℤ pos p.w ≡ pos p.w *ℤ pos q.w = ring (pos p.w ∷ pos q.w ∷ []) (at 1 ⊗ at 0) (at 0 ⊗ at 1) tt in
     let s : (b.low -ℤ pos 1) *ℤ pos q.w *ℤ pos p.w ≡ b.low *ℤ pos p.w *ℤ pos q.w -ℤ pos p.w *ℤ pos q.w = ring (b.low ∷ pos p.w ∷ pos q.w ∷ []) ((at 0 ⊖ num (pos 1)) ⊗ at 2 ⊗ at 1) (at 0 ⊗ at 1 ⊗ at 2 ⊖ at 1 ⊗ at 2) tt in (
-      subst (λ (r : ℤ). (r *ℤ pos q.w) ≤ℤ coordinate_of c q) (sym e) (cancel_le ((b.low -ℤ pos 1) *ℤ pos q.w) (coordinate_of c q) (pos p.w) (weight p) (omega (arith, ints))),
+      subst (λ (r : ℤ). (r *ℤ pos q.w) ≤ℤ coordinate_of c q) (sym e) (cancel_le ((b.low -ℤ pos 1) *ℤ pos q.w) (coordinate_of c q) (pos p.w) (weight-positive p) (omega (arith, ints))),
       subst (λ (r : ℤ). coordinate_of c q ≤ℤ (r *ℤ pos q.w)) (sym f) (high-falls c b.high p q (let a = j.0 in omega (arith, ints)) i.1),
     )
 
@@ -77,11 +75,11 @@ inside-above n c b r p q e f j i =
     let a = j.0 in
     let k = close n (coordinate_of c p) p.w (coordinate_of c q) q.w j in
     let l = mul_le_right (b.low *ℤ pos p.w) (coordinate_of c p) (pos q.w) (some q) i.0 in
-    let x = exchange b.low (pos p.w) (pos q.w) in
+    let x = times-exchange b.low (pos p.w) (pos q.w) in
     let h = mul_le_right (coordinate_of c p) (b.high *ℤ pos p.w) (pos q.w) (some q) i.1 in
     let s : (b.high +ℤ pos 1) *ℤ pos q.w *ℤ pos p.w ≡ b.high *ℤ pos p.w *ℤ pos q.w +ℤ pos p.w *ℤ pos q.w = ring (b.high ∷ pos p.w ∷ pos q.w ∷ []) ((at 0 ⊕ num (pos 1)) ⊗ at 2 ⊗ at 1) (at 0 ⊗ at 1 ⊗ at 2 ⊕ at 1 ⊗ at 2) tt in (
-      subst (λ (r : ℤ). (r *ℤ pos q.w) <ℤ coordinate_of c q) (sym e) (cancel_lt (b.low *ℤ pos q.w) (coordinate_of c q) (pos p.w) (weight p) (omega (arith, ints))),
-      subst (λ (r : ℤ). coordinate_of c q <ℤ (r *ℤ pos q.w)) (sym f) (cancel_lt (coordinate_of c q) ((b.high +ℤ pos 1) *ℤ pos q.w) (pos p.w) (weight p) (omega (arith, ints))),
+      subst (λ (r : ℤ). (r *ℤ pos q.w) <ℤ coordinate_of c q) (sym e) (cancel_lt (b.low *ℤ pos q.w) (coordinate_of c q) (pos p.w) (weight-positive p) (omega (arith, ints))),
+      subst (λ (r : ℤ). coordinate_of c q <ℤ (r *ℤ pos q.w)) (sym f) (cancel_lt (coordinate_of c q) ((b.high +ℤ pos 1) *ℤ pos q.w) (pos p.w) (weight-positive p) (omega (arith, ints))),
     )
 
 inside-below : (n : ℕ) (c : Coordinate) (b r : Bounds) (p q : SpacePoint) → r.low ≡ b.low -ℤ pos 1 → r.high ≡ b.high → IsJustAbove (n + 2) (coordinate_of c q) q.w (coordinate_of c p) p.w → IsWithin c b.low b.high p → IsInsideBounds c r q
@@ -92,16 +90,16 @@ inside-below n c b r p q e f j i =
     let m : pos q.w *ℤ pos p.w ≡ pos p.w *ℤ pos q.w = ring (pos p.w ∷ pos q.w ∷ []) (at 1 ⊗ at 0) (at 0 ⊗ at 1) tt in
     let s : (b.low -ℤ pos 1) *ℤ pos q.w *ℤ pos p.w ≡ b.low *ℤ pos p.w *ℤ pos q.w -ℤ pos p.w *ℤ pos q.w = ring (b.low ∷ pos p.w ∷ pos q.w ∷ []) ((at 0 ⊖ num (pos 1)) ⊗ at 2 ⊗ at 1) (at 0 ⊗ at 1 ⊗ at 2 ⊖ at 1 ⊗ at 2) tt in
     let h = mul_le_right (coordinate_of c p) (b.high *ℤ pos p.w) (pos q.w) (some q) i.1 in
-    let x = exchange b.high (pos p.w) (pos q.w) in (
-      subst (λ (r : ℤ). (r *ℤ pos q.w) <ℤ coordinate_of c q) (sym e) (cancel_lt ((b.low -ℤ pos 1) *ℤ pos q.w) (coordinate_of c q) (pos p.w) (weight p) (omega (arith, ints))),
-      subst (λ (r : ℤ). coordinate_of c q <ℤ (r *ℤ pos q.w)) (sym f) (cancel_lt (coordinate_of c q) (b.high *ℤ pos q.w) (pos p.w) (weight p) (omega (arith, ints))),
+    let x = times-exchange b.high (pos p.w) (pos q.w) in (
+      subst (λ (r : ℤ). (r *ℤ pos q.w) <ℤ coordinate_of c q) (sym e) (cancel_lt ((b.low -ℤ pos 1) *ℤ pos q.w) (coordinate_of c q) (pos p.w) (weight-positive p) (omega (arith, ints))),
+      subst (λ (r : ℤ). coordinate_of c q <ℤ (r *ℤ pos q.w)) (sym f) (cancel_lt (coordinate_of c q) (b.high *ℤ pos q.w) (pos p.w) (weight-positive p) (omega (arith, ints))),
     )
 
 -- what lies strictly within the one bounds and within the others lies within both
 reaches : (c : Coordinate) (b a : Bounds) (q : SpacePoint) → IsInsideBounds c b q → IsWithin c a.low a.high q → (a.low <ℤ b.high) × (b.low <ℤ a.high)
 reaches c b a q i j =
     let k = i.0 in let l = i.1 in let m = j.0 in let n = j.1 in
-    (cancel_lt a.low b.high (pos q.w) (weight q) (omega (arith, ints)), cancel_lt b.low a.high (pos q.w) (weight q) (omega (arith, ints)))
+    (cancel_lt a.low b.high (pos q.w) (weight-positive q) (omega (arith, ints)), cancel_lt b.low a.high (pos q.w) (weight-positive q) (omega (arith, ints)))
 
 pub reaches-y : (w s : Span) (q : SpacePoint) → IsAmidWindow w q → IsInSpan s q → (s.y.low <ℤ w.y.high) × (w.y.low <ℤ s.y.high)
 reaches-y w s q A I = reaches coordinate_y w.y s.y q A.0 I.1

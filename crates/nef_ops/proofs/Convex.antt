@@ -1,5 +1,5 @@
 -- Between two points past an end of a coordinate, and of the open frame, lie such points alone.
-use Rattle.nef_ops.proofs.Prelude.{◌≡◌, ℕ, ◌*◌, ◌<◌, ℤ, pos, neg_ℤ, ◌+ℤ◌, ◌-ℤ◌, ◌*ℤ◌, ◌<ℤ◌, nat_abs, arith, [], ◌∷◌, ints, given, none, follows, mul_pos, cancel_lt, at, num, ◌⊕◌, ◌⊖◌, ◌⊗◌, half_side, SpacePoint, InFrame, InClosedFrame, IsBetween, mixed-of}
+use Rattle.nef_ops.proofs.Prelude.{◌≡◌, ℕ, ◌*◌, ◌<◌, ℤ, pos, neg_ℤ, ◌+ℤ◌, ◌-ℤ◌, ◌*ℤ◌, ◌<ℤ◌, nat_abs, arith, [], ◌∷◌, ints, given, none, follows, mul_pos, cancel_lt, at, num, ◌⊕◌, ◌⊖◌, ◌⊗◌, half_side, SpacePoint, InFrame, IsBetween, mixed-of}
 
 -- k c = i a + j b and k w = i u + j v, and a and b lie below e times u and v
 pub below-mixed : (k i j : ℕ) (c a b w u v e : ℤ) → 0 < k → 0 < i → 0 < j → pos k *ℤ c ≡ pos i *ℤ a +ℤ pos j *ℤ b → pos k *ℤ w ≡ pos i *ℤ u +ℤ pos j *ℤ v
@@ -43,6 +43,3 @@ frame-between p r q b i j =
       along_y = within-mixed m.k m.i m.j r.y p.y q.y r.w p.w q.w m.some_k m.some_i m.some_j s.is_y s.is_w i.along_y j.along_y;
       along_z = within-mixed m.k m.i m.j r.z p.z q.z r.w p.w q.w m.some_k m.some_i m.some_j s.is_z s.is_w i.along_z j.along_z;
     }
-
-pub frame-closed : (p : SpacePoint) → InFrame p → InClosedFrame p
-frame-closed p i = record { along_x = (let h = i.along_x in omega arith); along_y = (let h = i.along_y in omega arith); along_z = (let h = i.along_z in omega arith) }

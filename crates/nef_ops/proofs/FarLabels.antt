@@ -1,8 +1,9 @@
 -- The points past one side of a span of the skeleton, within the open frame, are convex; so between two of them there is nothing of the skeleton, and the set looks the same at both.
-use Rattle.nef_ops.proofs.Prelude.{FitsSigned, w64, to_z, of_z, to_z-of_z, IsSkeletonPoint, complex_of, ◌≡◌, ℕ, zero, suc, ◌+◌, ◌<◌, List, [], ◌∷◌, ℤ, pos, ◌+ℤ◌, ◌*ℤ◌, ◌<ℤ◌, ◌≤ℤ◌, length, arith, sym, subst, ⊎_elim, ints, mul_le_right, by_order, IsAt, HasLabel, FlatDim, SpacePoint, IsBetween, Set, Label, form_of, point_of, Plane, IsMixed, of_point, SameGerms, mixed-of, even-germs, labels-by_germs, coordinate_of, even-by, less-or-last, is-at_one, is-at_none, is-at_first, is-at_within, ShowsSet, IsSpanOn, IsInSpan, IsNarrower, Complex, Span, spanned, span-wider, volume-flat, Axis, X, Y, Z, Below, Above, SpanSide, MeetsFrame, HoldsSkeleton, axis_coordinate, IsPastEnd, IsWithinEnd, IsFar, IsUniform}
+use Rattle.nef_ops.proofs.Prelude.{FitsSigned, w64, to_z, of_z, to_z-of_z, IsSkeletonPoint, complex_of, ◌≡◌, ℕ, zero, suc, ◌+◌, ◌<◌, List, [], ◌∷◌, ℤ, pos, ◌+ℤ◌, ◌*ℤ◌, ◌<ℤ◌, ◌≤ℤ◌, length, arith, sym, subst, ⊎_elim, ints, mul_le_right, by_order, IsAt, HasLabel, FlatDim, SpacePoint, IsBetween, Set, Label, form_of, point_of, Plane, IsMixed, of_point, SameGerms, mixed-of, even-germs, labels-by_germs, coordinate_of, even-by, is-at_one, is-at_none, is-at_first, is-at_within, ShowsSet, IsSpanOn, IsInSpan, IsNarrower, Complex, Span, spanned, span-wider, volume-flat, Axis, X, Y, Z, Below, Above, SpanSide, MeetsFrame, HoldsSkeleton, axis_coordinate, IsPastEnd, IsWithinEnd, IsFar, IsUniform}
 use Rattle.nef_locate.proofs.CarrierPoints.{skeleton-carrier}
 use Rattle.nef_ops.specs.declared.regions.SpanEnd.{SpanEnd}
 use Rattle.nef_ops.proofs.Convex.{below-mixed, above-mixed, frame-between}
+use Rattle.nef_space.proofs.Elementary.{less-or-last}
 
 -- ---- the skeleton
 -- the span holds the vertices on the first n carriers that meet the open frame

@@ -1,12 +1,14 @@
 -- A vertex of an operand that is one of the result, with its map or with that of the complement.
-use Rattle.nef_ops.proofs.Prelude.{◌≡◌, refl, sym, subst, ap, List, ℕ, Bool, true, false, IsVertex, Germ, SpacePoint, SamePoint, Set, Vector, Label, Out, Not, In, point_of, FlatDim-by_germs, germ-not, germ_of, Germ-unique, IsAt, Cone, complement, exchanged_map, topology-cone, IsVertexPoint, map_of, IsLeastMap, is-at_map, map-is_at, Vertex, Complex, vertex_of, complex_of, ShowsSet, Operand, First, Second, operand_of, cone-same, moved_if, of_operand, StandsAt, IsOutcomeAt, Op, op_set, One, Input, Share, Part, AreTold, IsAsIn, IsInput, movable, kept_outcome, IsOutcomeOf, either_of, complement_if, HasShare, IsRightChoice}
+use Rattle.nef_ops.proofs.Prelude.{◌≡◌, refl, sym, subst, ap, List, ℕ, Bool, true, false, IsVertex, Germ, SpacePoint, SamePoint, Set, Vector, Label, Out, Not, In, point_of, FlatDim-by_germs, germ-not, germ_of, Germ-unique, IsAt, Cone, complement, exchanged_map, topology-cone, IsVertexPoint, map_of, IsLeastMap, is-at_map, map-is_at, Vertex, Complex, vertex_of, complex_of, ShowsSet, Operand, First, Second, operand_of, moved_if, of_operand, StandsAt, IsOutcomeAt, Op, op_set, One, Input, Share, Part, AreTold, IsAsIn, IsInput, movable, kept_outcome, IsOutcomeOf, either_of, complement_if, HasShare, IsRightChoice}
 use Rattle.law_near.specs.Cones.{label_not}
 use Rattle.law_sphere.proofs.border.ExchangedLabels.{exchanged-laws}
 use Rattle.law_complex.specs.Complexes.{Vertex as PlainVertex}
-use Rattle.nef_result.proofs.Vertices.{vertex-flat, flat-vertex, vertex-same}
+use Rattle.nef_result.proofs.Vertices.{vertex-flat, flat-vertex}
 use Rattle.nef_ops.specs.declared.operations.UnaryOp.TheVariants as unary
 use Rattle.nef_ops.proofs.ByShare.{share-part, shown-one}
 use Rattle.nef_ops.proofs.OneSet.{unary-vertex}
+use Rattle.law_near.proofs.Same.{IsVertex-same}
+use Rattle.law_sphere.proofs.Dimensions.{cone-same}
 
 -- ---- the complement
 label-twice : (l : Label) → label_not (label_not l) ≡ l
@@ -40,7 +42,7 @@ module _ (c : Complex) (k : ℕ) (y : SpacePoint) (r s : Set) (S : ShowsSet s c)
   cone = cone-same (map_of here.0.map) s (point_of here.0.point) y here.1.1 (S.shows.cones k (vertex_of here.0) plain)
 
   vertex-here : IsVertex s y
-  vertex-here = vertex-same s (point_of here.0.point) y here.1.1 (S.shows.vertices k (vertex_of here.0) plain)
+  vertex-here = IsVertex-same s (point_of here.0.point) y here.1.1 (S.shows.vertices k (vertex_of here.0) plain)
 
   module _ (us vs : List Vertex) (o : Operand) (is : of_operand o us vs ≡ c.vertices) where
     stands : StandsAt (of_operand o us vs) k here.0 y

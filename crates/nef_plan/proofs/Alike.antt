@@ -1,10 +1,11 @@
 -- Which expressions are alike: those of alike operands, and those that group the operands of a row in another way.
-use Rattle.nef_plan.proofs.Prelude.{◌≡◌, ℕ, refl, sym, ⊎_elim, List, ◌++◌, subst, append_assoc, ◌↔◌, HasLabel, SameSet, InFrame, SpacePoint, Form, Closure, Interior, Set, halves, Lies, Label, Out, Not, In, lies-left, lies-right, label_and, label_or, label_less, label_one_of, turned_set, AreAlike}
+use Rattle.nef_plan.proofs.Prelude.{◌≡◌, ℕ, refl, sym, ⊎_elim, List, ◌++◌, subst, append_assoc, ◌↔◌, HasLabel, SameSet, SpacePoint, Form, Set, halves, Lies, Label, Out, Not, In, lies-left, lies-right, label_and, label_or, label_less, label_one_of, turned_set, AreAlike}
 use Rattle.nef_space.specs.Sets.{Holds}
 use Rattle.nef_space.proofs.Lists.{lies-append}
-use Rattle.law_near.proofs.Combine.{ByLabels, and-label, or-label, less-label, one_of-label}
+use Rattle.law_near.proofs.Combine.{ByLabels, or-label, less-label, one_of-label}
 use Rattle.law_near.proofs.Decided.{label_of}
 use Rattle.law_near.proofs.Germs.{label-one}
+use Rattle.law_near.proofs.SameSets.{same-border, same-both, same-closed, same-either, same-inside, same-less, same-one_of, same-other, same-regular}
 use Rattle.law_turns.proofs.Carriers.{halves-from, halves-there}
 use Rattle.law_turns.proofs.Meaning.{same_set-turned}
 
@@ -40,12 +41,6 @@ empty-label a p Not h = (h.0, λ n. n)
 empty-label a p In h = (h.0, λ n. n)
 
 module _ (node : Set → Set → Set) (op : Label → Label → Label) (by : ByLabels node op) where
-  same-node : (a a' b b' : Set) → SameSet a a' → SameSet b b' → SameSet (node a b) (node a' b')
-  same-node a a' b b' f g = one-label (node a b) (node a' b') (λ p.
-      let (l, h) = label_of a p in
-      let (m, i) = label_of b p in
-      (op l m, op l m, by a b p l m h i, by a' b' p l m ((f p l).0 h) ((g p m).0 i), refl))
-
   same-grouped : ((l m k : Label) → op (op l m) k ≡ op l (op m k)) → (a b c : Set) → SameSet (node (node a b) c) (node a (node b c))
   same-grouped table a b c = one-label (node (node a b) c) (node a (node b c)) (λ p.
       let (l, h) = label_of a p in
@@ -74,64 +69,32 @@ planes-grouped a b c f =
 
 -- ---- alike operands make alike sets
 pub both-alike : (a a' b b' : Set) → AreAlike a a' → AreAlike b b' → AreAlike (Set.both a b) (Set.both a' b')
-both-alike a a' b b' s t = record { same = same-node Set.both label_and and-label a a' b b' s.same t.same; planes = planes-both a a' b b' s t }
+both-alike a a' b b' s t = record { same = same-both a b a' b' s.same t.same; planes = planes-both a a' b b' s t }
 
 pub either-alike : (a a' b b' : Set) → AreAlike a a' → AreAlike b b' → AreAlike (Set.either a b) (Set.either a' b')
-either-alike a a' b b' s t = record { same = same-node Set.either label_or or-label a a' b b' s.same t.same; planes = planes-both a a' b b' s t }
+either-alike a a' b b' s t = record { same = same-either a b a' b' s.same t.same; planes = planes-both a a' b b' s t }
 
 pub one_of-alike : (a a' b b' : Set) → AreAlike a a' → AreAlike b b' → AreAlike (Set.one_of a b) (Set.one_of a' b')
-one_of-alike a a' b b' s t = record { same = same-node Set.one_of label_one_of one_of-label a a' b b' s.same t.same; planes = planes-both a a' b b' s t }
+one_of-alike a a' b b' s t = record { same = same-one_of a b a' b' s.same t.same; planes = planes-both a a' b b' s t }
 
 pub less-alike : (a a' b b' : Set) → AreAlike a a' → AreAlike b b' → AreAlike (Set.less a b) (Set.less a' b')
-less-alike a a' b b' s t = record { same = same-node Set.less label_less less-label a a' b b' s.same t.same; planes = planes-both a a' b b' s t }
-
--- ---- sets that hold at the same points of the frame are the same
-same-held : (s t : Set) → ((p : SpacePoint) → InFrame p → Holds s p ↔ Holds t p) → SameSet s t
-same-held s t h p Out = (λ i. i, λ i. i)
-same-held s t h p Not = (λ i. (i.0, λ k. i.1 ((h p i.0).1 k)), λ i. (i.0, λ k. i.1 ((h p i.0).0 k)))
-same-held s t h p In = (λ i. (i.0, (h p i.0).0 i.1), λ i. (i.0, (h p i.0).1 i.1))
+less-alike a a' b b' s t = record { same = same-less a b a' b' s.same t.same; planes = planes-both a a' b b' s t }
 
 module _ (a c : Set) (f : AreAlike a c) where
-  held : (p : SpacePoint) → InFrame p → Holds a p ↔ Holds c p
-  held p i = (λ k. ((f.same p In).0 (i, k)).1, λ k. ((f.same p In).1 (i, k)).1)
-
-  interior : (p : SpacePoint) → Interior (Holds a) p ↔ Interior (Holds c) p
-  interior p = (λ (n, some, h). (n, some, λ q i w. (held q i).0 (h q i w)), λ (n, some, h). (n, some, λ q i w. (held q i).1 (h q i w)))
-
-  closure : (p : SpacePoint) → Closure (Holds a) p ↔ Closure (Holds c) p
-  closure p = (
-    λ h n some. let r = h n some in (r.0, r.1, r.2, (held r.0 r.1).0 r.3),
-    λ h n some. let r = h n some in (r.0, r.1, r.2, (held r.0 r.1).1 r.3),
-  )
-
   pub other-alike : AreAlike (Set.other a) (Set.other c)
-  unfolding Holds
-  other-alike = record { same = same-held (Set.other a) (Set.other c) (λ p i. (λ h k. h ((held p i).1 k), λ h k. h ((held p i).0 k))); planes = f.planes }
+  other-alike = record { same = same-other a c f.same; planes = f.planes }
 
   pub inside-alike : AreAlike (Set.inside a) (Set.inside c)
-  unfolding Holds
-  inside-alike = record { same = same-held (Set.inside a) (Set.inside c) (λ p i. interior p); planes = f.planes }
+  inside-alike = record { same = same-inside a c f.same; planes = f.planes }
 
   pub closed-alike : AreAlike (Set.closed a) (Set.closed c)
-  unfolding Holds
-  closed-alike = record { same = same-held (Set.closed a) (Set.closed c) (λ p i. closure p); planes = f.planes }
+  closed-alike = record { same = same-closed a c f.same; planes = f.planes }
 
   pub border-alike : AreAlike (Set.border a) (Set.border c)
-  unfolding Holds
-  border-alike = record {
-    same = same-held (Set.border a) (Set.border c) (λ p i. (λ h. ((closure p).0 h.0, λ k. h.1 ((interior p).1 k)), λ h. ((closure p).1 h.0, λ k. h.1 ((interior p).0 k))));
-    planes = f.planes;
-  }
+  border-alike = record { same = same-border a c f.same; planes = f.planes }
 
   pub regular-alike : AreAlike (Set.regular a) (Set.regular c)
-  unfolding Holds
-  regular-alike = record {
-    same = same-held (Set.regular a) (Set.regular c) (λ p i. (
-      λ h n some. let r = h n some in (r.0, r.1, r.2, (interior r.0).0 r.3),
-      λ h n some. let r = h n some in (r.0, r.1, r.2, (interior r.0).1 r.3),
-    ));
-    planes = f.planes;
-  }
+  regular-alike = record { same = same-regular a c f.same; planes = f.planes }
 
 planes-turned : (k : ℕ) (s t : Set) → AreAlike s t → (f : Form) → Lies (halves (turned_set k s)) f → Lies (halves (turned_set k t)) f
 planes-turned k s t a f l =

@@ -1,16 +1,16 @@
 -- A point is strictly between the ends of an edge, or is a vertex, exactly where all carriers see it so.
-use Rattle.nef_plane.proofs.Prelude.{◌≡◌, ℕ, ◌<◌, ℤ, pos, ◌+ℤ◌, ◌-ℤ◌, ◌*ℤ◌, ◌<ℤ◌, arith, ap, sym, ◌∙◌, ⊎_elim, subst, List, [], ◌∷◌, ints, ring, at, num, ◌⊕◌, ◌⊖◌, ◌⊗◌, mul_pos, mul_neg, by_order, nought-or, SpacePoint, Form, form_at, slope, normal_of, toward, SamePoint, IsBetween, Set, opposite, dot, cross, IsZero, IsDirection, SameDirection, form_of, point_of, sign_of, Plane, Minus, Zero, Plus, sign_of-positive, sign_of-negative, zero_sign, of_point, toward-point, slope-toward, form-sum, mixed-of, between-turned, IsAt, map-is_at, HasEnds, Shows, IsVertexPoint, IsEdgePoint, same-by, same-by-minus, cross-back, aligned, ahead-back, plane-way, Vertex, Edge, Complex, vertex_of, edge_of, complex_of, vertex-same, listed_edge, ends, apart, edge-inside, times-nought, plus-of, minus-of, SidesWith, IsAmid, AllSideWith, AreAmid, AllHold, zero-decided, vector-same, cross-turned, SameDirection-turned, SameDirection-trans}
+use Rattle.nef_plane.proofs.Prelude.{◌≡◌, ℕ, ◌<◌, ℤ, pos, ◌+ℤ◌, ◌-ℤ◌, ◌*ℤ◌, ◌<ℤ◌, arith, ap, sym, ◌∙◌, ⊎_elim, subst, List, [], ◌∷◌, ints, ring, at, num, ◌⊕◌, ◌⊖◌, ◌⊗◌, mul_pos, mul_neg, by_order, nought-or, SpacePoint, Form, form_at, slope, normal_of, toward, SamePoint, IsBetween, Set, opposite, dot, cross, IsZero, IsDirection, SameDirection, form_of, point_of, sign_of, Plane, Minus, Zero, Plus, sign_of-positive, sign_of-negative, zero_sign, of_point, toward-point, slope-toward, form-sum, mixed-of, between-turned, IsAt, map-is_at, HasEnds, Shows, IsVertexPoint, IsEdgePoint, same-by, same-by-minus, cross-back, aligned, ahead-back, plane-way, Vertex, Edge, Complex, vertex_of, edge_of, complex_of, vertex-same, listed_edge, ends, apart, edge-inside, positive-factor, plus-of, minus-of, SidesWith, IsAmid, AllSideWith, AreAmid, AllHold, zero-decided, vector-same, cross-turned, SameDirection-turned, SameDirection-trans}
 use Rattle.law_complex.specs.Complexes.{Vertex as PlainVertex}
 use Rattle.nef_plane.proofs.Crossed.{vertex-crossed, edge-along}
-use Rattle.nef_plane.proofs.Meeting.{level-same}
-use Rattle.law_near.proofs.PointOrder.{weight}
+use Rattle.nef_space.proofs.Elementary.{weight-positive, counted-positive, nought-not_positive}
+use Rattle.law_near.proofs.Same.{level-same_point}
 
 -- ---- signs
 -- a positive multiple has the sign
 multiple-sign : (k l y b : ℤ) → pos 0 <ℤ k → pos 0 <ℤ l → k *ℤ y ≡ l *ℤ b → sign_of y ≡ sign_of b
 multiple-sign k l y b i j e = by_order b (pos 0)
     (λ m. let u = mul_neg l b j m in sign_of-negative y (minus-of k y i (omega (arith, ints))) ∙ sym (sign_of-negative b m))
-    (λ o. ap sign_of (times-nought k y i (e ∙ ap (λ r. l *ℤ r) o ∙ ring (l ∷ []) (at 0 ⊗ num (pos 0)) (num (pos 0)) tt) ∙ sym o))
+    (λ o. ap sign_of (positive-factor k y i (e ∙ ap (λ r. l *ℤ r) o ∙ ring (l ∷ []) (at 0 ⊗ num (pos 0)) (num (pos 0)) tt) ∙ sym o))
     (λ m. let u = mul_pos l b j m in sign_of-positive y (plus-of k y i (omega (arith, ints))) ∙ sym (sign_of-positive b m))
 
 negative-if : (y b : ℤ) → sign_of y ≡ sign_of b → b <ℤ pos 0 → y <ℤ pos 0
@@ -38,20 +38,14 @@ positive-if y b e m = by_order y (pos 0)
 below-not : (z : ℤ) → z <ℤ pos 0 → pos 0 <ℤ z → ⊥
 below-not z m n = omega (arith, ints)
 
-nought-not : (z : ℤ) → z ≡ pos 0 → pos 0 <ℤ z → ⊥
-nought-not z m n = omega (arith, ints)
-
 -- ---- one plane
 -- what lies strictly between two points is on the side of the second, where the plane holds the first
 between-sides : (h : Form) (a b y : SpacePoint) → IsBetween a y b → SidesWith h a b y
 between-sides h a b y m e =
     let M = mixed-of a y b m in
-    multiple-sign (pos M.k) (pos M.j) (form_at h y) (form_at h b) (counted M.k M.some_k) (counted M.j M.some_j)
+    multiple-sign (pos M.k) (pos M.j) (form_at h y) (form_at h b) (counted-positive M.k M.some_k) (counted-positive M.j M.some_j)
     (form-sum h M.k (of_point y) M.i (of_point a) M.j (of_point b) M.sum ∙ ap (λ r. pos M.i *ℤ r +ℤ pos M.j *ℤ form_at h b) e
     ∙ ring (pos M.i ∷ pos M.j ∷ form_at h b ∷ []) (at 0 ⊗ num (pos 0) ⊕ at 1 ⊗ at 2) (at 1 ⊗ at 2) tt)
-  where
-    counted : (k : ℕ) → 0 < k → pos 0 <ℤ pos k
-    counted k l = omega (arith, ints)
 
 between-amid : (h : Form) (a b y : SpacePoint) → IsBetween a y b → IsAmid h a b y
 between-amid h a b y m = (between-sides h a b y m, between-sides h b a y (between-turned a b y m))
@@ -60,7 +54,7 @@ same-amid : (h : Form) (a y : SpacePoint) → SamePoint a y → IsAmid h a a y
 same-amid h a y s = (one, one)
   where
     one : SidesWith h a a y
-    one e = ap sign_of (level-same h a y s e ∙ sym e)
+    one e = ap sign_of (level-same_point h a y s e ∙ sym e)
 
 -- a point of the line through a and b, on b's side of a plane that holds a alone, lies ahead of a toward b
 side-ahead : (h : Form) (a b y : SpacePoint) → form_at h a ≡ pos 0 → sign_of (form_at h y) ≡ sign_of (form_at h b) → (slope h (toward a b) ≡ pos 0 → ⊥) → IsZero (cross (toward a y) (toward a b))
@@ -74,10 +68,10 @@ side-ahead h a b y e s n z = by_order (form_at h b) (pos 0)
     along q = slope-toward h a q ∙ ap (λ r. pos a.w *ℤ form_at h q -ℤ pos q.w *ℤ r) e ∙ ring (pos a.w ∷ pos q.w ∷ form_at h q ∷ []) (at 0 ⊗ at 2 ⊖ at 1 ⊗ num (pos 0)) (at 0 ⊗ at 2) tt
 
     below : (q : SpacePoint) → form_at h q <ℤ pos 0 → slope h (toward a q) <ℤ pos 0
-    below q m = let i = along q in let u = mul_neg (pos a.w) (form_at h q) (weight a) m in omega (arith, ints)
+    below q m = let i = along q in let u = mul_neg (pos a.w) (form_at h q) (weight-positive a) m in omega (arith, ints)
 
     above : (q : SpacePoint) → pos 0 <ℤ form_at h q → pos 0 <ℤ slope h (toward a q)
-    above q m = let i = along q in let u = mul_pos (pos a.w) (form_at h q) (weight a) m in omega (arith, ints)
+    above q m = let i = along q in let u = mul_pos (pos a.w) (form_at h q) (weight-positive a) m in omega (arith, ints)
 
 -- ---- all carriers
 module _ (s : Set) (c : Complex) (S : Shows s (complex_of c)) where
@@ -88,7 +82,7 @@ module _ (s : Set) (c : Complex) (S : Shows s (complex_of c)) where
   -- from a vertex a point of the line toward b that the carriers see between lies ahead
   vertex-ahead : (k : ℕ) (v : PlainVertex) (b y : SpacePoint) → IsAt (complex_of c).vertices k v → IsDirection (toward v.point b) → AreAmid c.carriers v.point b y → IsZero (cross (toward v.point y) (toward v.point b))
       → SameDirection (toward v.point y) (toward v.point b)
-  vertex-ahead k v b y a t A z = by_order (dot (toward v.point y) (toward v.point b)) (pos 0) (λ m. absurd (never (below-not (dot (toward v.point y) (toward v.point b)) m))) (λ o. absurd (never (nought-not (dot (toward v.point y) (toward v.point b)) o))) (λ m. record { parallel = z; forward = m })
+  vertex-ahead k v b y a t A z = by_order (dot (toward v.point y) (toward v.point b)) (pos 0) (λ m. absurd (never (below-not (dot (toward v.point y) (toward v.point b)) m))) (λ o. absurd (never (nought-not_positive (dot (toward v.point y) (toward v.point b)) o))) (λ m. record { parallel = z; forward = m })
     where
       never : (pos 0 <ℤ dot (toward v.point y) (toward v.point b) → ⊥) → ⊥
       never n = vertex-crossed s c S (toward v.point b) t k v a (λ i g l m. ⊎_elim (λ e. e) (λ f. absurd (n (side-ahead (form_of g) v.point b y m.0 ((A i g l).0 m.0) f z).forward)) (nought-or (slope (form_of g) (toward v.point b))))

@@ -1,17 +1,15 @@
 -- A direction along the axis of a plane, or along its second direction, is as small as that: it is in lowest terms, so its numbers divide those of the other.
-use Rattle.nef_plane.proofs.Prelude.{◌≡◌, ℕ, ◌<◌, ◌≤◌, ℤ, pos, negsuc, neg_ℤ, ◌*ℤ◌, ◌<ℤ◌, ◌-ℤ◌, nat_abs, List, [], ◌∷◌, arith, refl, sym, ap, ◌∙◌, subst, inl, inr, ⊎_elim, ints, le_of_dvd, ◌∣◌, ring, at, num, Poly, ◌⊕◌, ◌⊖◌, ◌⊗◌, given, none, follows, by_order, nought-or, normal_limit, IsLowest, SpacePoint, normal_of, Vector, dot, opposite, plane_axis, plane_dir, IsAtMost, SameDirection, form_of, vector_of, ray_limit, plane_dir_limit, Dir, Plane, pair_small, dir-size, times-nought, IsAlongAxis, IsAlongDir, IsWithinDirection}
+use Rattle.nef_plane.proofs.Prelude.{◌≡◌, ℕ, ◌<◌, ◌≤◌, ℤ, pos, negsuc, neg_ℤ, ◌*ℤ◌, ◌<ℤ◌, ◌-ℤ◌, nat_abs, List, [], ◌∷◌, arith, refl, sym, ap, ◌∙◌, subst, inl, inr, ⊎_elim, ints, le_of_dvd, ◌∣◌, ring, at, num, Poly, ◌⊕◌, ◌⊖◌, ◌⊗◌, given, none, follows, nought-or, normal_limit, IsLowest, SpacePoint, normal_of, Vector, dot, opposite, plane_axis, plane_dir, IsAtMost, SameDirection, form_of, vector_of, ray_limit, plane_dir_limit, Dir, Plane, pair_small, dir-size, positive-factor, IsAlongAxis, IsAlongDir, IsWithinDirection}
 use Rattle.nef_geo.proofs.Cramer.{difference}
 use Rattle.nef_geo.proofs.Euclid.{divides_same}
 use Rattle.law_complex.specs.Complexes.{Complex}
+use Rattle.nef_space.proofs.Elementary.{size-positive, nought-products}
 
 -- a number that divides another is no greater, and nought where the other is
 entry : (m n p q : ℤ) (l : ℕ) → pos 0 <ℤ p → m *ℤ p ≡ n *ℤ q → nat_abs m ∣ nat_abs n → nat_abs n ≤ l → nat_abs m ≤ l
 entry m n p q l i e d s = ⊎_elim
-    (λ z. subst (λ (r : ℤ). nat_abs r ≤ l) (sym (times-nought p m i (ring (m ∷ p ∷ []) (at 1 ⊗ at 0) (at 0 ⊗ at 1) tt ∙ e ∙ ap (λ r. r *ℤ q) z ∙ ring (q ∷ []) (num (pos 0) ⊗ at 0) (num (pos 0)) tt))) (omega arith))
-    (λ f. let k = le_of_dvd (some n f) d in omega arith) (nought-or n)
-  where
-    some : (n : ℤ) → (n ≡ pos 0 → ⊥) → 0 < nat_abs n
-    some n f = by_order n (pos 0) (λ l. omega (arith, ints)) (λ o. absurd (f o)) (λ l. omega (arith, ints))
+    (λ z. subst (λ (r : ℤ). nat_abs r ≤ l) (sym (positive-factor p m i (ring (m ∷ p ∷ []) (at 1 ⊗ at 0) (at 0 ⊗ at 1) tt ∙ e ∙ ap (λ r. r *ℤ q) z ∙ ring (q ∷ []) (num (pos 0) ⊗ at 0) (num (pos 0)) tt))) (omega arith))
+    (λ f. let k = le_of_dvd (size-positive n f) d in omega arith) (nought-or n)
 
 module _ (d : Dir) (b : Vector) (l : ℕ) (s : SameDirection (vector_of d) b) (small : IsAtMost l b) where
   abbrev a : Vector
@@ -19,9 +17,6 @@ module _ (d : Dir) (b : Vector) (l : ℕ) (s : SameDirection (vector_of d) b) (s
 
   lowest : IsLowest (a.x ∷ a.y ∷ a.z ∷ pos 0 ∷ [])
   lowest = λ k e. d.lowest k (e.0, (e.1.0, (e.1.1.0, tt)))
-
-  nothing : (n m : ℤ) → n *ℤ pos 0 ≡ pos 0 *ℤ m
-  nothing n m = omega (arith, ints)
 
   abbrev all : List ℤ
   all = a.x ∷ a.y ∷ a.z ∷ b.x ∷ b.y ∷ b.z ∷ []
@@ -63,13 +58,13 @@ module _ (d : Dir) (b : Vector) (l : ℕ) (s : SameDirection (vector_of d) b) (s
   along-small = record {
     of_x = entry a.x b.x (dot a b) (dot a a) l s.forward
         (follows all (at 0 ⊗ ab) (at 3 ⊗ aa) (given (at 1) pz (num (pos 0)) cz (given (num (negsuc 0) ⊗ at 2) py (num (pos 0)) cy none)) tt)
-        (divides_same a.x b.x a.x a.y a.z (pos 0) b.x b.y b.z (pos 0) lowest refl xy (sym zx) (nothing a.x b.x)) small.of_x;
+        (divides_same a.x b.x a.x a.y a.z (pos 0) b.x b.y b.z (pos 0) lowest refl xy (sym zx) (nought-products a.x b.x)) small.of_x;
     of_y = entry a.y b.y (dot a b) (dot a a) l s.forward
         (follows all (at 1 ⊗ ab) (at 4 ⊗ aa) (given (at 2) px (num (pos 0)) cx (given (num (negsuc 0) ⊗ at 0) pz (num (pos 0)) cz none)) tt)
-        (divides_same a.y b.y a.x a.y a.z (pos 0) b.x b.y b.z (pos 0) lowest (sym xy) refl yz (nothing a.y b.y)) small.of_y;
+        (divides_same a.y b.y a.x a.y a.z (pos 0) b.x b.y b.z (pos 0) lowest (sym xy) refl yz (nought-products a.y b.y)) small.of_y;
     of_z = entry a.z b.z (dot a b) (dot a a) l s.forward
         (follows all (at 2 ⊗ ab) (at 5 ⊗ aa) (given (at 0) py (num (pos 0)) cy (given (num (negsuc 0) ⊗ at 1) px (num (pos 0)) cx none)) tt)
-        (divides_same a.z b.z a.x a.y a.z (pos 0) b.x b.y b.z (pos 0) lowest zx (sym yz) refl (nothing a.z b.z)) small.of_z;
+        (divides_same a.z b.z a.x a.y a.z (pos 0) b.x b.y b.z (pos 0) lowest zx (sym yz) refl (nought-products a.z b.z)) small.of_z;
   }
 
 turned : (v : Vector) (l : ℕ) → IsAtMost l v → IsAtMost l (opposite v)

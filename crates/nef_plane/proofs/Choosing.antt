@@ -1,6 +1,7 @@
 -- What a meeting and a comparison answer.
-use Rattle.nef_plane.proofs.Prelude.{◌≡◌, pos, Option, Some, None, List, refl, sym, ◌∙◌, inl, inr, subst, MatchOption, IsNone, IfSome, SpacePoint, form_at, Vector, form_of, far_point, FarHit, Plane, same-itself, HoldsBoth, Encounter, far_reach_of, IsParallelToAxis, sweep_form, AreOpposite, IsHitThrough, NoneCrosses, IsMetBetween, AllHold, IsNearer, IsNotPast}
+use Rattle.nef_plane.proofs.Prelude.{◌≡◌, pos, Option, Some, None, List, refl, sym, ◌∙◌, inl, inr, subst, MatchOption, IsNone, IfSome, SpacePoint, form_at, Vector, form_of, far_point, FarHit, Plane, HoldsBoth, Encounter, far_reach_of, IsParallelToAxis, sweep_form, AreOpposite, IsHitThrough, NoneCrosses, IsMetBetween, AllHold, IsNearer, IsNotPast}
 use Rattle.nef_plane.proofs.Meeting.{met-some, met-all}
+use Rattle.nef_space.proofs.Elementary.{same-itself}
 
 pub met-answers : (o : Option FarHit) (gs : List Plane) (h : Plane) (p : SpacePoint) (d : Vector) → IsParallelToAxis (form_of h) d → form_at (form_of h) p ≡ pos 0 → (a b : SpacePoint) → HoldsBoth (form_of h) a b
     → AreOpposite (sweep_form (form_of h) p) a b → MatchOption o (NoneCrosses gs p d a b) (λ q. IsHitThrough p d a b (far_reach_of q)) → IfSome o (λ q. IsMetBetween (form_of h) p d a b (far_point q))

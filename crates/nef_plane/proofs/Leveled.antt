@@ -5,8 +5,9 @@ use Rattle.nef_plane.proofs.Axes.{axis-level, axis-some}
 use Rattle.nef_plane.proofs.Either.{by-numbers}
 use Rattle.nef_plane.proofs.Found.{vertex-none, edge-none}
 use Rattle.nef_plane.proofs.Listed.{held-vertex, lying-ends}
-use Rattle.nef_plane.proofs.Meeting.{ahead-kept, level-same}
+use Rattle.nef_plane.proofs.Meeting.{ahead-kept}
 use Rattle.nef_plane.proofs.Ordered.{later-past, later-from}
+use Rattle.law_near.proofs.Same.{level-same_point}
 
 -- ---- the sides
 pub minus-short : (b : Bool) (z : ℤ) → Minus ≡ sign_of z → IsTrue true ↔ IsBeforePlane b z
@@ -84,7 +85,7 @@ module _ (s : Set) (c : Complex) (S : Shows s (complex_of c)) (h : Plane) (p : S
 
   unparted-vertex : (n : ℕ) → LiesOn c.vertices (form_of h) n → IsUnparted x n n → IsMissed p d (AtVertexNumber (complex_of c) n)
   unparted-vertex n (v, l, o) f = vertex-none s c S p d (axis-some h d A) n v l
-      (λ q w e. absurd (let z = level-same line q (point_of v.point) (same-point_sym (point_of v.point) q e) (ahead-kept h p d A on q w) in
+      (λ q w e. absurd (let z = level-same_point line q (point_of v.point) (same-point_sym (point_of v.point) q e) (ahead-kept h p d A on q w) in
       ⊎_elim (λ (m, t). let y = L.before n v m l o in omega (arith, ints)) (λ (t, m). L.past n v m l o (omega (arith, ints))) f))
 
   module _ (n : ℕ) (e : Edge) (l : IsAt c.edges n e) (u v : Vertex) (i : IsAt c.vertices e.low u) (j : IsAt c.vertices e.high v) (on_u : form_at (form_of h) (point_of u.point) ≡ pos 0) (on_v : form_at (form_of h) (point_of v.point) ≡ pos 0) where

@@ -5,7 +5,8 @@ use Rattle.law_complex.specs.Skeleton.{PlaneMeet}
 use Rattle.nef_complex.specs.declared.complex.PlaneItems.{PlaneItems}
 use Rattle.nef_plane.specs.declared.first.MeetKind.{MeetKind}
 use Rattle.nef_plane.specs.declared.first.MeetKind.TheVariants.{Vertex as KindVertex, Edge as KindEdge}
-use Rattle.nef_plane.proofs.Meeting.{level-same, ahead-level}
+use Rattle.nef_plane.proofs.Meeting.{ahead-level}
+use Rattle.law_near.proofs.Same.{level-same_point}
 
 -- the vertex with a number that lies on the plane is on it
 pub held-vertex : (vs : List Vertex) (h : Form) (k : ℕ) (v : Vertex) → IsAt vs k v → LiesOn vs h k → form_at h (point_of v.point) ≡ pos 0
@@ -65,7 +66,7 @@ module _ (c : Complex) (h : Form) where
     met-lies p some (on, z) w (AtVertex k) (e, (x, l, o)) =
         let v = is-at_map vertex_of c.vertices k x l in
         let s = same-point_sym (point_of v.0.point) q (vertex-same c k v.0 v.1 q (x, l, o)) in
-        (v.0, v.1, level-same h q (point_of v.0.point) s (ahead-level h p d q w some on z))
+        (v.0, v.1, level-same_point h q (point_of v.0.point) s (ahead-level h p d q w some on z))
     met-lies p some H w (AtEdge k) x = met-serves (AtEdge k) x
 
 -- the complex has as many of a kind as there are numbers of such

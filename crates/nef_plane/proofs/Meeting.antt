@@ -1,7 +1,8 @@
 -- Where a ray along the axis of a plane meets a segment of the plane, or a point of it.
-use Rattle.nef_plane.proofs.Prelude.{◌≡◌, zero, suc, ℤ, pos, negsuc, neg_ℤ, ◌*ℤ◌, ◌<ℤ◌, List, ap, sym, ◌∙◌, arith, ◌⊎◌, inl, inr, ⊎_elim, refl, [], ◌∷◌, ints, sign, ring, at, num, ◌⊖◌, ◌⊗◌, given, none, follows_times, nought-is, nought-or, SpacePoint, Form, form_at, slope, normal_of, toward, SamePoint, IsAhead, IsBetween, Vector, dot, cross, IsZero, IsDirection, IsCrossing, form_of, sign_of, HasOppositeSigns, Plane, sign_of-positive, sign_of-negative, between-same, toward-point, point-toward, slope-toward, sign-same, same-point_sym, through-at, through-slope, plane-way, same-itself, HoldsBoth, IsParallelToAxis, sweep_axis, sweep_form, AreOpposite, NoneCrosses, IsMetBetween, AllHold, times-nought, parted-cut, held-between, crossed-parted, zero-decided, dot-zero, cross-turned, in-span}
+use Rattle.nef_plane.proofs.Prelude.{◌≡◌, zero, suc, ℤ, pos, negsuc, neg_ℤ, ◌*ℤ◌, List, ap, sym, ◌∙◌, arith, ◌⊎◌, inl, inr, ⊎_elim, refl, [], ◌∷◌, ints, ring, at, num, ◌⊖◌, ◌⊗◌, given, none, follows_times, nought-or, SpacePoint, Form, form_at, slope, normal_of, toward, SamePoint, IsAhead, IsBetween, Vector, dot, cross, IsZero, IsDirection, IsCrossing, form_of, sign_of, HasOppositeSigns, Plane, sign_of-positive, sign_of-negative, between-same, toward-point, point-toward, slope-toward, same-point_sym, through-at, through-slope, plane-way, HoldsBoth, IsParallelToAxis, sweep_axis, sweep_form, AreOpposite, NoneCrosses, IsMetBetween, AllHold, positive-factor, parted-cut, held-between, crossed-parted, zero-decided, dot-zero, cross-turned, in-span}
 use Rattle.nef_plane.proofs.Axes.{axis-some, axis-level, axis-keeps, axis-parallel}
-use Rattle.law_near.proofs.PointOrder.{weight}
+use Rattle.nef_space.proofs.Elementary.{weight-positive, same-itself}
+use Rattle.law_near.proofs.Same.{level-same_point}
 
 -- ---- signs
 opposite-cases : (x y : ℤ) → sign_of x ≡ sign_of (neg_ℤ y) → HasOppositeSigns x y ⊎ ((x ≡ pos 0) × (y ≡ pos 0))
@@ -27,16 +28,13 @@ pub level-opposite : (k : Form) (a : SpacePoint) → form_at k a ≡ pos 0 → A
 level-opposite k a e = opposite-noughts (form_at k a) (form_at k a) e e
 
 -- ---- planes through points
--- equal points lie on the same planes
-pub level-same : (f : Form) (a b : SpacePoint) → SamePoint a b → form_at f a ≡ pos 0 → form_at f b ≡ pos 0
-level-same f a b s e = nought-is (form_at f b) (sym (sign-same f a b s) ∙ ap sign e)
 
 -- a plane through p that holds d holds what is ahead
 pub ahead-level : (f : Form) (p : SpacePoint) (d : Vector) (y : SpacePoint) → IsAhead p d y → IsDirection d → form_at f p ≡ pos 0 → slope f d ≡ pos 0 → form_at f y ≡ pos 0
 ahead-level f p d y w some e z =
     follows_times (form_at f p ∷ form_at f y ∷ slope f (toward p y) ∷ pos p.w ∷ pos y.w ∷ []) (at 3) (at 1) (num (pos 0))
     (given (num (pos 0) ⊖ num (pos 1)) (at 2) (at 3 ⊗ at 1 ⊖ at 4 ⊗ at 0) (slope-toward f p y)
-    (given (at 4) (at 0) (num (pos 0)) e (given (num (pos 1)) (at 2) (num (pos 0)) (in-span (normal_of f) d (toward p y) some (cross-turned (toward p y) d w.parallel) z) none))) (weight p) tt
+    (given (at 4) (at 0) (num (pos 0)) e (given (num (pos 1)) (at 2) (num (pos 0)) (in-span (normal_of f) d (toward p y) some (cross-turned (toward p y) d w.parallel) z) none))) (weight-positive p) tt
 
 -- a plane through a point between two others parts them, or holds both
 pub between-opposite : (k : Form) (a b y : SpacePoint) → IsBetween a y b → form_at k y ≡ pos 0 → AreOpposite k a b
@@ -66,7 +64,7 @@ module _ (h : Plane) (p : SpacePoint) (d : Vector) (A : IsParallelToAxis (form_o
   -- points of the plane with one sweep coordinate lie on a line along d
   line-way : (y z : SpacePoint) → HoldsBoth (form_of h) y z → HoldsBoth k y z → IsZero (cross (toward y z) d)
   line-way y z (i, j) (m, n) = axis-parallel h d A (toward y z) (plane-way (form_of h) y z i j)
-      (times-nought (pos p.w) (dot e (toward y z)) (weight p) (sym (through-slope e p (toward y z)) ∙ plane-way k y z m n))
+      (positive-factor (pos p.w) (dot e (toward y z)) (weight-positive p) (sym (through-slope e p (toward y z)) ∙ plane-way k y z m n))
 
   -- and a plane that isn't along d holds only one of them
   pub one-point : (g : Form) (y z : SpacePoint) → HoldsBoth (form_of h) y z → HoldsBoth k y z → HoldsBoth g y z → (slope g d ≡ pos 0 → ⊥) → SamePoint y z
@@ -91,10 +89,10 @@ module _ (h : Plane) (p : SpacePoint) (d : Vector) (A : IsParallelToAxis (form_o
     met-opposite y M = ⊎_elim (λ w. between-opposite k a b y w (ahead-kept y M.ahead)) same M.on
       where
         same : SamePoint a y × SamePoint b y → AreOpposite k a b
-        same (i, j) = opposite-noughts (form_at k a) (form_at k b) (level-same k y a (same-point_sym a y i) (ahead-kept y M.ahead)) (level-same k y b (same-point_sym b y j) (ahead-kept y M.ahead))
+        same (i, j) = opposite-noughts (form_at k a) (form_at k b) (level-same_point k y a (same-point_sym a y i) (ahead-kept y M.ahead)) (level-same_point k y b (same-point_sym b y j) (ahead-kept y M.ahead))
 
     pub met-all : (gs : List Plane) (y : SpacePoint) → IsMetBetween (form_of h) p d a b y → NoneCrosses gs p d a b → AllHold gs d a b
     met-all gs y M N i g l m = ⊎_elim (λ z. z) (λ f. absurd (N i g l m y (record { on = on_g; ahead = M.ahead; passes = f }))) (nought-or (slope (form_of g) d))
       where
         on_g : form_at (form_of g) y ≡ pos 0
-        on_g = ⊎_elim (λ (w : IsBetween a y b). held-between (form_of g) a b y w m) (λ (s : SamePoint a y × SamePoint b y). level-same (form_of g) a y s.0 m.0) M.on
+        on_g = ⊎_elim (λ (w : IsBetween a y b). held-between (form_of g) a b y w m) (λ (s : SamePoint a y × SamePoint b y). level-same_point (form_of g) a y s.0 m.0) M.on

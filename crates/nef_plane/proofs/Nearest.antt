@@ -1,7 +1,9 @@
 -- The nearest of what a ray meets.
-use Rattle.nef_plane.proofs.Prelude.{◌≡◌, ℕ, ◌<◌, ◌≤◌, ◌+◌, List, Option, Some, None, arith, refl, sym, ◌⊎◌, inl, inr, ⊎_elim, subst, eq-or-lt_of_le, cases_lt, IsAt, SpacePoint, toward, IsAhead, IsBetween, Vector, between-same, between-inner, between-way, same-itself, IfSome, is-at_one, Span, Encounter, IsReachedEncounter, IsMissed, IsNearest, IsNearestMet, IsNearer, IsNotPast, IsOutside, HoldsBefore, SameDirection-turned, SameDirection-trans}
+use Rattle.nef_plane.proofs.Prelude.{◌≡◌, ℕ, ◌<◌, ◌≤◌, ◌+◌, List, Option, Some, None, arith, refl, sym, ◌⊎◌, inl, inr, ⊎_elim, subst, eq-or-lt_of_le, cases_lt, IsAt, SpacePoint, toward, IsAhead, IsBetween, Vector, between-same, between-inner, between-way, IfSome, is-at_one, Span, Encounter, IsReachedEncounter, IsMissed, IsNearest, IsNearestMet, IsNearer, IsNotPast, IsOutside, HoldsBefore, SameDirection-turned, SameDirection-trans}
 use Rattle.law_complex.specs.Skeleton.{PlaneMeet}
 use Rattle.nef_plane.proofs.Choosing.{keep-first}
+use Rattle.std.proofs.lemmas.Option.{same_Some}
+use Rattle.nef_space.proofs.Elementary.{same-itself}
 
 -- what lies between a point and one ahead of it is ahead
 pub between-ahead : (p q x : SpacePoint) (d : Vector) → IsBetween p q x → IsAhead p d x → IsAhead p d q
@@ -47,13 +49,10 @@ module _ {X : Type 0} (seen : X → Encounter) (p : SpacePoint) (d : Vector) whe
         (λ (e : Some r ≡ Some x). let f : r ≡ x = cc in
         right x r f B (λ n q b. A n q (between-ahead p q (seen r).at.place d b (subst (λ (v : X). IsAhead p d (seen v).at.place) (sym f) B.ahead)))) N.one
     either (Some x) (Some z) (Some r) N A B = ⊎_elim
-        (λ (e : Some r ≡ Some x). let f : r ≡ x = cc in let y = N.second z refl in let g : r ≡ y.0 = some-is r y.0 y.1 in
+        (λ (e : Some r ≡ Some x). let f : r ≡ x = cc in let y = N.second z refl in let g : r ≡ y.0 = same_Some r y.0 y.1 in
         left x r f A (λ n q b. B.first n q (inner (seen r) (seen z) q (subst (λ (v : X). IsAhead p d (seen v).at.place) (sym f) A.ahead) (subst (λ (v : X). IsNotPast d (seen v) (seen z)) (sym g) y.2) b)))
-        (λ (e : Some r ≡ Some z). let f : r ≡ z = cc in let y = N.first x refl in let g : r ≡ y.0 = some-is r y.0 y.1 in
+        (λ (e : Some r ≡ Some z). let f : r ≡ z = cc in let y = N.first x refl in let g : r ≡ y.0 = same_Some r y.0 y.1 in
         right z r f B (λ n q b. A.first n q (inner (seen r) (seen x) q (subst (λ (v : X). IsAhead p d (seen v).at.place) (sym f) B.ahead) (subst (λ (v : X). IsNotPast d (seen v) (seen x)) (sym g) y.2) b))) N.one
-      where
-        some-is : (r y : X) → Some r ≡ Some y → r ≡ y
-        some-is r y e = cc
 
     pub nearest-either : (a b r : Option X) → NearerOf a b r → IsNearest seen p d P a → IsNearest seen p d Q b → IsNearest seen p d Either r
     nearest-either a b r N A B = either a b r (N (nearest-reached P a A) (nearest-reached Q b B)) A B

@@ -1,11 +1,12 @@
 -- What the course of a ray within a plane passes over, the ray doesn't meet.
-use Rattle.nef_plane.proofs.Prelude.{◌≡◌, ℕ, zero, suc, ◌+◌, ◌≤◌, ℤ, pos, negsuc, ◌<ℤ◌, ◌≤ℤ◌, List, ◌⊎◌, arith, inl, inr, ⊎_elim, sym, ◌∙◌, subst, MatchOption, ints, by_order, sign-plus, sign-minus, plus-is, minus-is, IsAt, SpacePoint, Form, form_at, SamePoint, InClosedFrame, IsAhead, IsBetween, Set, Vector, dot, IsDirection, form_of, point_of, Plane, Point, Minus, Plus, sign_of, sign-same, is-at_one, map-is_at, same-itself, Shows, Vertex, Edge, Complex, PlaneMeet, vertex_of, edge_of, complex_of, LiesOn, EdgeLiesIn, listed_edge, ends, StartsAt, IsCourse, IsExcluding, IsCoursePassed, IsCourseFirst, IsCoursePast, MeetLiesIn, AreEnds, AtVertexNumber, AtEdgeNumber, AtMeet, AreOpposite, sweep_axis, sweep_form, IsMissed, ray_form}
+use Rattle.nef_plane.proofs.Prelude.{◌≡◌, ℕ, zero, suc, ◌+◌, ◌≤◌, ℤ, pos, negsuc, ◌<ℤ◌, ◌≤ℤ◌, List, ◌⊎◌, arith, inl, inr, ⊎_elim, sym, ◌∙◌, subst, MatchOption, ints, by_order, sign-plus, sign-minus, plus-is, minus-is, IsAt, SpacePoint, Form, form_at, SamePoint, InClosedFrame, IsAhead, IsBetween, Set, Vector, dot, IsDirection, form_of, point_of, Plane, Point, Minus, Plus, sign_of, sign-same, is-at_one, map-is_at, Shows, Vertex, Edge, Complex, PlaneMeet, vertex_of, edge_of, complex_of, LiesOn, EdgeLiesIn, listed_edge, ends, StartsAt, IsCourse, IsExcluding, IsCoursePassed, IsCourseFirst, IsCoursePast, MeetLiesIn, AreEnds, AtVertexNumber, AtEdgeNumber, AtMeet, AreOpposite, sweep_axis, sweep_form, IsMissed, ray_form}
 use Rattle.nef_complex.proofs.Framed.{vertex-framed, edge-framed}
 use Rattle.nef_plane.specs.declared.course.Course.{Course}
 use Rattle.nef_plane.proofs.Either.{by-numbers}
 use Rattle.nef_plane.proofs.Found.{vertex-none, edge-none}
 use Rattle.nef_plane.proofs.Ordered.{start-level, swept, ahead-past, ahead-before, between-at_most, between-at_least, later-past, later-from}
 use Rattle.nef_plane.proofs.RayPlanes.{beside-vertex, beside-edge}
+use Rattle.nef_space.proofs.Elementary.{same-itself}
 
 plus_sign : (z : ℤ) → sign_of z ≡ Plus → pos 0 <ℤ z
 plus_sign (pos zero) e = cc

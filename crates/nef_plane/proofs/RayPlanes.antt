@@ -1,9 +1,11 @@
 -- The side of a plane through a ray on which a point lies, and what the ray doesn't meet.
-use Rattle.nef_plane.proofs.Prelude.{◌≡◌, ℕ, ℤ, pos, ◌+ℤ◌, ◌-ℤ◌, ◌*ℤ◌, ◌≤◌, nat_abs, w64, Option, Some, None, sym, ap, ◌∙◌, subst, [], ◌∷◌, IfSome, MatchOption, load, const, wrap, ◌⊟◌, exact_of, ring, at, num, ◌⊕◌, ◌⊖◌, ◌⊗◌, direction_limit, form_at, toward, Set, Vector, vector, dot, IsDirection, SameDirection, form_of, point_of, vector_of, sign_of, Dir, Plane, Point, Sign, point-toward, same-point_sym, IsAt, Shows, through-at, through-slope, same-itself, Vertex, Edge, Complex, complex_of, AreOpposite, HoldsRay, AtVertexNumber, AtEdgeNumber, IsMissed, ray_form, IsAcrossRay, dot-comm, dot-zero, level-way, pos-abs}
+use Rattle.nef_plane.proofs.Prelude.{◌≡◌, ℕ, ℤ, pos, ◌+ℤ◌, ◌-ℤ◌, ◌*ℤ◌, ◌≤◌, nat_abs, w64, Option, Some, None, sym, ap, ◌∙◌, subst, [], ◌∷◌, IfSome, MatchOption, load, const, wrap, ◌⊟◌, exact_of, ring, at, num, ◌⊕◌, ◌⊖◌, ◌⊗◌, direction_limit, form_at, toward, Set, Vector, vector, dot, IsDirection, SameDirection, form_of, point_of, vector_of, sign_of, Dir, Plane, Point, Sign, point-toward, same-point_sym, IsAt, Shows, through-at, through-slope, Vertex, Edge, Complex, complex_of, AreOpposite, HoldsRay, AtVertexNumber, AtEdgeNumber, IsMissed, ray_form, IsAcrossRay, dot-comm, dot-zero, level-way, pos-abs}
 use mir.Val.{to_z, of_z}
 use Rattle.nef_plane.proofs.Found.{vertex-none, edge-none}
-use Rattle.nef_plane.proofs.Meeting.{level-same, level-opposite, ahead-level, between-opposite}
+use Rattle.nef_plane.proofs.Meeting.{level-opposite, ahead-level, between-opposite}
 use Rattle.nef_plane.proofs.Sweep.{numbers-same}
+use Rattle.law_near.proofs.Same.{level-same_point}
+use Rattle.nef_space.proofs.Elementary.{same-itself}
 
 abbrev product_of : Dir → Point → ℤ
 product_of n a = n.x *ℤ a.x +ℤ n.y *ℤ a.y +ℤ n.z *ℤ a.z
@@ -68,7 +70,7 @@ module _ (s : Set) (c : Complex) (S : Shows s (complex_of c)) (p : Point) (d : V
       by (Some n) e f =
           let h = holds-ray n p d e in
           vertex-none s c S (point_of p) d some k v a
-          (λ q w m. absurd (f (level-opposite (ray_form n p) (point_of v.point) (level-same (ray_form n p) q (point_of v.point) (same-point_sym (point_of v.point) q m) (ahead-level (ray_form n p) (point_of p) d q w some h.0 h.1)))))
+          (λ q w m. absurd (f (level-opposite (ray_form n p) (point_of v.point) (level-same_point (ray_form n p) q (point_of v.point) (same-point_sym (point_of v.point) q m) (ahead-level (ray_form n p) (point_of p) d q w some h.0 h.1)))))
 
   pub beside-edge : (h : Plane) (k : ℕ) (e : Edge) (u v : Vertex) → IsAt c.edges k e → IsAt c.vertices e.low u → IsAt c.vertices e.high v → IfSome o (IsAcrossRay d)
       → MatchOption o ⊥ (λ n. AreOpposite (ray_form n p) (point_of u.point) (point_of v.point) → ⊥) → IsMissed (point_of p) d (AtEdgeNumber (complex_of c) (form_of h) d k)

@@ -1,14 +1,15 @@
 -- What a ray crosses of the planes that hold a vertex or an edge.
-use Rattle.nef_plane.proofs.Prelude.{◌≡◌, ℕ, pos, ⊎_elim, inl, inr, Option, Some, None, refl, ◌↔◌, IsNone, IfSome, SpacePoint, SamePoint, IsAhead, IsBetween, form_at, slope, Set, Vector, IsDirection, IsCrossing, IsReached, form_of, point_of, hit_point, Hit, Plane, IsAt, between-same, same-point_sym, map-is_at, Shows, IsVertexPoint, IsEdgePoint, same-itself, Vertex, Edge, Complex, PlaneMeet, AtVertex, AtEdge, vertex_of, edge_of, complex_of, HoldsBoth, vertex-same, listed_edge, ends, edge-inside, one-crossing, held-between, IsVertexOrLies, HasEndsAt, Reach, reach_of, near_met_of, IsHitThrough, AllHold, IsBetweenOrAt, AtVertexNumber, AtEdgeNumber, AtMeet, IsMeetPoint, IsNearestMet, IsMissed}
+use Rattle.nef_plane.proofs.Prelude.{◌≡◌, ℕ, pos, ⊎_elim, inl, inr, Option, Some, None, refl, ◌↔◌, IsNone, IfSome, SpacePoint, SamePoint, IsAhead, IsBetween, form_at, slope, Set, Vector, IsDirection, IsCrossing, IsReached, form_of, point_of, hit_point, Hit, Plane, IsAt, between-same, same-point_sym, map-is_at, Shows, IsVertexPoint, IsEdgePoint, Vertex, Edge, Complex, PlaneMeet, AtVertex, AtEdge, vertex_of, edge_of, complex_of, HoldsBoth, vertex-same, listed_edge, ends, edge-inside, one-crossing, held-between, IsVertexOrLies, HasEndsAt, Reach, reach_of, near_met_of, IsHitThrough, AllHold, IsBetweenOrAt, AtVertexNumber, AtEdgeNumber, AtMeet, IsMeetPoint, IsNearestMet, IsMissed}
 use Rattle.law_complex.specs.Skeleton.{PlaneMeet as PlainMeet}
 use Rattle.nef_plane.proofs.Either.{by-ends}
 use Rattle.nef_plane.proofs.Found.{both-same, vertex-some, vertex-none, edge-some, edge-none}
 use Rattle.nef_plane.proofs.Listed.{held-edge}
-use Rattle.nef_plane.proofs.Meeting.{level-same}
+use Rattle.law_near.proofs.Same.{level-same_point}
+use Rattle.nef_space.proofs.Elementary.{same-itself}
 
 -- a plane that holds both points holds what is within
 pub within-level : (g : Plane) (a b y : SpacePoint) → HoldsBoth (form_of g) a b → IsBetweenOrAt a b y → form_at (form_of g) y ≡ pos 0
-within-level g a b y H = ⊎_elim (λ (w : IsBetween a y b). held-between (form_of g) a b y w H) (λ (s : SamePoint a y × SamePoint b y). level-same (form_of g) a y s.0 H.0)
+within-level g a b y H = ⊎_elim (λ (w : IsBetween a y b). held-between (form_of g) a b y w H) (λ (s : SamePoint a y × SamePoint b y). level-same_point (form_of g) a y s.0 H.0)
 
 -- a plane that holds both points and isn't along the direction
 module _ (o : Option Hit) (p : SpacePoint) (d : Vector) (g : Plane) (a b : SpacePoint) (A : HoldsBoth (form_of g) a b × (slope (form_of g) d ≡ pos 0 → ⊥)) where

@@ -1,10 +1,12 @@
 -- What a ray along the axis of a plane meets at a vertex and inside an edge.
-use Rattle.nef_plane.proofs.Prelude.{◌≡◌, ℕ, pos, inl, inr, ⊎_elim, refl, SpacePoint, form_at, SamePoint, IsBetween, Set, Vector, form_of, point_of, far_point, FarHit, Plane, point-toward, same-point_sym, IsAt, Shows, between-ends, same-itself, Vertex, Edge, Complex, PlaneMeet, AtVertex, AtEdge, complex_of, apart, HasEndsAt, IsParallelToAxis, IsHitThrough, IsMetBetween, AllHold, AtVertexNumber, AtEdgeNumber, AtMeet, IsNearestMet, far_met_of, far_reach_of, IsMissed}
+use Rattle.nef_plane.proofs.Prelude.{◌≡◌, ℕ, pos, inl, inr, ⊎_elim, refl, SpacePoint, form_at, SamePoint, IsBetween, Set, Vector, form_of, point_of, far_point, FarHit, Plane, point-toward, same-point_sym, IsAt, Shows, between-ends, Vertex, Edge, Complex, PlaneMeet, AtVertex, AtEdge, complex_of, apart, HasEndsAt, IsParallelToAxis, IsHitThrough, IsMetBetween, AllHold, AtVertexNumber, AtEdgeNumber, AtMeet, IsNearestMet, far_met_of, far_reach_of, IsMissed}
 use Rattle.law_complex.specs.Skeleton.{PlaneMeet as PlainMeet}
 use Rattle.nef_plane.proofs.Axes.{axis-some}
 use Rattle.nef_plane.proofs.Either.{by-ends}
 use Rattle.nef_plane.proofs.Found.{both-same, vertex-some, vertex-none, edge-some, edge-none}
-use Rattle.nef_plane.proofs.Meeting.{level-same, ahead-on}
+use Rattle.nef_plane.proofs.Meeting.{ahead-on}
+use Rattle.law_near.proofs.Same.{level-same_point}
+use Rattle.nef_space.proofs.Elementary.{same-itself}
 
 module _ (s : Set) (c : Complex) (S : Shows s (complex_of c)) (h : Plane) (p : SpacePoint) (d : Vector) (A : IsParallelToAxis (form_of h) d) (on : form_at (form_of h) p ≡ pos 0) where
   module _ (k : ℕ) (v : Vertex) (a : IsAt c.vertices k v) where
@@ -13,7 +15,7 @@ module _ (s : Set) (c : Complex) (S : Shows s (complex_of c)) (h : Plane) (p : S
 
     swept-no_vertex : ((q : SpacePoint) → IsMetBetween (form_of h) p d y y q → AllHold c.carriers d y y) → IsMissed p d (AtVertexNumber (complex_of c) k)
     swept-no_vertex N = vertex-none s c S p d (axis-some h d A) k v a
-        (λ q w o. let z = level-same (form_of h) q y (same-point_sym y q o) (ahead-on h p d A on q w) in N q (record { holds = (z, z); ahead = w; on = inr (o, o) }))
+        (λ q w o. let z = level-same_point (form_of h) q y (same-point_sym y q o) (ahead-on h p d A on q w) in N q (record { holds = (z, z); ahead = w; on = inr (o, o) }))
 
     module _ (at : FarHit) (M : IsMetBetween (form_of h) p d y y (far_point at)) (T : IsHitThrough p d y y (far_reach_of at)) where
       same : SamePoint y (far_point at)

@@ -1,7 +1,9 @@
 -- Along a ray the label stays up to the first crossing of a carrier at which it changes; and it changes somewhere, since the ray leaves the frame.
-use Rattle.nef_ray.proofs.Prelude.{◌≡◌, ℕ, ◌*◌, ◌<◌, ◌≤◌, ℤ, pos, ◌+ℤ◌, ◌*ℤ◌, neg_ℤ, nat_abs, arith, refl, ap, sym, ◌∙◌, ◌⊎◌, inl, inr, ⊎_elim, [], ◌∷◌, subst, ints, Sign, minus, nought, plus, sign, Lies, ring, at, num, neg, ◌⊕◌, ◌⊗◌, nought-is, plus-is, minus-is, sign-plus, sign-minus, mul_nonneg, nought-or, half_side, HasLabel, Germ, SpacePoint, Form, form_at, slope, Within, SamePoint, InFrame, InClosedFrame, toward, IsAhead, IsBetween, Set, Vector, blend, opposite, zero_vector, IsDirection, SameDirection, Label, Out, factor-same, reach_all, sign_at, carriers, FirstChange, germs-by_cell, flat-germ, between-turned, every, Decided, decided-to, decided-lt, germ-decided, start, start-close, start-between, start-toward, beyond, halfway, halfway-between, halfway-outside, way_factor, way_factor-some, leads, leads-somewhere, germ-nearby, first-change, sign-toward, Germ-by_signs, flat-outside, no-germ_out, near-same, label-one, Germ-unique, within-self, Germ-zero, slope-zero, slope-same, IsCrossing, ahead-back, between-ahead, ahead-from, IsUnchanged, SameDirection-turned, SameDirection-trans, direction-left}
+use Rattle.nef_ray.proofs.Prelude.{◌≡◌, ℕ, ◌*◌, ◌<◌, ◌≤◌, ℤ, pos, ◌+ℤ◌, ◌*ℤ◌, neg_ℤ, nat_abs, arith, refl, ap, sym, ◌∙◌, ◌⊎◌, inl, inr, ⊎_elim, [], ◌∷◌, subst, ints, Sign, minus, nought, plus, sign, Lies, ring, at, num, neg, ◌⊕◌, ◌⊗◌, nought-is, plus-is, minus-is, sign-plus, sign-minus, mul_nonneg, nought-or, half_side, HasLabel, Germ, SpacePoint, Form, form_at, slope, Within, SamePoint, InFrame, InClosedFrame, toward, IsAhead, IsBetween, Set, Vector, blend, opposite, zero_vector, IsDirection, SameDirection, Label, Out, reach_all, sign_at, carriers, FirstChange, germs-by_cell, flat-germ, between-turned, every, Decided, decided-to, decided-lt, germ-decided, start, start-close, start-between, start-toward, beyond, halfway, halfway-between, halfway-outside, leads-somewhere, germ-nearby, first-change, sign-toward, Germ-by_signs, flat-outside, no-germ_out, near-same, label-one, Germ-unique, within-self, Germ-zero, slope-zero, slope-same, IsCrossing, ahead-back, between-ahead, ahead-from, IsUnchanged, SameDirection-turned, SameDirection-trans, direction-left}
 use Rattle.law_near.proofs.Cells.{is_nought}
 use Rattle.law_complex.proofs.Spans.{opposite-level}
+use Rattle.nef_space.proofs.Elementary.{frame-closed}
+use Rattle.law_complex.proofs.Skeletons.{beyond-ahead}
 
 -- ---- the closed frame
 -- a point lies in it, or doesn't
@@ -16,9 +18,6 @@ framed-or p = by (decided-lt (half_side * p.w) (nat_abs p.x)) (decided-lt (half_
     by (inr x) (inl y) z = inr (λ c. let l = c.along_y in omega (arith, y, l))
     by (inr x) (inr y) (inl z) = inr (λ c. let l = c.along_z in omega (arith, z, l))
     by (inr x) (inr y) (inr z) = inl (record { along_x = within (half_side * p.w) (nat_abs p.x) x; along_y = within (half_side * p.w) (nat_abs p.y) y; along_z = within (half_side * p.w) (nat_abs p.z) z })
-
-pub frame-closed : (p : SpacePoint) → InFrame p → InClosedFrame p
-frame-closed p i = record { along_x = omega (arith, i.along_x); along_y = omega (arith, i.along_y); along_z = omega (arith, i.along_z) }
 
 -- outside it all is Out
 pub label-outside : (s : Set) (p : SpacePoint) (l : Label) → (InClosedFrame p → ⊥) → HasLabel s p l → l ≡ Out
@@ -90,20 +89,6 @@ module _ (s : Set) (d : Vector) (m : Label) where
   )
 
 -- ---- the ray leaves the frame
-pub beyond-ahead : (p : SpacePoint) (d : Vector) → IsDirection d → IsAhead p d (beyond p d)
-beyond-ahead p d some = factor-same (toward p (beyond p d)) d (record {
-  k = 1;
-  l = way_factor p;
-  some_k = omega arith;
-  some_l = way_factor-some p;
-  is_x = each (toward p (beyond p d)).x d.x (ap (λ (v : Vector). v.x) (leads p d));
-  is_y = each (toward p (beyond p d)).y d.y (ap (λ (v : Vector). v.y) (leads p d));
-  is_z = each (toward p (beyond p d)).z d.z (ap (λ (v : Vector). v.z) (leads p d));
-  is_w = ring (pos (way_factor p) ∷ []) (num (pos 1) ⊗ num (pos 0)) (at 0 ⊗ num (pos 0)) tt;
-}) (leads-somewhere p d some)
-  where
-    each : (t e : ℤ) → t ≡ pos (way_factor p) *ℤ e +ℤ pos 0 *ℤ e → pos 1 *ℤ t ≡ pos (way_factor p) *ℤ e
-    each t e h = ap (λ (i : ℤ). pos 1 *ℤ i) h ∙ ring (pos (way_factor p) ∷ e ∷ []) (num (pos 1) ⊗ (at 0 ⊗ at 1 ⊕ num (pos 0) ⊗ at 1)) (at 0 ⊗ at 1) tt
 
 -- ---- the label stays
 module _ (s : Set) (p : SpacePoint) (d : Vector) (m : Label) (inside : InFrame p) (germ : Germ s p d m) where

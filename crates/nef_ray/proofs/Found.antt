@@ -1,9 +1,10 @@
 -- The first change at a crossing of a carrier is the end of the ray, and there is one.
-use Rattle.nef_ray.proofs.Prelude.{◌≡◌, ℕ, ◌<◌, ◌≤◌, List, All, IsSortedBy, false, ◌⊎◌, ⊎_elim, inl, inr, get_or, sym, subst, Contains, cases_lt, All-contains, sorted_far, Lies, Germ, SpacePoint, Form, SamePoint, InFrame, InClosedFrame, IsBetween, Set, Vector, between-same, IsCrossing, form_of, vector_of, point_of, hit_point, Plane, carriers, same-point_sym, IsAt, at-contains, is-at_is, is-at_map, is-at_within, ahead-same, plane-turned, plane-point, plane-slope, same-itself, Complex, ShowsSet, Crossed, RayEnd, RayStart, IsHitOf, IsUnchanged, IsUnchangedOn, IsChangeOf, IsCrossedPlane, AreAllCrossed, crossed_lt, IsRayEnd}
+use Rattle.nef_ray.proofs.Prelude.{◌≡◌, ℕ, ◌<◌, ◌≤◌, List, All, IsSortedBy, false, ◌⊎◌, ⊎_elim, inl, inr, get_or, sym, subst, Contains, cases_lt, All-contains, sorted_far, Lies, Germ, SpacePoint, Form, SamePoint, InFrame, InClosedFrame, IsBetween, Set, Vector, between-same, IsCrossing, form_of, vector_of, point_of, hit_point, Plane, carriers, same-point_sym, IsAt, at-contains, is-at_is, is-at_map, is-at_within, ahead-same, plane-turned, plane-point, plane-slope, Complex, ShowsSet, Crossed, RayEnd, RayStart, IsHitOf, IsUnchanged, IsUnchangedOn, IsChangeOf, IsCrossedPlane, AreAllCrossed, crossed_lt, IsRayEnd}
 use Rattle.nef_ray.proofs.Along.{label-stays, changes-somewhere}
 use Rattle.nef_ray.proofs.Listed.{each-listed}
 use Rattle.nef_ray.proofs.Nearest.{stays}
 use Rattle.nef_ray.proofs.Nearness.{steps_weak, not-ahead}
+use Rattle.nef_space.proofs.Elementary.{same-itself}
 
 -- at each crossing of a carrier in the closed frame nothing changes, or N holds
 abbrev pub AllSeen : Set → Complex → RayStart → (SpacePoint → Type 0) → Type 0

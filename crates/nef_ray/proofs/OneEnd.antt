@@ -1,5 +1,6 @@
 -- A ray has one end.
-use Rattle.nef_ray.proofs.Prelude.{◌≡◌, refl, sym, ◌⊎◌, inl, inr, ⊎_elim, Bool, true, false, arith, subst, ints, HasLabel, Germ, SpacePoint, SamePoint, toward, IsAhead, IsBetween, Set, Vector, opposite, SameDirection, Label, toward-point, point-decided, reach_all, carriers, start, start-close, start-between, germ-toward, Label-cells, label-one, Germ-unique, signs-same, same-point_sym, Germ-same, Beside, same_way, other_way, beside, ahead-back, between-outer, same-itself, on_line, to_opposite, between-ahead, Changes, IsRayEnd, OneRayEnd, vector-same, SameDirection-turned, SameDirection-trans, dir-self, direction-left}
+use Rattle.nef_ray.proofs.Prelude.{◌≡◌, refl, sym, ◌⊎◌, inl, inr, ⊎_elim, Bool, true, false, arith, subst, ints, HasLabel, Germ, SpacePoint, SamePoint, toward, IsAhead, IsBetween, Set, Vector, opposite, SameDirection, Label, toward-point, point-decided, reach_all, carriers, start, start-close, start-between, germ-toward, Label-cells, label-one, Germ-unique, signs-same, same-point_sym, Germ-same, Beside, same_way, other_way, beside, ahead-back, between-outer, on_line, to_opposite, between-ahead, Changes, IsRayEnd, OneRayEnd, vector-same, SameDirection-turned, SameDirection-trans, dir-self, direction-left}
+use Rattle.nef_space.proofs.Elementary.{same-itself}
 
 -- of two points ahead the one lies before the other, or they are the same
 ray-cases : (p x z : SpacePoint) (d : Vector) → IsAhead p d x → IsAhead p d z → IsBetween p x z ⊎ SamePoint x z ⊎ IsBetween p z x

@@ -4,7 +4,7 @@ pub use Rattle.nef_geo.proofs.Prelude.{HasOppositeSigns, IsNone, IsPointAtMost, 
 pub use Rattle.law_complex.proofs.Prelude.{Beside, Decided, Germ-by_signs, Germ-zero, Sign, beside, between-same, beyond, germ-nearby, germ-toward, germ_of, halfway, halfway-between, halfway-outside, label-one, leads, leads-somewhere, other_way, reach_all, same_way, sign-same, slope-same, start, start-between, start-close, start-toward, toward-point, way_factor, way_factor-some, zero_vector}
 pub use Rattle.nef_smap.proofs.Prelude.{Contains, fraction-le-trans}
 pub use Rattle.nef_edges.proofs.Prelude.{Contains-permutation, IsStrictWeakOrder, answers_always, minus-is, on_line, plus-is, sorted_far}
-pub use Rattle.nef_locate.proofs.Prelude.{Bool, Code, Complex, Dir, Equal, Form, Germ, Germ-same, Germ-unique, Greater, HasLabel, Hit, IfSome, InClosedFrame, InFrame, IsAhead, IsAt, IsAtMost, IsBetween, IsCrossing, IsDirection, IsPermutation, IsTrue, Label, Label-cells, Less, Lies, Limited, List, MatchOrdering, Option, Ordering, Out, Plane, Point, SameDirection, SameDirection-trans, SameDirection-turned, SamePoint, Set, ShowsSet, SpacePoint, Vector, [], ahead-back, ahead-from, ap, arith, at, is-at_map, is-at_within, between-inner, between-start, between-turned, blend, carriers, cases_lt, closed-same, dir-self, direction-left, exact_of, factor-same, false, fits_of, flat-germ, form_at, form_of, germs-by_cell, get_or, half_side, hit_point, inl, inr, int_cmp, ints, is_lt, label-unique, label_of, length, load, map_of, minus, mul_nonneg, mul_pos, nat_abs, neg, neg_ℤ, normal_limit, nought, nought-is, nought-or, num, of_z, one-crossing, opposite, plane-point, plane-slope, plane-turned, plus, point_limit, point_of, pos, pos-abs, refl, ring, rules, same-itself, same-point_sym, sign, sign-minus, sign-plus, sign_at, signs-same, slope, subst, sym, to_opposite, to_z, toward, true, vector-same, vector_of, w64, weight_limit, wrap, ℕ, ℤ, ⊎_elim, ◌*ℤ◌, ◌*◌, ◌++◌, ◌+ℤ◌, ◌+◌, ◌<ℤ◌, ◌<◌, ◌∙◌, ◌∷◌, ◌≡◌, ◌≤ℤ◌, ◌≤◌, ◌⊎◌, ◌⊕◌, ◌⊗◌, ◌⊠◌}
+pub use Rattle.nef_locate.proofs.Prelude.{Bool, Code, Complex, Dir, Equal, Form, Germ, Germ-same, Germ-unique, Greater, HasLabel, Hit, IfSome, InClosedFrame, InFrame, IsAhead, IsAt, IsAtMost, IsBetween, IsCrossing, IsDirection, IsPermutation, IsTrue, Label, Label-cells, Less, Lies, Limited, List, MatchOrdering, Option, Ordering, Out, Plane, Point, SameDirection, SameDirection-trans, SameDirection-turned, SamePoint, Set, ShowsSet, SpacePoint, Vector, [], ahead-back, ahead-from, ap, arith, at, is-at_map, is-at_within, between-inner, between-start, between-turned, blend, carriers, cases_lt, closed-same, dir-self, direction-left, exact_of, factor-same, false, fits_of, flat-germ, form_at, form_of, germs-by_cell, get_or, half_side, hit_point, inl, inr, int_cmp, ints, is_lt, label-unique, label_of, length, load, map_of, minus, mul_nonneg, mul_pos, nat_abs, neg, neg_ℤ, normal_limit, nought, nought-is, nought-or, num, of_z, one-crossing, opposite, plane-point, plane-slope, plane-turned, plus, point_limit, point_of, pos, pos-abs, refl, ring, rules, same-point_sym, sign, sign-minus, sign-plus, sign_at, signs-same, slope, subst, sym, to_opposite, to_z, toward, true, vector-same, vector_of, w64, weight_limit, wrap, ℕ, ℤ, ⊎_elim, ◌*ℤ◌, ◌*◌, ◌++◌, ◌+ℤ◌, ◌+◌, ◌<ℤ◌, ◌<◌, ◌∙◌, ◌∷◌, ◌≡◌, ◌≤ℤ◌, ◌≤◌, ◌⊎◌, ◌⊕◌, ◌⊗◌, ◌⊠◌}
 pub use Rattle.std.proofs.Common.{All, IsSortedBy}
 pub use Rattle.std.proofs.lemmas.List.Elements.{All-contains, All-push, Contains-append_left, Contains-push}
 pub use Rattle.std.proofs.lemmas.List.Sorted.{All-permutation}

@@ -2,6 +2,7 @@
 use Rattle.nef_result.proofs.Prelude.{◌≡◌, neg_ℤ, arith, refl, sym, ◌∙◌, ap, ◌⊎◌, inl, inr, Bool, true, false, subst, ints, Sign, minus, nought, plus, sign, sign-neg, sign_turned, SpacePoint, slope, Vector, dot, Set, HasLabel, Germ, Label, Out, Not, In, point_of, sign_at, frame-minus, Cone, op_label, And, map_of, Vertex, FrameCorner, IsFrameCornerAt, IsFrameCornerOf, at_wall, corner_label, axis_x, axis_y, axis_z}
 use Rattle.nef_result.proofs.Walls.{Axis, on_x, on_y, on_z, wall, wall-listed, IsOneLabelSet, germ-inward, germ-outward}
 use Rattle.nef_result.proofs.CornerVertices.{is_high_on, through, leads-in}
+use Rattle.nef_space.proofs.Elementary.{minus-not_nought}
 
 abbrev pub axis_of : Axis → Vector
 axis_of on_x = axis_x
@@ -82,9 +83,6 @@ module _ (s : Set) (l : Label) (W : IsOneLabelSet s l) (k : FrameCorner) (p : Sp
 pub corner-cone : (s : Set) (l : Label) (k : FrameCorner) (v : Vertex) → IsOneLabelSet s l → IsFrameCornerOf l k v → Cone (map_of v.map) s (point_of v.point)
 corner-cone s l k v W V = record {
   valid = V.map.sphere_map.valid;
-  mark = subst (HasLabel s (point_of v.point)) (sym V.mark) (λ i. differ (sign_at (wall on_x k.x) (point_of v.point)) (through k (point_of v.point) V.place on_x) (frame-minus (point_of v.point) i (wall on_x k.x) (wall-listed on_x k.x)));
+  mark = subst (HasLabel s (point_of v.point)) (sym V.mark) (λ i. minus-not_nought (sign_at (wall on_x k.x) (point_of v.point)) (frame-minus (point_of v.point) i (wall on_x k.x) (wall-listed on_x k.x)) (through k (point_of v.point) V.place on_x));
   labels = λ d i. (corner_label l k d, V.labels d i, corner-germ s l W k (point_of v.point) V.place d);
 }
-  where
-    differ : (t : Sign) → t ≡ nought → t ≡ minus → ⊥
-    differ t e f = cc

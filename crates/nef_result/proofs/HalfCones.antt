@@ -6,6 +6,7 @@ use Rattle.law_near.specs.Near.{span}
 use Rattle.law_near.proofs.Combine.{shorter}
 use Rattle.law_sphere.proofs.building.SideLabels.{side-same_way}
 use Rattle.nef_result.specs.Halves.{inside_label, side_label, IsMapOfPlane}
+use Rattle.nef_space.proofs.Elementary.{minus-not_nought, plus-not_nought}
 
 -- ---- the label of a half
 module _ (f : Form) (closed : Bool) (q : SpacePoint) where
@@ -72,16 +73,10 @@ sign_beside plus t = plus
 sign-stepped : (f : Form) (p : SpacePoint) (t : Ratio) (d : Vector) → IsShort (span f p d) t → sign_at f (step p t d) ≡ sign_beside (sign_at f p) (sign (slope f d))
 sign-stepped f p t d h = by (sign_at f p) refl
   where
-    differ : (s : Sign) → s ≡ minus → s ≡ nought → ⊥
-    differ s e g = cc
-
-    differs : (s : Sign) → s ≡ plus → s ≡ nought → ⊥
-    differs s e g = cc
-
     by : (s : Sign) → sign_at f p ≡ s → sign_at f (step p t d) ≡ sign_beside s (sign (slope f d))
-    by minus e = ray-keeps f p t d h (λ z. differ (sign_at f p) e (ap sign z)) ∙ e
+    by minus e = ray-keeps f p t d h (λ z. minus-not_nought (sign_at f p) e (ap sign z)) ∙ e
     by nought e = ray-level f p t d h.0 (nought-is (form_at f p) e)
-    by plus e = ray-keeps f p t d h (λ z. differs (sign_at f p) e (ap sign z)) ∙ e
+    by plus e = ray-keeps f p t d h (λ z. plus-not_nought (sign_at f p) e (ap sign z)) ∙ e
 
 half-germ : (f : Form) (closed : Bool) (p : SpacePoint) (d : Vector) (l : Label) → Germ Set.full p d l → Germ (Set.half f closed) p d (op_label And l (side_label closed (sign_beside (sign_at f p) (sign (slope f d)))))
 half-germ f closed p d l (n, some, g) = (

@@ -1,6 +1,6 @@
 -- The corners in order, and the planes of the frame in order.
-use Rattle.nef_result.proofs.Prelude.{◌≡◌, ℕ, zero, suc, ℤ, pos, ◌*ℤ◌, ◌<ℤ◌, arith, refl, ◌⊎◌, inl, inr, Bool, true, false, subst, List, [], ◌∷◌, ◌++◌, Some, None, ints, ring, at, num, ◌⊖◌, ◌⊗◌, lt_by, mul_pos, IsAt, half_side, IsBelow, SpacePoint, form_numbers, IsPointBelow, SamePoint, Label, point_of, InOrder, AreSorted, Vertex, sorted_sides, frame_end, FrameCorner, ends, all_ends, IsFrameCornerAt, IsFrameCornerOf, AreFrameCorners, is-at_none, is-at_first}
-use Rattle.law_near.proofs.PointOrder.{weight as positive}
+use Rattle.nef_result.proofs.Prelude.{◌≡◌, ℕ, zero, suc, ℤ, pos, ◌*ℤ◌, ◌<ℤ◌, arith, refl, ◌⊎◌, inl, inr, Bool, true, false, subst, List, [], ◌∷◌, ◌++◌, ints, at, num, ◌⊖◌, ◌⊗◌, lt_by, mul_pos, IsAt, half_side, IsBelow, SpacePoint, form_numbers, IsPointBelow, SamePoint, Label, point_of, InOrder, AreSorted, Vertex, sorted_sides, frame_end, FrameCorner, ends, all_ends, IsFrameCornerAt, IsFrameCornerOf, AreFrameCorners, is-at_none, is-at_first}
+use Rattle.nef_space.proofs.Elementary.{weight-positive, times-exchange}
 
 -- ---- the order of two corners
 abbrev pub IsLow : Bool → Bool → Type 0
@@ -14,10 +14,7 @@ along-low a b x y w v (e, f) h i g j = rw (g, j, e, f) (lt_by (pos half_side ∷
     (let q = mul_pos w v h i in omega (arith, ints)))
 
 along-same : (a b : Bool) (x y w v : ℤ) → a ≡ b → x ≡ frame_end a *ℤ w → y ≡ frame_end b *ℤ v → x *ℤ v ≡ y *ℤ w
-along-same a b x y w v e g j = rw (g, j, e) (swap (frame_end b) w v)
-  where
-    swap : (m w v : ℤ) → m *ℤ w *ℤ v ≡ m *ℤ v *ℤ w
-    swap m w v = ring (m ∷ w ∷ v ∷ []) (at 0 ⊗ at 1 ⊗ at 2) (at 0 ⊗ at 2 ⊗ at 1) tt
+along-same a b x y w v e g j = rw (g, j, e) (times-exchange (frame_end b) w v)
 
 pub same-corner : (k : FrameCorner) (p q : SpacePoint) → IsFrameCornerAt k p → IsFrameCornerAt k q → SamePoint p q
 same-corner k p q c d = record {
@@ -27,16 +24,16 @@ same-corner k p q c d = record {
 }
 
 pub corner-below : (k j : FrameCorner) (p q : SpacePoint) → IsEndsBelow k j → IsFrameCornerAt k p → IsFrameCornerAt j q → IsPointBelow p q
-corner-below k j p q (inl l) c d = inl (along-low k.x j.x p.x q.x (pos p.w) (pos q.w) l (positive p) (positive q) c.along_x d.along_x)
+corner-below k j p q (inl l) c d = inl (along-low k.x j.x p.x q.x (pos p.w) (pos q.w) l (weight-positive p) (weight-positive q) c.along_x d.along_x)
 corner-below k j p q (inr (e, inl l)) c d = inr (
   along-same k.x j.x p.x q.x (pos p.w) (pos q.w) e c.along_x d.along_x,
-  inl (along-low k.y j.y p.y q.y (pos p.w) (pos q.w) l (positive p) (positive q) c.along_y d.along_y),
+  inl (along-low k.y j.y p.y q.y (pos p.w) (pos q.w) l (weight-positive p) (weight-positive q) c.along_y d.along_y),
 )
 corner-below k j p q (inr (e, inr (f, l))) c d = inr (
   along-same k.x j.x p.x q.x (pos p.w) (pos q.w) e c.along_x d.along_x,
   inr (
     along-same k.y j.y p.y q.y (pos p.w) (pos q.w) f c.along_y d.along_y,
-    inl (along-low k.z j.z p.z q.z (pos p.w) (pos q.w) l (positive p) (positive q) c.along_z d.along_z),
+    inl (along-low k.z j.z p.z q.z (pos p.w) (pos q.w) l (weight-positive p) (weight-positive q) c.along_z d.along_z),
   ),
 )
 

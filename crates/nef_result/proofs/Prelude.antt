@@ -15,7 +15,6 @@ pub use Rattle.law_near.proofs.Cells.{coordinate-in, is_nought}
 pub use Rattle.law_near.proofs.Frames.{frame-minus}
 pub use Rattle.law_near.proofs.Germs.{Germ-from_sample, sample, sample-short, sign-along}
 pub use Rattle.law_near.proofs.Near.{ray-keeps, ray-level}
-pub use Rattle.nef_geo.proofs.Orders.{below-trans}
 pub use Rattle.law_complex.specs.Shows.{Carriers}
 pub use Rattle.nef_star.specs.declared.star.Op.TheVariants.{And, Diff, Or, Xor}
 pub use Rattle.nef_edges.proofs.Places.{at-read}
@@ -28,3 +27,4 @@ pub use Rattle.nef_result.specs.Planes.{sorted_sides}
 pub use Rattle.nef_result.specs.Results.{ArePlanesInOrder, ArePlanesMerged, ArePointsInOrder, IsPlaneBefore, IsUnion}
 pub use Rattle.nef_result.specs.declared.outcome.Outcome.{Outcome}
 pub use Rattle.nef_result.specs.declared.parting.MapSource.{MapSource}
+pub use Rattle.nef_space.proofs.Elementary.{below-trans}

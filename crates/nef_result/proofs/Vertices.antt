@@ -1,5 +1,5 @@
 -- The vertices of a set among its candidates, with their maps, are all its vertices.
-use Rattle.nef_result.proofs.Prelude.{◌≡◌, ℕ, ◌<◌, ◌+◌, List, [], ◌∷◌, ◌++◌, length, map, arith, refl, ap, sym, subst, ◌∙◌, ◌⊎◌, inl, inr, FlatDim, IsVertex, SpacePoint, IsPointBelow, SamePoint, Set, point_of, form_of, Plane, Point, carriers, FlatDim-one, FlatDim-by_germs, germs-by_cell, signs-same, same-point_sym, Map, IsAt, is-at_one, Cone, Least, Ordered, InOrder, Carriers, map_of, IsLeastMap, SphereMap, contains-at, is-at_map, map-is_at, is-at_left, is-at_last, is-at_more, vertex_of, AreVerticesOf, AreHolders, AreInOrder, AreVertexHolders, Vertex, Outcome, MapSource, ArePointsInOrder, IsOtherOf, IsOutcomeAt, AreOutcomesOf, Begins, vertex_at, IsAdded, AreBegun, HasSourceAt, AreThere, IsFilled, AreFilledTo, is-at_none}
+use Rattle.nef_result.proofs.Prelude.{◌≡◌, ℕ, ◌<◌, ◌+◌, List, [], ◌∷◌, ◌++◌, length, map, arith, refl, ap, sym, subst, ◌∙◌, ◌⊎◌, inl, inr, FlatDim, IsVertex, SpacePoint, IsPointBelow, SamePoint, Set, point_of, form_of, Plane, Point, carriers, FlatDim-one, same-point_sym, Map, IsAt, is-at_one, Cone, Least, Ordered, InOrder, Carriers, map_of, IsLeastMap, SphereMap, contains-at, is-at_map, map-is_at, is-at_left, is-at_last, is-at_more, vertex_of, AreVerticesOf, AreHolders, AreInOrder, AreVertexHolders, Vertex, Outcome, MapSource, ArePointsInOrder, IsOtherOf, IsOutcomeAt, AreOutcomesOf, Begins, vertex_at, IsAdded, AreBegun, HasSourceAt, AreThere, IsFilled, AreFilledTo, is-at_none}
 use Rattle.law_sphere.proofs.Dimensions.{volume-dimension, facet-dimension, edge-dimension}
 use Rattle.law_complex.specs.Complexes.{Vertex as PlainVertex}
 use Rattle.nef_smap.proofs.SideLists.{is-at_some as element-at}
@@ -8,6 +8,8 @@ use Rattle.nef_spair.specs.declared.answer.Kind.TheVariants.{Vertex as vertex_ki
 use Rattle.nef_spair.proofs.OneKind.{fits}
 use Rattle.nef_result.specs.declared.outcome.Outcome.TheVariants as outcome
 use Rattle.nef_space.proofs.Lists.{is-at_within}
+use Rattle.std.proofs.lemmas.List.{length_push}
+use Rattle.law_near.proofs.Same.{IsVertex-same}
 
 -- ---- one point after another
 pub begun-none : (ps : List Point) → AreBegun ps [] [] []
@@ -28,16 +30,12 @@ module _ (ps : List Point) (os : List Outcome) (vs : List Vertex) (fs : List Map
 
   begun-kept : ArePointsInOrder ps → (p : Point) → IsAt ps (length os) p → (m : SphereMap) (f : MapSource) → Begins o m f → AreBegun ps (os ++ o ∷ []) (vs ++ vertex_at p m ∷ []) (fs ++ f ∷ [])
   begun-kept r p here m f begins = record {
-    alike = let n = length-more vs (vertex_at p m) in let k = length-more fs f in let e = B.alike in omega (arith, n, k, e);
+    alike = let n = length_push vs (vertex_at p m) in let k = length_push fs f in let e = B.alike in omega (arith, n, k, e);
     each = λ k v g a b. each k v g (is-at_more vs (vertex_at p m) k v a) (is-at_more fs f k g b);
     all = λ k q l a b h. all k q l a h (is-at_more os o k l b);
     ordered = λ j k u v l a b. ordered j k u v l (is-at_more vs (vertex_at p m) j u a) (is-at_more vs (vertex_at p m) k v b);
   }
     where
-      length-more : {A : Type 0} (xs : List A) (x : A) → length (xs ++ x ∷ []) ≡ length xs + 1
-      length-more [] x = refl
-      length-more (z ∷ zs) x = let e = length-more zs x in omega (arith, e)
-
       Each : Vertex → MapSource → Type 0
       Each v g = (k : ℕ) × (l : Outcome) × IsAt ps k v.point × IsAt (os ++ o ∷ []) k l × Begins l v.map g
 
@@ -90,8 +88,6 @@ module _ (M : Map) (s : Set) (p : SpacePoint) (L : Least M) (C : Cone M s p) whe
       differ k g l = let e = FlatDim-one s p 0 k f g in omega (arith, l, e)
 
 -- ---- the vertices of the set
-pub vertex-same : (s : Set) (p q : SpacePoint) → SamePoint p q → IsVertex s p → IsVertex s q
-vertex-same s p q same = FlatDim-by_germs s s p q (germs-by_cell s p q (signs-same (carriers s) p q same)) 0
 
 point-same : (y : SpacePoint) (p q : Point) → q ≡ p → SamePoint (point_of p) y → SamePoint (point_of q) y
 point-same y p q e = subst (λ (r : Point). SamePoint (point_of r) y) (sym e)
@@ -167,7 +163,7 @@ module _ (s : Set) (hs : List Plane) (ps : List Point) (us vs : List Vertex) (os
         let k = contains-at ps p q.1 in
         let l = is-at_within ps k.0 p k.1 in let n = A.alike in
         let o = element-at os k.0 (omega (arith, l, n)) in
-        let there = vertex-same s y (point_of p) (same-point_sym (point_of p) y q.2) v in
+        let there = IsVertex-same s y (point_of p) (same-point_sym (point_of p) y q.2) v in
         let r = A.right k.0 p o.0 k.1 o.1 in
         let e = B.all k.0 p o.0 k.1 o.1 (λ g. subst (IsOutcomeAt us vs s (point_of p)) g r there) in
         let m = is-at_within ys e.0 e.1 e.2 in let j = B.alike in

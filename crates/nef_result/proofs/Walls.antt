@@ -1,7 +1,8 @@
 -- The sides of the frame by their axis and end, and the germs of a set that holds all of the frame or nothing of it.
-use Rattle.nef_result.proofs.Prelude.{◌≡◌, pos, negsuc, arith, refl, sym, ◌∙◌, ◌⊎◌, inl, inr, Bool, true, false, subst, ints, Sign, minus, nought, sign, Lies, lies-left, SpacePoint, Form, slope, InFrame, Vector, Set, halves, HasLabel, Germ, Label, Out, Not, In, reach_all, step-within, sign_at, side, frame, carriers, keeps-all, coordinate-in, label_of, frame-minus, Germ-from_sample, sample, sample-short, sign-along}
+use Rattle.nef_result.proofs.Prelude.{◌≡◌, pos, negsuc, arith, refl, sym, ◌∙◌, ◌⊎◌, inl, inr, Bool, true, false, subst, ints, minus, nought, sign, Lies, lies-left, SpacePoint, Form, slope, InFrame, Vector, Set, halves, HasLabel, Germ, Label, Out, Not, In, reach_all, step-within, sign_at, side, frame, carriers, keeps-all, coordinate-in, label_of, frame-minus, Germ-from_sample, sample, sample-short, sign-along}
 use Rattle.nef_space.specs.Sets.{Holds}
 use Rattle.law_near.proofs.Decisions.{ahead}
+use Rattle.nef_space.proofs.Elementary.{minus-not_nought}
 
 pub data Axis : Type 0 where
   on_x : Axis
@@ -63,12 +64,9 @@ LeadsIn p d a b = (sign_at (wall a b) p ≡ minus) ⊎ ((sign_at (wall a b) p �
 inward-framed : (s : Set) (p : SpacePoint) (d : Vector) → ((a : Axis) (b : Bool) → LeadsIn p d a b) → InFrame (ahead s p d)
 inward-framed s p d f = inside-all (ahead s p d) (λ a b. by a b (f a b))
   where
-    differ : (t : Sign) → t ≡ minus → t ≡ nought → ⊥
-    differ t e f = cc
-
     by : (a : Axis) (b : Bool) → LeadsIn p d a b → sign_at (wall a b) (ahead s p d) ≡ minus
     by a b (inl e) = keeps-all (carriers s) p (ahead s p d) (step-within (reach_all (carriers s) p) p d (sample s p d) (sample-short s p d)) (wall a b)
-        (lies-left frame (halves s) (wall a b) (wall-listed a b)) (differ (sign_at (wall a b) p) e) ∙ e
+        (lies-left frame (halves s) (wall a b) (wall-listed a b)) (minus-not_nought (sign_at (wall a b) p) e) ∙ e
     by a b (inr (z, e)) = sign-along (wall a b) p (sample s p d) d z (sample-short s p d).0 ∙ e
 
 pub germ-inward : (s : Set) (l : Label) → IsOneLabelSet s l → (p : SpacePoint) (d : Vector) → ((a : Axis) (b : Bool) → LeadsIn p d a b) → Germ s p d l

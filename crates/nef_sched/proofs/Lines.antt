@@ -1,10 +1,6 @@
 -- What the queue of a round holds after a number or an end is put.
 use Rattle.nef_sched.proofs.Prelude.{◌≡◌, ◌∙◌, ℕ, ◌+◌, List, [], ◌∷◌, ◌++◌, length, refl, ap, arith, Option, Some, None, Bool, true, false, ◌||◌, ◌⊎◌, inl, inr, numbers_in, ends_in, EndsLast}
 
-pub not_true : (b : Bool) → (b ≡ true → ⊥) → b ≡ false
-not_true true n = absurd (n refl)
-not_true false n = refl
-
 pub one_of : (a b : Bool) → (a || b) ≡ true → (a ≡ true) ⊎ (b ≡ true)
 one_of true b e = inl refl
 one_of false b e = inr e

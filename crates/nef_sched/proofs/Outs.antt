@@ -3,6 +3,7 @@ use Rattle.nef_sched.proofs.Prelude.{◌≡◌, ℕ, zero, suc, ◌+◌, ◌<◌
 use Rattle.std.specs.Prelude.{◌≤◌}
 use Rattle.nef_sched.proofs.Totals.{counts, counts_itself}
 use Rattle.nef_core.proofs.Places.{same_or_not}
+use Rattle.std.proofs.lemmas.Option.{same_Some}
 
 none_differs : {X : Type 0} (x : X) → None ≡ Some x → ⊥
 none_differs x e = cc
@@ -23,10 +24,7 @@ module _ {X : Type 0} where
   -- the place j gets a result
   kept_set : (list : List (Option X)) (j : ℕ) (new : X) (i : ℕ) (out : X) → kept (slice_set list j (Some new)) i ≡ Some out → ((i ≡ j) × (new ≡ out)) ⊎ (kept list i ≡ Some out)
   kept_set [] j new i out e = inr e
-  kept_set (x ∷ xs) zero new zero out e = inl (refl, some_same new out e)
-    where
-      some_same : (a b : X) → Some a ≡ Some b → a ≡ b
-      some_same a b q = cc
+  kept_set (x ∷ xs) zero new zero out e = inl (refl, same_Some new out e)
   kept_set (x ∷ xs) zero new (suc i) out e = inr e
   kept_set (x ∷ xs) (suc j) new zero out e = inr e
   kept_set (x ∷ xs) (suc j) new (suc i) out e = elim (kept_set xs j new i out e) [ inl q ↦ inl (ap suc q.0, q.1) | inr q ↦ inr q ]
@@ -105,10 +103,7 @@ module _ {X : Type 0} where
   slot_kept list ys rest o e = ap (λ (z : List (Option X)). kept z (length ys)) e ∙ mid ys rest o
 
   pub pushed_fits : (P : ℕ → X → Type 0) (outs : List X) (new : X) → ((i : ℕ) (out : X) → slice_get outs i ≡ Some out → P i out) → P (length outs) new → (i : ℕ) (out : X) → slice_get (outs ++ new ∷ []) i ≡ Some out → P i out
-  pushed_fits P [] new h f zero out e = subst (P 0) (same new out e) f
-    where
-      same : (a b : X) → Some a ≡ Some b → a ≡ b
-      same a b q = cc
+  pushed_fits P [] new h f zero out e = subst (P 0) (same_Some new out e) f
   pushed_fits P [] new h f (suc i) out e = absurd (none_differs out e)
   pushed_fits P (x ∷ xs) new h f zero out e = h 0 out e
   pushed_fits P (x ∷ xs) new h f (suc i) out e = pushed_fits (λ k. P (suc k)) xs new (λ k o q. h (suc k) o q) f i out e

@@ -1,13 +1,9 @@
 -- Rounds of numbers, and which results are there before each.
-use Rattle.nef_sched.proofs.Prelude.{◌≡◌, ◌≢◌, ℕ, zero, suc, ◌+◌, ◌<◌, ◌≤◌, ◌⊎◌, inl, inr, max, cond, Bool, List, [], ◌∷◌, ◌++◌, length, refl, ap, sym, ◌∙◌, arith, subst, Option, Some, None, slice_get, slice_set, slice_index_or, All, IfSome, ne_eqb, slice_index, length-append, get_or_append_left, get_or_at, get_or-set_same, slice_get_read, get_or_from_slice_get, one, times, NeedsOf, IsKept, HasNeeds, AreSound, round_after, AreRounds, IsRoundList}
-use Rattle.std.proofs.Math.Nat.{le-max_left, le-max_right, max-le}
+use Rattle.nef_sched.proofs.Prelude.{◌≡◌, ◌≢◌, ℕ, zero, suc, ◌+◌, ◌<◌, ◌≤◌, inl, inr, max, cond, Bool, List, [], ◌∷◌, ◌++◌, length, refl, ap, sym, ◌∙◌, arith, subst, Option, Some, None, slice_get, slice_set, slice_index_or, All, IfSome, ne_eqb, slice_index, length-append, get_or_append_left, get_or_at, get_or-set_same, slice_get_read, get_or_from_slice_get, one, times, NeedsOf, IsKept, HasNeeds, AreSound, round_after, AreRounds, IsRoundList}
+use Rattle.std.proofs.Math.Nat.{le-max_left, le-max_right, max-le, eq-zero-or-pos}
 use Rattle.nef_sched.proofs.Totals.{weigh_append, counts_itself}
 use Rattle.nef_sched.proofs.Outs.{all_in, all_next, ready_of, times_at}
 use Rattle.nef_core.proofs.Places.{same_or_not}
-
-none_or_some : (m : ℕ) → (m ≡ 0) ⊎ (0 < m)
-none_or_some zero = inl refl
-none_or_some (suc m) = inr (omega arith)
 
 one_other : (x y : ℕ) → y ≢ x → one x y ≡ 0
 one_other x y n = ap (λ (b : Bool). cond b 1 0) (ne_eqb y x n)
@@ -79,7 +75,7 @@ group_here n rounds r xs e g = (every, only)
     every : (k : ℕ) → k < n + 1 → slice_index rounds k ≡ r → times k (xs ++ n ∷ []) ≡ 1
     every k low is = elim (same_or_not k n) [
       | inl same ↦
-          let new : times k xs ≡ 0 = elim (none_or_some (times k xs)) [ inl z ↦ z | inr s ↦ absurd (let h = (g.1 k s).0 in omega arith) ] in
+          let new : times k xs ≡ 0 = elim (eq-zero-or-pos (times k xs)) [ inl z ↦ z | inr s ↦ absurd (let h = (g.1 k s).0 in omega arith) ] in
           let own : one k n ≡ 1 = subst (λ z. one k z ≡ 1) same (counts_itself k) in
           let l = longer k in
           omega arith
@@ -130,7 +126,7 @@ pub all_listed : (P : ℕ → Type 0) (xs : List ℕ) → ((k : ℕ) → 0 < tim
 all_listed P xs h i d low = h (slice_index_or xs i d) (times_at xs i d low)
 
 pub group_differs : (size : ℕ) (rounds : List ℕ) (r : ℕ) (xs : List ℕ) → IsRoundList size rounds r xs → (x : ℕ) → times x xs ≤ 1
-group_differs size rounds r xs g x = elim (none_or_some (times x xs)) [
+group_differs size rounds r xs g x = elim (eq-zero-or-pos (times x xs)) [
   | inl z ↦ omega arith
   | inr s ↦ let h = g.1 x s in let e = g.0 x h.0 h.1 in omega arith
 ]

@@ -7,7 +7,8 @@ use Rattle.crossbeam_queue.specs.Fifo.{Pushes, Pops, Forks, Merges, Learns, Held
 use Rattle.crossbeam_queue.proofs.Lists.{at_set, at_snoc}
 use Rattle.nef_sched.specs.Laws.{NumbersAreKnown, PassesAgree, NoneTwice, NoneTakenIsLeft, NoneIsLost, EndedIsEmpty}
 use Rattle.nef_sched.proofs.Totals.{weigh_append, weigh_one, counts, counts_itself, total_set, total_snoc, at_most, two_at_most, all_of_one}
-use Rattle.nef_sched.proofs.Lines.{not_true, one_of, cons_not_nil, numbers_more, numbers_end, ends_more, ends_end, last_more, last_end, last_none, length_in}
+use Rattle.nef_sched.proofs.Lines.{one_of, cons_not_nil, numbers_more, numbers_end, ends_more, ends_end, last_more, last_end, last_none, length_in}
+use Rattle.std.proofs.lemmas.Bool.{false_from_ne_true}
 
 abbrev Each : (View → Type 0) → List View → Type 0
 Each F views = (place : ℕ) (v : View) → get_elem? views place ≡ some v → F v
@@ -130,7 +131,7 @@ takes place v some_part may (Some x) items views kept at =
     let left : List ℕ = numbers_in items in
     let own = s.fits place v at in
     let knows : v.known ≡ numbers = own.knows some_part in
-    let going : v.ended ≡ false = not_true v.ended (λ e. cons_not_nil x left (own.ended e)) in
+    let going : v.ended ≡ false = false_from_ne_true v.ended (λ e. cons_not_nil x left (own.ended e)) in
     let w : View = took v x in
     let here = counts_itself x in
     let e = s.each (one x) in
@@ -415,10 +416,6 @@ or_swap false false c = refl
 pub or_none : (b : Bool) → (b || false) ≡ b
 or_none true = refl
 or_none false = refl
-
-pub or_move : (a b c : Bool) → ((a || b) || c) ≡ (a || (b || c))
-or_move true b c = refl
-or_move false b c = refl
 
 pub ended_snoc : (ps : List RoundPass) (p : RoundPass) → any_ended (ps ++ p ∷ []) ≡ (ended p || any_ended ps)
 ended_snoc [] p = refl

@@ -2,10 +2,7 @@
 use Rattle.nef_script.proofs.Prelude.{◌≡◌, ℕ, Bool, true, false, ◌||◌, ◌&&◌, List, [], ◌∷◌, refl, sym, ◌∙◌, ap, normal_limit, offset_limit, query_limit, query_weight_limit, ray_direction_limit, ray_point_limit, ray_weight_limit, word_test, command_test, some_fails, no_room, roles_test, are_zero, is_normal, is_direction, ScriptKind, NewName, Operand, Coefficient, Mode, Weight, Index}
 use Rattle.nef_script.specs.declared.arguments.Verb.TheVariants as verb
 use Rattle.nef_script.proofs.Firsts.{or_none, swap, plain-roles, command-roles}
-
-or_assoc : (a b c : Bool) → ((a || b) || c) ≡ (a || (b || c))
-or_assoc true b c = refl
-or_assoc false b c = refl
+use Rattle.std.proofs.Math.Bool.{or_assoc}
 
 and_comm : (a b : Bool) → (a && b) ≡ (b && a)
 and_comm true true = refl

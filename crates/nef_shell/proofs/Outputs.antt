@@ -3,6 +3,7 @@ use Rattle.nef_shell.proofs.Prelude.{◌≡◌, ◌↔◌, ℕ, zero, suc, ◌+�
 use Rattle.std.proofs.Common.{drop}
 use Rattle.std.proofs.Math.Seq.{take-append-add}
 use Rattle.nef_space.specs.Local.{Joined}
+use Rattle.nef_io.proofs.Told.{Grows-trans}
 
 -- the output of commands, and of more
 pub output-append : (version : TextVersion) (nodes : List Node) (cs ds : List Command) (x y : List ℕ) → IsOutput version nodes cs x → IsOutput version nodes ds y → IsOutput version nodes (cs ++ ds) (x ++ y)
@@ -14,16 +15,10 @@ pub grows-none : (a : Option (List ℕ)) → Grows a a []
 grows-none None = tt
 grows-none (Some bs) = sym (append-nil bs)
 
-pub grows-more : (a b c : Option (List ℕ)) (xs ys : List ℕ) → Grows a b xs → Grows b c ys → Grows a c (xs ++ ys)
-grows-more a b None xs ys h k = tt
-grows-more a None (Some cs) xs ys h k = absurd k
-grows-more None (Some bs) (Some cs) xs ys h k = absurd h
-grows-more (Some us) (Some bs) (Some cs) xs ys h k = k ∙ (ap (λ z. z ++ ys) h ∙ append_assoc us xs ys)
-
 -- what grew by all of xs and then by a front of ys grew by a front of both
 pub grows_within-more : (a b c : Option (List ℕ)) (xs ys : List ℕ) → Grows a b xs → GrowsWithin b c ys → GrowsWithin a c (xs ++ ys)
 grows_within-more a b c xs ys h (n, k) =
-    (length xs + n, subst (λ z. Grows a c z) (sym (take-append-add xs ys n)) (grows-more a b c xs (take n ys) h k))
+    (length xs + n, subst (λ z. Grows a c z) (sym (take-append-add xs ys n)) (Grows-trans a b c xs (take n ys) h k))
 
 -- the questions of the steps so far, and of one more
 asked-next : (steps : List Step) (i : ℕ) (s : Step) → i < length steps → s ≡ get_or steps i s → asked_values (take (i + 1) steps) ≡ asked_values (take i steps) ++ asked_values (s ∷ [])

@@ -1,10 +1,10 @@
 -- A command has one piece, and the text in it tells its set.
 use Rattle.nef_shell.proofs.Prelude.{◌≡◌, ℕ, refl, ap, sym, ◌∙◌, subst, List, [], ◌∷◌, ◌++◌, length, codes, append_assoc, append_cancel_left, append_cancel_right, SameSet, Set, label-one, point_of, vector_of, TextVersion, text, Node, node_set, Command, Bind, Has, Joined, Ray, Same, Count, Print, framed, line_end, answer_of, IsWrittenOf, same-texts, counted-one, text-spells, text-holds, IsPiece, IsOutput, printed}
 use Rattle.nef_script.specs.declared.script.Command.TheVariants.{Turn}
-use Rattle.nef_statement.proofs.Alike.{same-self}
 use Rattle.nef_statement.proofs.Answered.{answered-one, joined-one, ended-one}
 use Rattle.nef_shell.specs.Prints.{IsPrinted, AreTextsCompared, AreTextsMeant}
 use Rattle.nef_shell.specs.Written.{TextTells}
+use Rattle.law_near.proofs.SameSets.{same-self}
 
 -- the text of a set spells the complex that shows it, and tells which points belong to it
 pub text-tells : (version : TextVersion) (s : Set) (x : List ℕ) → IsWrittenOf s (text version) x → TextTells version s x

@@ -1,12 +1,9 @@
 -- The sets of values, of which tasks make others.
-use Rattle.nef_shell.proofs.Prelude.{◌≡◌, ◌⊎◌, ◌∙◌, ℕ, zero, suc, ◌+◌, ◌<◌, arith, ap, refl, sym, subst, List, [], ◌∷◌, ◌++◌, length, Option, Some, None, inl, inr, Bor, turned_set, Set, Shape, shape_of, operand, UsesBelow, Uses, set_of-same, Step, Task, Make, Turn, Ask, AreSteps, LooksAtValue, MakesValue, first_of, first_value, task_set, second_of, second_value, value_set, values_after, value-before, value-here, Command}
+use Rattle.nef_shell.proofs.Prelude.{◌≡◌, ◌⊎◌, ◌∙◌, ℕ, zero, suc, ◌+◌, ◌<◌, arith, ap, refl, sym, subst, List, [], ◌∷◌, ◌++◌, length, Option, Some, None, inl, inr, Bor, turned_set, Set, Shape, shape_of, operand, Uses, set_of-same, Step, Task, Make, Turn, Ask, AreSteps, LooksAtValue, MakesValue, first_of, first_value, task_set, second_of, second_value, value_set, values_after, value-before, value-here, Command}
 use Rattle.std.proofs.Common.{slice_get}
+use Rattle.nef_expr.proofs.Operands.{uses-from}
 
 -- ---- what a task looks at
-uses-below : (n : ℕ) (s : Shape) → ((k : ℕ) → Uses k s → k < n) → UsesBelow n s
-uses-below n (Shape.leaf s) h = tt
-uses-below n (Shape.unary make i) h = h i refl
-uses-below n (Shape.binary make i j) h = (h i (inl refl), h j (inr refl))
 
 uses-first : (s : Shape) (k : ℕ) → first_of s ≡ Some k → Uses k s
 uses-first (Shape.leaf s) k e = let f : None ≡ Some k = e in cc
@@ -46,7 +43,7 @@ makes-unless (Ask c i second) h = h c i second refl
 
 -- ---- what it makes
 same-made : (n : ℕ) (ss ts : List Set) (t : Task) → ((k : ℕ) → k < n → operand ss k ≡ operand ts k) → ((k : ℕ) → LooksAtValue t k → k < n) → task_set ss t ≡ task_set ts t
-same-made n ss ts (Make m) same below = set_of-same n ss ts m same (uses-below n (shape_of m) below)
+same-made n ss ts (Make m) same below = set_of-same n ss ts m same (uses-from n (shape_of m) below)
 same-made n ss ts (Turn j k) same below = ap (turned_set k) (same j (below j refl))
 same-made n ss ts (Ask c i second) same below = refl
 

@@ -1,7 +1,8 @@
 -- The first item that is met, item by item.
-use Rattle.nef_smap.proofs.Prelude.{◌≡◌, ℕ, ◌+◌, pos, ◌-ℤ◌, ◌*ℤ◌, ◌≤ℤ◌, ◌<ℤ◌, arith, sym, ◌∙◌, ⊎_elim, length, [], ◌∷◌, subst, Option, Some, None, ints, ring, at, num, ◌⊕◌, ◌⊖◌, ◌⊗◌, fraction-le-trans, Vector, dot, IsAt, Map, Item, items, item_normal, is-at_one, rise, IsOver, IsFirst, IsFirstOf, less-or-last}
+use Rattle.nef_smap.proofs.Prelude.{◌≡◌, ℕ, ◌+◌, pos, ◌-ℤ◌, ◌*ℤ◌, ◌≤ℤ◌, ◌<ℤ◌, arith, sym, ◌∙◌, ⊎_elim, length, [], ◌∷◌, subst, Option, Some, None, ints, ring, at, num, ◌⊕◌, ◌⊖◌, ◌⊗◌, fraction-le-trans, Vector, dot, IsAt, Map, Item, items, item_normal, is-at_one, rise, IsOver, IsFirst, IsFirstOf}
 use Rattle.nef_smap.proofs.Rise.{rise-is, rise-level, rise_form-value}
 use Rattle.nef_space.proofs.Lists.{is-at_within}
+use Rattle.nef_space.proofs.Elementary.{less-or-last}
 
 -- heights compare as fractions
 height : (u n m d : Vector) → dot m (rise u n d) ≡ (pos 0 -ℤ dot n d) *ℤ dot m u -ℤ (pos 0 -ℤ dot m d) *ℤ dot n u

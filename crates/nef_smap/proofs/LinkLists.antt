@@ -1,12 +1,13 @@
 -- Lists of links, link by link.
-use Rattle.nef_smap.proofs.Prelude.{◌≡◌, ℕ, zero, suc, ◌+◌, ◌<◌, arith, length-append, refl, ap, sym, ◌∙◌, ⊎_elim, List, [], ◌∷◌, ◌++◌, length, subst, Option, Some, None, Bor, IsAt, up, Label, MapVertex, Arc, MapSloop, Map, sloop_item, items, items_then, around_svertex, pos_item, whole, is-at_one, Link, labelled, svertex_sides, item_sides, sides_of, AreLinked, SphereMap, BelowFirsts, BelowFirst, ArcFirst, SloopFirst, met_number, IsJoin, join_below, join_around, join_arc, join_sloop, join_ground, AreJoins, one_if_label, arounds_before, side_number, JoinsBelow, JoinsAround, JoinsArc, JoinsSloop, JoinsGround, HasLink, ComesOf, AreEach, AreArounds, AreSloops, AreGrounds, less-or-last, Either, earlier, last, is-at_either, is-at_left, is-at_last, is-at_some, is-at_parts, is-at_right, is-at_none, is-at_first}
+use Rattle.nef_smap.proofs.Prelude.{◌≡◌, ℕ, zero, suc, ◌+◌, ◌<◌, arith, length-append, refl, ap, sym, ◌∙◌, ⊎_elim, List, [], ◌∷◌, ◌++◌, length, subst, Option, Some, None, Bor, IsAt, up, Label, MapVertex, Arc, MapSloop, Map, sloop_item, items, items_then, around_svertex, pos_item, whole, is-at_one, Link, labelled, svertex_sides, item_sides, sides_of, AreLinked, SphereMap, BelowFirsts, BelowFirst, ArcFirst, SloopFirst, met_number, IsJoin, join_below, join_around, join_arc, join_sloop, join_ground, AreJoins, one_if_label, arounds_before, side_number, JoinsBelow, JoinsAround, JoinsArc, JoinsSloop, JoinsGround, HasLink, ComesOf, AreEach, AreArounds, AreSloops, AreGrounds, Either, earlier, last, is-at_pushed, is-at_left, is-at_last, is-at_some, is-at_parts, is-at_right, is-at_none, is-at_first}
 use Rattle.nef_smap.proofs.SideLists.{length-item_sides}
 use Rattle.nef_space.proofs.Lists.{is-at_within}
 use Rattle.law_sphere.proofs.Builder.{sloops-one}
+use Rattle.nef_space.proofs.Elementary.{less-or-last}
 
 -- ---- one link for each
 pub each-more : (P : ℕ → Link → Type 0) (n : ℕ) (ls : List Link) (l : Link) → P n l → AreEach P n ls → AreEach P (n + 1) (ls ++ l ∷ [])
-each-more P n ls l p E = record { as_many = let a = length-append ls (l ∷ []) in let b = E.as_many in omega arith; each = λ k x a. by k x (is-at_either ls k x l a) }
+each-more P n ls l p E = record { as_many = let a = length-append ls (l ∷ []) in let b = E.as_many in omega arith; each = λ k x a. by k x (is-at_pushed ls k x l a) }
   where
     by : (k : ℕ) (x : Link) → Either ls k x l → P k x
     by k x (earlier a) = E.each k x a
@@ -49,7 +50,7 @@ arounds-none M = record { only = λ i l a. cc; each = λ k v m h a q. absurd (om
 
 pub arounds-more : (M : Map) (n : ℕ) (ls : List Link) (l : Link) → JoinsAround M n l → AreArounds M n ls → AreArounds M (n + 1) (ls ++ l ∷ [])
 arounds-more M n ls l j A = record {
-  only = λ i x a. by i x (is-at_either ls i x l a);
+  only = λ i x a. by i x (is-at_pushed ls i x l a);
   each = λ k v m h a q. ⊎_elim (λ g. has-more (JoinsAround M k) ls (l ∷ []) (A.each k v m g a q)) (λ e. has-last (JoinsAround M k) ls l (subst (λ (i : ℕ). JoinsAround M i l) (sym e) j)) (less-or-last k n h);
 }
   where

@@ -1,6 +1,6 @@
 -- Elements by their places, in lists, in longer ones and in what a function makes of them.
-use Rattle.nef_smap.proofs.Prelude.{◌≡◌, ℕ, zero, suc, ◌+◌, ◌<◌, ◌≤◌, ◌⊎◌, inl, inr, ⊎_elim, List, [], ◌∷◌, ◌++◌, length, map, get_or, slice_get, None, arith, sym, subst, Contains, IsAt, is-at_get, is-at_is, is-at_last, is-at_left, is-at_parts, is-at_right, is-at_some, is-at_within}
-use Rattle.nef_space.proofs.Lists.{is-at_read, is-at_more, is-at_map, map-is_at}
+use Rattle.nef_smap.proofs.Prelude.{◌≡◌, ℕ, zero, suc, ◌+◌, ◌<◌, ◌≤◌, List, [], ◌∷◌, ◌++◌, length, map, slice_get, None, arith, sym, subst, Contains, IsAt, is-at_get, is-at_is, is-at_right, is-at_within}
+use Rattle.nef_space.proofs.Lists.{is-at_map}
 
 module _ {A : Type 0} where
   -- ---- what reading gives
@@ -22,13 +22,6 @@ module _ {A : Type 0} where
   -- an element of the second of two lists put together, by its place in both
   abbrev pub InSecond : List A → List A → ℕ → A → Type 0
   InSecond xs ys k x = (j : ℕ) × (k ≡ length xs + j) × IsAt ys j x
-
-  -- an element of both is one of the first, or of the second
-  pub at-parts : (xs ys : List A) (k : ℕ) (x : A) → IsAt (xs ++ ys) k x → IsAt xs k x ⊎ InSecond xs ys k x
-  at-parts xs ys k x h = is-at_parts xs ys k x h
-
-  pub either-at : (xs ys : List A) (k : ℕ) (x : A) → IsAt (xs ++ ys) k x → IsAt xs k x ⊎ ((j : ℕ) × IsAt ys j x)
-  either-at xs ys k x h = ⊎_elim (λ a. inl a) (λ r. inr (r.0, r.2)) (at-parts xs ys k x h)
 
 -- ---- what a function makes of each
 module _ {A B : Type 0} (f : A → B) where

@@ -1,6 +1,6 @@
 -- The directions u and -u are plain by what lies over close directions.
-use Rattle.nef_smap.proofs.Prelude.{◌≡◌, ℕ, ◌<◌, ◌≤◌, ℤ, pos, ◌+ℤ◌, ◌-ℤ◌, ◌*ℤ◌, ◌≤ℤ◌, ◌<ℤ◌, arith, refl, ap, sym, ◌∙◌, ⊎_elim, List, [], ◌∷◌, subst, None, ints, ring, at, num, neg, ◌⊕◌, ◌⊖◌, ◌⊗◌, follows, given, none, sign, by_order, mul_pos, mul_nonneg, mul_neg, nought-or, Lies, Vector, IsDirection, IsZero, cross, dot, SameDirection, IsOpposite, opposite, blend, Label, same-off, IsAt, MapVertex, Map, Item, items, item_normal, IsFree, Side, Shaped, Keeps, forms, Labelling, Near, Plain, PlainAt, dot-comb, same-plus, item-forms, normal-form, amount, far-keeps, far-level, mixed-sign, free-around, carried, cross-direction_left, cross-self, over_forms, IsOver, first_sign, Stands, met, BelowFirsts, dot-comm, zero-decided, dot-zero, zero-dot, self-pos, nought-if, dir-signs}
-use Rattle.nef_smap.proofs.Rise.{form-over}
+use Rattle.nef_smap.proofs.Prelude.{◌≡◌, ℕ, ◌<◌, ◌≤◌, ℤ, pos, ◌+ℤ◌, ◌-ℤ◌, ◌*ℤ◌, ◌≤ℤ◌, ◌<ℤ◌, arith, refl, ap, sym, ◌∙◌, ⊎_elim, List, [], ◌∷◌, subst, None, ints, ring, at, num, neg, ◌⊕◌, ◌⊖◌, ◌⊗◌, follows, given, none, sign, by_order, mul_pos, mul_nonneg, mul_neg, nought-or, Lies, Vector, IsDirection, IsZero, cross, dot, SameDirection, IsOpposite, opposite, blend, Label, same-off, IsAt, MapVertex, Map, Item, items, item_normal, IsFree, Side, Shaped, Keeps, Labelling, Near, Plain, PlainAt, dot-comb, same-plus, item-forms, normal-form, amount, far-keeps, far-level, mixed-sign, free-around, carried, cross-direction_left, cross-self, over_forms, IsOver, first_sign, Stands, met, BelowFirsts, dot-comm, zero-decided, dot-zero, zero-dot, self-pos, nought-if, dir-signs}
+use Rattle.nef_smap.proofs.Rise.{form-over, forms-kept}
 use Rattle.nef_smap.proofs.Over.{first-one}
 use Rattle.nef_smap.proofs.Stands.{far-first, stand, stands, stands-keeps}
 use Rattle.nef_smap.proofs.Labelled.{above_forms, turned-form, LabelAbove, by_one, labelled, first-same}
@@ -32,9 +32,6 @@ module _ (M : Map) (V : Shaped M) (u : Vector) (ahead : (k : ℕ) (x : Item) →
   abbrev L : Labelling (above_forms M u e G top) F
   L = labelled M u e G top V ahead
 
-  forms-kept : (d z : Vector) → Keeps (over_forms M u) d z → Keeps (forms M) d z
-  forms-kept d z k g l f = k g (form-over M u g l) f
-
   -- ---- at u nothing lies over close directions
   module _ (d : Vector) (D : IsFree M d) (w : SameDirection u d) (hu : IsDirection u) where
     top-at : (z : Vector) → Keeps (over_forms M u) d z → IsFree M z → F z top
@@ -55,13 +52,13 @@ module _ (M : Map) (V : Shaped M) (u : Vector) (ahead : (k : ℕ) (x : Item) →
     pub plain-up : PlainAt F d top
     plain-up = record {
       at_d = top-at d (λ g l f. refl) D;
-      near = λ w. (amount (over_forms M u) w, λ k h. let s = far-keeps (over_forms M u) d w k h in top-at (blend k d 1 w) s (free-around M V d (blend k d 1 w) (forms-kept d (blend k d 1 w) s) D));
+      near = λ w. (amount (over_forms M u) w, λ k h. let s = far-keeps (over_forms M u) d w k h in top-at (blend k d 1 w) s (free-around M V d (blend k d 1 w) (forms-kept M u d (blend k d 1 w) s) D));
     }
 
   -- ---- at -u
   module _ (d : Vector) (D : IsFree M d) (p : IsZero (cross u d)) where
     free-near : (z : Vector) → Keeps (over_forms M u) d z → IsFree M z
-    free-near z k = free-around M V d z (forms-kept d z k) D
+    free-near z k = free-around M V d z (forms-kept M u d z k) D
 
     plain-near : (z : Vector) → Keeps (over_forms M u) d z → IsDirection (cross u z) → Plain F z
     plain-near z k f m a w h =

@@ -41,8 +41,8 @@ pub use Rattle.law_sphere.proofs.Walk.{between-direction, carried, cross-directi
 pub use Rattle.law_sphere.specs.Forms.{axis_x, axis_y, axis_z}
 pub use Rattle.law_sphere.specs.Labelling.{PlainAt}
 pub use Rattle.law_sphere.specs.Maps.{ArcBetween}
-pub use Rattle.nef_classes.proofs.Chains.{chain-keeps, chain-link, chain-map, chain-trans, chain-turned}
-pub use Rattle.nef_classes.proofs.ClassLists.{Either, earlier, is-at_either, last, less-or-last}
+pub use Rattle.nef_space.proofs.Chains.{chain-keeps, chain-link, chain-map, chain-trans, chain-turned}
+pub use Rattle.nef_classes.proofs.ClassLists.{Either, earlier, last, is-at_pushed}
 pub use Rattle.nef_space.proofs.Lists.{is-at_first, is-at_get, is-at_is, is-at_last, is-at_left, is-at_none, is-at_parts, is-at_right, is-at_some, is-at_within, map-is_at, is-at_one}
 pub use Rattle.nef_classes.specs.Classes.{LinksAreBelow}
 pub use Rattle.nef_classes.specs.declared.forest.Link.{Link}
@@ -69,3 +69,4 @@ pub use Rattle.nef_smap.specs.declared.map.SVertex.{SVertex}
 pub use Rattle.nef_smap.specs.declared.map.SphereMap.{SphereMap}
 pub use Rattle.nef_smap.specs.declared.meets.SpherePath.{SpherePath}
 pub use Rattle.nef_smap.specs.declared.meets.Values.{Values}
+pub use Rattle.nef_space.proofs.Elementary.{less-or-last}

@@ -52,6 +52,10 @@ rise-meridian M u k x g a l = lies-right (gather (λ (v : MapVertex). cross u v.
 pub form-over : (M : Map) (u g : Vector) → Lies (forms M) g → Lies (over_forms M u) g
 form-over M u g l = lies-left (forms M) (meridians M u) g l
 
+-- what keeps the forms over u keeps the map's own
+pub forms-kept : (M : Map) (u d z : Vector) → Keeps (over_forms M u) d z → Keeps (forms M) d z
+forms-kept M u d z k g l f = k g (form-over M u g l) f
+
 pub meridian-over : (M : Map) (u g : Vector) → Lies (meridians M u) g → Lies (over_forms M u) g
 meridian-over M u g l = lies-right (forms M) (meridians M u) g l
 

@@ -1,6 +1,6 @@
 -- By what lies over directions, free directions are plain and directions on items straight, and round a svertex without arcs there is one label.
-use Rattle.nef_smap.proofs.Prelude.{◌≡◌, ℕ, ◌+◌, ◌<◌, ◌≤◌, pos, ◌+ℤ◌, ◌*ℤ◌, ◌<ℤ◌, nat_abs, arith, refl, ap, sym, ◌∙◌, inl, inr, ◌∷◌, subst, Some, ints, Sign, sign, sign-plus, sign-minus, by_order, nought-is, Lies, Vector, IsDirection, IsZero, cross, dot, SameDirection, blend, Label, Out, same-off, sign-large, IsAt, MapVertex, Map, Item, items, item_normal, OnItem, IsFree, Side, neg_item, HasArc, Shaped, Keeps, forms, by_side, Near, PlainAt, StraightAt, dot-comb, same-plus, same-minus, is-at_one, item-forms, normal-form, on-level, amount, far-keeps, far-level, cross-between, direction-around, svertex-around, free-around, item-stays, free-beside, over_forms, first_sign, Stands, met, BelowFirsts, self-pos}
-use Rattle.nef_smap.proofs.Rise.{form-over, keeps-then}
+use Rattle.nef_smap.proofs.Prelude.{◌≡◌, ℕ, ◌+◌, ◌<◌, ◌≤◌, pos, ◌+ℤ◌, ◌*ℤ◌, ◌<ℤ◌, nat_abs, arith, refl, ap, sym, ◌∙◌, inl, inr, ◌∷◌, subst, Some, ints, Sign, sign, sign-plus, sign-minus, by_order, nought-is, Lies, Vector, IsDirection, IsZero, cross, dot, SameDirection, blend, Label, Out, same-off, sign-large, IsAt, MapVertex, Map, Item, items, item_normal, OnItem, IsFree, Side, neg_item, HasArc, Shaped, Keeps, by_side, Near, PlainAt, StraightAt, dot-comb, same-plus, same-minus, is-at_one, item-forms, normal-form, on-level, amount, far-keeps, far-level, cross-between, direction-around, svertex-around, free-around, item-stays, free-beside, over_forms, first_sign, Stands, met, BelowFirsts, self-pos}
+use Rattle.nef_smap.proofs.Rise.{form-over, keeps-then, forms-kept}
 use Rattle.nef_smap.proofs.Over.{touches-back, first-one}
 use Rattle.nef_smap.proofs.Stands.{first-none, stand, stands, stands-keeps}
 use Rattle.nef_smap.proofs.Close.{Clean}
@@ -12,9 +12,6 @@ module _ (M : Map) (V : Shaped M) (u : Vector) (ahead : (k : ℕ) (x : Item) →
     (G : Side → Label) (top : Label) (firsts : (k : ℕ) (v : MapVertex) → IsAt M.svertices k v → BelowFirsts M u v.dir) (joins : (k : ℕ) (v : MapVertex) (a : IsAt M.svertices k v) → (let j = firsts k v a in met G top j.left ≡ met G top j.right)) (e : Vector) where
   abbrev F : Vector → Label → Type 0
   F = LabelAbove M u e G top
-
-  keeps-forms : (d z : Vector) → Keeps (over_forms M u) d z → Keeps (forms M) d z
-  keeps-forms d z k g l f = k g (form-over M u g l) f
 
   module _ (d : Vector) (f : IsDirection (cross u d)) where
     abbrev l : Vector
@@ -69,7 +66,7 @@ module _ (M : Map) (V : Shaped M) (u : Vector) (ahead : (k : ℕ) (x : Item) →
     pub plain-free : IsFree M d → PlainAt F d over_label
     plain-free D = record {
       at_d = close d (λ g i n. refl) (λ z. let p = self-pos l f in omega (arith, ints)) D (λ y k j. free-clean M V u ahead d y k f D);
-      near = λ w. (bound w, λ k h. near w k h (free-around M V d (blend k d 1 w) (keeps-forms d (blend k d 1 w) (near-keeps w k h)) D) (λ y i j. free-clean M V u ahead d y i f D));
+      near = λ w. (bound w, λ k h. near w k h (free-around M V d (blend k d 1 w) (forms-kept M u d (blend k d 1 w) (near-keeps w k h)) D) (λ y i j. free-clean M V u ahead d y i f D));
     }
 
     -- ---- directions on items
@@ -86,7 +83,7 @@ module _ (M : Map) (V : Shaped M) (u : Vector) (ahead : (k : ℕ) (x : Item) →
       above : (w : Vector) (k : ℕ) → bound w ≤ k → pos 0 <ℤ dot n (blend k d 1 w) → F (blend k d 1 w) over_label
       above w k h p =
           let z = blend k d 1 w in
-          near w k h (free-beside M V d z (keeps-forms d z (near-keeps w k h)) i x a o (λ q. omega (arith, ints)))
+          near w k h (free-beside M V d z (forms-kept M u d z (near-keeps w k h)) i x a o (λ q. omega (arith, ints)))
           (λ y s t. item-clean M V u ahead d y s f i x a o (same-plus (dot n z) (dot n y) (t n normal-in (λ q. omega (arith, ints))) p))
 
       below : (w : Vector) (k : ℕ) → bound w ≤ k → dot n (blend k d 1 w) <ℤ pos 0 → F (blend k d 1 w) (G (neg_item i))
@@ -96,7 +93,7 @@ module _ (M : Map) (V : Shaped M) (u : Vector) (ahead : (k : ℕ) (x : Item) →
           let s = near-keeps w k h in
           let t = keeps-then (over_forms M u) d z y s (viewer-keeps z) in
           let q = same-minus (dot n z) (dot n y) (viewer-keeps z n normal-in (λ q. omega (arith, ints))) p in
-          by_one M u e G top V ahead z y (G (neg_item i)) (free-beside M V d z (keeps-forms d z s) i x a o (λ q. omega (arith, ints))) (viewer-stands z)
+          by_one M u e G top V ahead z y (G (neg_item i)) (free-beside M V d z (forms-kept M u d z s) i x a o (λ q. omega (arith, ints))) (viewer-stands z)
           (λ r g. ap (met G top) (first-one M V u ahead y r (Some i) g (lower-first M V u ahead d y t i x a o q)))
 
       pub straight-on : StraightAt F n over_label Out (G (neg_item i)) d
@@ -109,19 +106,19 @@ module _ (M : Map) (V : Shaped M) (u : Vector) (ahead : (k : ℕ) (x : Item) →
               subst (λ (t : Sign). F z (by_side over_label Out (G (neg_item i)) t)) s
               (by_order (dot n z) (pos 0)
               (λ p. subst (λ (t : Sign). F z (by_side over_label Out (G (neg_item i)) t)) (sym (sign-minus (dot n z) p)) (below w k h p))
-              (λ p. subst (λ (t : Sign). F z (by_side over_label Out (G (neg_item i)) t)) (sym (ap sign p)) (on-it z (item-stays M V d z (keeps-forms d z (near-keeps w k h)) i x a p o)))
+              (λ p. subst (λ (t : Sign). F z (by_side over_label Out (G (neg_item i)) t)) (sym (ap sign p)) (on-it z (item-stays M V d z (forms-kept M u d z (near-keeps w k h)) i x a p o)))
               (λ p. subst (λ (t : Sign). F z (by_side over_label Out (G (neg_item i)) t)) (sym (sign-plus (dot n z) p)) (above w k h p)))
 
     -- ---- svertices without arcs
     module _ (i : ℕ) (v : MapVertex) (a : IsAt M.svertices i v) (q : v.dir ≡ d) (n : HasArc M i → ⊥) where
       lone-free : (w z : Vector) → Keeps (over_forms M u) d z → IsDirection (cross d z) → IsFree M z
       lone-free w z k h = record {
-        direction = direction-around M V d z (keeps-forms d z k) hd;
+        direction = direction-around M V d z (forms-kept M u d z k) hd;
         off_svertices = λ j y b s.
-            let t = svertex-around M V d z (keeps-forms d z k) j y b hd s in
+            let t = svertex-around M V d z (forms-kept M u d z k) j y b hd s in
             let m = V.svertices_apart j i y v b a (subst (SameDirection y.dir) (sym q) t) in
             apart-from j y b s m;
-        off_items = λ j y b s. lone-untouched M V d i v a q n j y b (touches-back M V d z (keeps-forms d z k) j y b hd s);
+        off_items = λ j y b s. lone-untouched M V d i v a q n j y b (touches-back M V d z (forms-kept M u d z k) j y b hd s);
       }
         where
           hd : IsDirection d

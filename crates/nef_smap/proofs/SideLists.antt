@@ -2,8 +2,8 @@
 use Rattle.nef_smap.proofs.Prelude.{◌≡◌, ℕ, zero, suc, ◌+◌, ◌*◌, ◌/◌, ◌%◌, ◌⊎◌, inl, inr, ⊎_elim, List, [], ◌∷◌, ◌++◌, length, map, Option, Some, None, cond, is_some, arith, add-zero, zero-add, length-append, refl, sym, ◌∙◌, ap, subst, slice_get, ◌<◌, Bool, true, false, not, filter_map, cons_option, IsAt, Label, MapVertex, Item, Map, items, item_pos, item_neg, Side, around_svertex, pos_item, neg_item, whole, HasSide, SVertex, SphereMap, svertex_of, map_of, LabelledSide, labelled, svertex_sides, item_sides, sides_of, IsSide, is-at_none, is-at_first}
 use lib.Dec.{eqb}
 use mir.Val.{bool_byte}
-pub use Rattle.nef_smap.proofs.Lists.{at-right, InSecond, at-parts, get-past, either-at}
-pub use Rattle.nef_space.proofs.Lists.{is-at_left, is-at_some}
+pub use Rattle.nef_smap.proofs.Lists.{at-right, InSecond, get-past}
+pub use Rattle.nef_space.proofs.Lists.{is-at_left, is-at_some, is-at_either, is-at_parts}
 
 -- ---- how many
 pub length-item_sides : (k : ℕ) (xs : List Item) → length (item_sides k xs) ≡ 2 * length xs
@@ -58,6 +58,11 @@ item-side n (y ∷ xs) (suc k) x a =
       rw g (subst (λ (i : ℕ). IsAt (item_sides (suc n) xs) (2 * k + 1) (neg_item i, item_neg x)) e r.1),
     )
 
+-- the one side of a map without svertices and items
+pub whole-labelled : (g : Option Label) (l : Label) → g ≡ Some l → IsAt (labelled whole g) 0 (whole, l)
+whole-labelled None l e = cc
+whole-labelled (Some k) l e = let f : k ≡ l = cc in ap (λ (r : Label). Some (whole, r)) f
+
 -- ---- the sides of the program's maps
 module _ (m : SphereMap) where
   abbrev arounds : List LabelledSide
@@ -88,11 +93,7 @@ module _ (m : SphereMap) where
       let g = length-svertex_sides 0 m.svertices in
       let h = length-item_sides 0 (items (map_of m)) in
       let i = length-append arounds of_items in
-      (at-right (arounds ++ of_items) (labelled whole m.ground) 0 s (whole, l) (omega arith) (by m.ground f))
-    where
-      by : (g : Option Label) → g ≡ Some l → IsAt (labelled whole g) 0 (whole, l)
-      by None e = cc
-      by (Some k) e = let f : k ≡ l = cc in ap (λ (r : Label). Some (whole, r)) f
+      (at-right (arounds ++ of_items) (labelled whole m.ground) 0 s (whole, l) (omega arith) (whole-labelled m.ground l f))
 
   pub side-item : (s n : ℕ) (x : Item) (l : Label) → s ≡ arounds_count + n → IsAt (items (map_of m)) (n / 2) x → l ≡ cond (eqb (n % 2) 0) (item_pos x) (item_neg x) → (o : Side) × IsSide (map_of m) s o l
   side-item s n x l e a f = by (n % 2) refl f
@@ -115,7 +116,7 @@ labelled-has p (Some m) (suc s) o l a = absurd (is-at_none a)
 
 svertex-has : (n : ℕ) (vs : List MapVertex) (s : ℕ) (o : Side) (l : Label) → IsAt (svertex_sides n vs) s (o, l) → (i : ℕ) × (v : MapVertex) × IsAt vs i v × (v.around ≡ Some l) × (o ≡ around_svertex (n + i))
 svertex-has n [] s o l a = absurd (is-at_none a)
-svertex-has n (v ∷ vs) s o l a = by (λ s' b. svertex-has (suc n) vs s' o l b) (either-at (labelled (around_svertex n) v.around) (svertex_sides (suc n) vs) s (o, l) a)
+svertex-has n (v ∷ vs) s o l a = by (λ s' b. svertex-has (suc n) vs s' o l b) (is-at_either (labelled (around_svertex n) v.around) (svertex_sides (suc n) vs) s (o, l) a)
   where
     by : ((s : ℕ) → IsAt (svertex_sides (suc n) vs) s (o, l) → (i : ℕ) × (w : MapVertex) × IsAt vs i w × (w.around ≡ Some l) × (o ≡ around_svertex (suc n + i)))
         → IsAt (labelled (around_svertex n) v.around) s (o, l) ⊎ ((j : ℕ) × IsAt (svertex_sides (suc n) vs) j (o, l))
@@ -135,7 +136,7 @@ item-has n (x ∷ xs) (suc (suc s)) o l a =
 
 -- a map has each of its numbered sides
 pub side-has : (M : Map) (s : ℕ) (o : Side) (l : Label) → IsSide M s o l → HasSide M o l
-side-has M s o l g = by (either-at (svertex_sides 0 M.svertices ++ item_sides 0 (items M)) (labelled whole M.ground) s (o, l) g)
+side-has M s o l g = by (is-at_either (svertex_sides 0 M.svertices ++ item_sides 0 (items M)) (labelled whole M.ground) s (o, l) g)
   where
     around : ((i : ℕ) × (v : MapVertex) × IsAt M.svertices i v × (v.around ≡ Some l) × (o ≡ around_svertex (0 + i))) → HasSide M o l
     around (i, v, a, e, f) = subst (λ (p : Side). HasSide M p l) (sym (f ∙ ap around_svertex (zero-add i))) (v, a, e)
@@ -149,5 +150,5 @@ side-has M s o l g = by (either-at (svertex_sides 0 M.svertices ++ item_sides 0 
     part (inr (j, a)) = of_item (item-has 0 (items M) j o l a)
 
     by : IsAt (svertex_sides 0 M.svertices ++ item_sides 0 (items M)) s (o, l) ⊎ ((j : ℕ) × IsAt (labelled whole M.ground) j (o, l)) → HasSide M o l
-    by (inl a) = part (either-at (svertex_sides 0 M.svertices) (item_sides 0 (items M)) s (o, l) a)
+    by (inl a) = part (is-at_either (svertex_sides 0 M.svertices) (item_sides 0 (items M)) s (o, l) a)
     by (inr (j, a)) = let r = labelled-has whole M.ground j o l a in subst (λ (p : Side). HasSide M p l) (sym r.0) r.1

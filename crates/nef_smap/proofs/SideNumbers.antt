@@ -1,8 +1,8 @@
 -- Each side of a map has its number, and no other.
 use Rattle.nef_smap.proofs.Prelude.{◌≡◌, ℕ, zero, suc, ◌+◌, ◌*◌, ◌⊎◌, inl, inr, ⊎_elim, List, [], ◌∷◌, ◌++◌, length, Option, Some, None, arith, zero-add, length-append, refl, sym, ◌∙◌, ap, subst, Label, IsAt, MapVertex, Item, Map, items, Side, around_svertex, pos_item, neg_item, whole, HasSide, LabelledSide, labelled, svertex_sides, item_sides, sides_of, IsSide, one_if_label, arounds_before, side_number, is-at_none, is-at_first}
-use Rattle.nef_smap.proofs.SideLists.{length-item_sides, item-side}
-use Rattle.nef_smap.proofs.Lists.{at-right, InSecond, at-parts}
-use Rattle.nef_space.proofs.Lists.{is-at_left}
+use Rattle.nef_smap.proofs.SideLists.{length-item_sides, item-side, whole-labelled}
+use Rattle.nef_smap.proofs.Lists.{at-right, InSecond}
+use Rattle.nef_space.proofs.Lists.{is-at_left, is-at_parts}
 
 -- ---- where each side stands
 svertex-at : (n : ℕ) (vs : List MapVertex) (k : ℕ) (v : MapVertex) (l : Label) → IsAt vs k v → v.around ≡ Some l → IsAt (svertex_sides n vs) (arounds_before vs k) (around_svertex (n + k), l)
@@ -43,11 +43,7 @@ module _ (M : Map) where
       let s = length around + 2 * length (items M) in
       let h = length-item_sides 0 (items M) in
       let i = length-append around of_items in
-      (at-right (around ++ of_items) (labelled whole M.ground) 0 s (whole, l) (omega arith) (by M.ground e))
-    where
-      by : (g : Option Label) → g ≡ Some l → IsAt (labelled whole g) 0 (whole, l)
-      by None e = cc
-      by (Some k) e = let f : k ≡ l = cc in ap (λ (r : Label). Some (whole, r)) f
+      (at-right (around ++ of_items) (labelled whole M.ground) 0 s (whole, l) (omega arith) (whole-labelled M.ground l e))
 
 -- ---- what stands at each number
 svertex-number : (n : ℕ) (v : MapVertex) (vs : List MapVertex) (s : ℕ) (o : Side) (l : Label) → IsAt (svertex_sides n (v ∷ vs)) s (o, l)
@@ -79,7 +75,7 @@ items-number n (x ∷ xs) (suc (suc s)) o l a =
     (suc r.0, ⊎_elim (λ q. inl (q.0 ∙ ap pos_item e, (let i = q.1 in let h : suc (suc s) ≡ 2 * suc r.0 = omega arith in h))) (λ q. inr (q.0 ∙ ap neg_item e, (let i = q.1 in let h : suc (suc s) ≡ 2 * suc r.0 + 1 = omega arith in h))) r.1)
 
 pub number-one : (M : Map) (s : ℕ) (o : Side) (l : Label) → IsSide M s o l → s ≡ side_number M o
-number-one M s o l g = by (at-parts (around M ++ of_items M) (labelled whole M.ground) s (o, l) g)
+number-one M s o l g = by (is-at_parts (around M ++ of_items M) (labelled whole M.ground) s (o, l) g)
   where
     is : (p : Side) → o ≡ p → s ≡ side_number M p → s ≡ side_number M o
     is p e q = q ∙ ap (side_number M) (sym e)
@@ -98,7 +94,7 @@ number-one M s o l g = by (at-parts (around M ++ of_items M) (labelled whole M.g
     last (Some m) (suc j) a = absurd (is-at_none a)
 
     by : IsAt (around M ++ of_items M) s (o, l) ⊎ InSecond (around M ++ of_items M) (labelled whole M.ground) s (o, l) → s ≡ side_number M o
-    by (inl a) = part (at-parts (around M) (of_items M) s (o, l) a)
+    by (inl a) = part (is-at_parts (around M) (of_items M) s (o, l) a)
     by (inr (j, e, a)) =
         let r = last M.ground j a in
         let h = length-item_sides 0 (items M) in

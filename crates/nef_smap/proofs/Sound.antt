@@ -1,6 +1,6 @@
 -- Joined sides are of one sface.
-use Rattle.nef_smap.proofs.Prelude.{◌≡◌, ℕ, ◌+◌, ◌<◌, ◌≤◌, ℤ, pos, ◌-ℤ◌, ◌*ℤ◌, ◌<ℤ◌, neg_ℤ, arith, refl, ap, sym, ◌∙◌, ◌⊎◌, inl, inr, ⊎_elim, [], ◌∷◌, length, subst, Option, Some, None, ints, ring, at, num, neg, ◌⊕◌, ◌⊖◌, ◌⊗◌, follows, given, none, sign, sign-plus, plus-is, nought-is, mul_pos, sign-scaled, nought-or, square_pos, Lies, Chained, Vector, IsDirection, IsZero, cross, triple, dot, opposite, SameDirection, blend, Label, IsAt, MapVertex, Arc, MapSloop, Map, Item, arc_item, sloop_item, items, item_normal, item_pos, dir_of, OnItem, IsFree, Side, around_svertex, pos_item, neg_item, whole, HasSide, IsClear, Sees, directly, HasArc, Shaped, Keeps, forms, normal-is, dot-comb, is-at_one, item-forms, normal-form, on-direction, on-level, amount, far-keeps, arc-point, cross-self, between-off_target, cross-between, dir-at, arc-at, direction-around, svertex-around, free-around, free-beside, at-arc, keeps-between, kept-not_opposite, clear-around, axes-forms, clear-self, sees_both, free-seen, sides_of, SideSees, SeeOneWay, side_number, meridians, over_forms, IsFirst, first_sign, Stands, FirstNear, BelowFirsts, BelowFirst, ArcFirst, SloopFirst, met_number, IsJoin, join_below, join_around, join_arc, join_sloop, join_ground, chain-link, chain-trans, chain-turned, cases_lt, zero-dot, self-pos, cross-turned, dir-self, opposite-turned, apart, blend-turned}
-use Rattle.nef_smap.proofs.Rise.{form-over, meridian-over, meridian-level, svertex-meridian, meridian-turn}
+use Rattle.nef_smap.proofs.Prelude.{◌≡◌, ℕ, ◌+◌, ◌<◌, ◌≤◌, ℤ, pos, ◌-ℤ◌, ◌*ℤ◌, ◌<ℤ◌, neg_ℤ, arith, refl, ap, sym, ◌∙◌, ◌⊎◌, inl, inr, [], ◌∷◌, length, subst, Option, Some, None, ints, ring, at, num, neg, ◌⊕◌, ◌⊖◌, ◌⊗◌, follows, given, none, sign, sign-plus, plus-is, nought-is, mul_pos, sign-scaled, Lies, Chained, Vector, IsDirection, IsZero, cross, triple, dot, opposite, SameDirection, blend, Label, IsAt, MapVertex, Arc, MapSloop, Map, Item, arc_item, sloop_item, items, item_normal, item_pos, dir_of, OnItem, IsFree, Side, around_svertex, pos_item, neg_item, whole, HasSide, IsClear, Sees, directly, HasArc, Shaped, Keeps, forms, normal-is, dot-comb, is-at_one, item-forms, normal-form, on-direction, on-level, amount, far-keeps, arc-point, cross-self, between-off_target, cross-between, dir-at, arc-at, direction-around, svertex-around, free-around, free-beside, at-arc, keeps-between, kept-not_opposite, clear-around, axes-forms, clear-self, sees_both, free-seen, sides_of, SideSees, SeeOneWay, side_number, meridians, over_forms, IsFirst, first_sign, Stands, FirstNear, BelowFirsts, BelowFirst, ArcFirst, SloopFirst, met_number, IsJoin, join_below, join_around, join_arc, join_sloop, join_ground, chain-link, chain-trans, chain-turned, cases_lt, zero-dot, self-pos, cross-turned, dir-self, opposite-turned, apart, blend-turned}
+use Rattle.nef_smap.proofs.Rise.{form-over, meridian-over, meridian-level, svertex-meridian, meridian-turn, forms-kept}
 use Rattle.nef_smap.proofs.Over.{touches-back, touches-level}
 use Rattle.nef_smap.proofs.Stands.{first-none, first-last, dot-opposite, far-stands, stand, stands, stands-keeps, stands-second, stands-third}
 use Rattle.nef_smap.proofs.Clean.{lone-untouched}
@@ -10,6 +10,7 @@ use Rattle.nef_smap.proofs.FirstSees.{Generic, none-clear, first-sees}
 use Rattle.nef_smap.proofs.SideNumbers.{side-number}
 use Rattle.nef_space.proofs.Lists.{is-at_within}
 use Rattle.law_sphere.proofs.building.RayClose.{cross-last}
+use Rattle.nef_space.proofs.Elementary.{nought-factor}
 
 -- the turn from s to r, both in the plane of n
 pub along-turn : (n s r u : Vector) → dot n s ≡ pos 0 → dot n r ≡ pos 0 → dot n n *ℤ dot (cross u s) r ≡ triple n s r *ℤ dot n u
@@ -139,7 +140,7 @@ module _ (M : Map) (V : Shaped M) (u : Vector) (ahead : (k : ℕ) (x : Item) →
             let p = ap (λ r. dot l l *ℤ r) na in
             let o = ring (dot l l ∷ []) (at 0 ⊗ num (pos 0)) (num (pos 0)) tt in
             let q : dot n l *ℤ dot l a ≡ pos 0 = omega (arith, ints) in
-            let nl = factor (dot n l) (dot l a) off q in
+            let nl = nought-factor (dot n l) (dot l a) off q in
             let w = ap (λ r. r *ℤ dot l n) nl in
             let o' = ring (dot l n ∷ []) (num (pos 0) ⊗ at 0) (num (pos 0)) tt in
             let t = mul_pos (dot l l) (dot n n) (self-pos l some-l) (self-pos n (across k v h)) in
@@ -147,12 +148,6 @@ module _ (M : Map) (V : Shaped M) (u : Vector) (ahead : (k : ℕ) (x : Item) →
           where
             some-l : IsDirection (cross u c)
             some-l z = off (zero-dot (cross u c) a z)
-
-            factor : (x y : ℤ) → (y ≡ pos 0 → ⊥) → x *ℤ y ≡ pos 0 → x ≡ pos 0
-            factor x y f e = ⊎_elim (λ z. z) (λ g. absurd (f (other x y g e))) (nought-or x)
-              where
-                other : (x y : ℤ) → (x ≡ pos 0 → ⊥) → x *ℤ y ≡ pos 0 → y ≡ pos 0
-                other x y g e = ⊎_elim (λ z. z) (λ h. absurd (let p = square_pos x g in let q = square_pos y h in let t = mul_pos (x *ℤ x) (y *ℤ y) p q in let s = ap (λ r. r *ℤ (x *ℤ y)) e in let i = ring (x ∷ y ∷ []) ((at 0 ⊗ at 0) ⊗ (at 1 ⊗ at 1)) ((at 0 ⊗ at 1) ⊗ (at 0 ⊗ at 1)) tt in let o = ring (x ∷ y ∷ []) (num (pos 0) ⊗ (at 0 ⊗ at 1)) (num (pos 0)) tt in omega (arith, ints))) (nought-or y)
 
   -- ---- above an item
   upper-sees : (k : ℕ) (x : Item) (a : IsAt (items M) k x) (z y : Vector) → OnItem M x z → Keeps (forms M) z y → pos 0 <ℤ dot (item_normal x) y → ElementSees (side_number M (pos_item k)) y × IsFree M y
@@ -172,9 +167,6 @@ module _ (M : Map) (V : Shaped M) (u : Vector) (ahead : (k : ℕ) (x : Item) →
         between = λ p q sp sq. free-beside M V z (blend p y q z) (subst (Keeps (forms M) z) (blend-turned q p z y) (keeps-between (forms M) z y q p sq sp h)) k x a o
             (between-off_target (item_normal x) y z p q sp (on-level M x z o) off);
       }
-
-  forms-kept : (d z : Vector) → Keeps (over_forms M u) d z → Keeps (forms M) d z
-  forms-kept d z k g l f = k g (form-over M u g l) f
 
   -- ---- below a svertex
   module _ (k : ℕ) (v : MapVertex) (a : IsAt M.svertices k v) where
@@ -211,9 +203,9 @@ module _ (M : Map) (V : Shaped M) (u : Vector) (ahead : (k : ℕ) (x : Item) →
 
     c-free : IsFree M c
     c-free = record {
-      direction = direction-around M V w c (forms-kept w c c-keeps) hw;
-      off_svertices = λ j y b s. off-svertices c (forms-kept w c c-keeps) (cross-between w o (amount (over_forms M u) o) 1 (omega arith) beside-u) j y b s;
-      off_items = λ j y b s. on-item j y b s (touches-level M V j y w b (touches-back M V w c (forms-kept w c c-keeps) j y b hw s));
+      direction = direction-around M V w c (forms-kept M u w c c-keeps) hw;
+      off_svertices = λ j y b s. off-svertices c (forms-kept M u w c c-keeps) (cross-between w o (amount (over_forms M u) o) 1 (omega arith) beside-u) j y b s;
+      off_items = λ j y b s. on-item j y b s (touches-level M V j y w b (touches-back M V w c (forms-kept M u w c c-keeps) j y b hw s));
     }
       where
         on-item : (j : ℕ) (y : Item) → IsAt (items M) j y → OnItem M y c → dot (item_normal y) w ≡ pos 0 → ⊥
@@ -235,10 +227,10 @@ module _ (M : Map) (V : Shaped M) (u : Vector) (ahead : (k : ℕ) (x : Item) →
       d-stands = far-stands (over_forms M u) w o e (amount (over_forms M u) o) (amount (over_forms M u) e) (omega arith) (omega arith)
 
       d-clear : IsClear M c d
-      d-clear = clear-around M V c d (forms-kept c d (far-keeps (over_forms M u) c e (amount (over_forms M u) e) (omega arith))) c-free
+      d-clear = clear-around M V c d (forms-kept M u c d (far-keeps (over_forms M u) c e (amount (over_forms M u) e) (omega arith))) c-free
 
       d-free : IsFree M d
-      d-free = free-around M V c d (forms-kept c d (far-keeps (over_forms M u) c e (amount (over_forms M u) e) (omega arith))) c-free
+      d-free = free-around M V c d (forms-kept M u c d (far-keeps (over_forms M u) c e (amount (over_forms M u) e) (omega arith))) c-free
 
       level-o : (m : Vector) → dot m u ≡ pos 0 → dot m o ≡ pos 0
       level-o m z = let q = dot-opposite m u in omega (arith, ints)
@@ -277,7 +269,7 @@ module _ (M : Map) (V : Shaped M) (u : Vector) (ahead : (k : ℕ) (x : Item) →
         }
 
         keeps : Keeps (forms M) w c
-        keeps = forms-kept w c c-keeps
+        keeps = forms-kept M u w c c-keeps
 
         apart-c : IsDirection (cross w c)
         apart-c = cross-between w o (amount (over_forms M u) o) 1 (omega arith) beside-u
@@ -314,7 +306,7 @@ module _ (M : Map) (V : Shaped M) (u : Vector) (ahead : (k : ℕ) (x : Item) →
           ∙ ap (λ t. first_sign t (sign (dot n j.aside))) (sign-plus (dot n u) (ahead k (sloop_item r) a)))
 
       sees : ElementSees (side_number M (pos_item k)) y × IsFree M y
-      sees = upper-sees k (sloop_item r) a p y j.on (forms-kept p y (stands-keeps (over_forms M u) p u j.aside y s)) above
+      sees = upper-sees k (sloop_item r) a p y j.on (forms-kept M u p y (stands-keeps (over_forms M u) p u j.aside y s)) above
 
       aside : (m : Vector) → Lies (meridians M u) m → sign (dot m y) ≡ first_sign (sign (dot m j.point)) (sign (dot m j.aside))
       aside m i = s m (meridian-over M u m i) ∙ ap (λ t. first_sign (sign (dot m p)) (first_sign t (sign (dot m j.aside)))) (ap sign (meridian-level M u m i))
@@ -380,7 +372,7 @@ module _ (M : Map) (V : Shaped M) (u : Vector) (ahead : (k : ℕ) (x : Item) →
           ∙ ap (λ t. first_sign t (sign (dot n l))) (sign-plus (dot n u) (ahead k (arc_item r) a)))
 
       sees : ElementSees (side_number M (pos_item k)) y × IsFree M y
-      sees = upper-sees k (arc_item r) a z y on-z (forms-kept z y (stands-keeps (over_forms M u) z u l y near-z)) above
+      sees = upper-sees k (arc_item r) a z y on-z (forms-kept M u z y (stands-keeps (over_forms M u) z u l y near-z)) above
 
       aside : (m : Vector) → Lies (meridians M u) m → sign (dot m y) ≡ first_sign (sign (dot m s)) (sign (dot m j.along))
       aside m i = y-stands m (meridian-over M u m i) ∙ ap (λ t. first_sign (sign (dot m s)) (first_sign (sign (dot m j.along)) t)) (ap sign (meridian-level M u m i)) ∙ ap (first_sign (sign (dot m s))) (first-last (sign (dot m j.along)))

@@ -1,11 +1,12 @@
 -- The upward direction lies on the upper side of every plane of a sphere map and is parallel to no svertex; and which items lie over close directions.
-use Rattle.nef_smap.proofs.Prelude.{◌≡◌, ℕ, zero, suc, ◌<◌, ◌≤◌, length, ℤ, pos, negsuc, ◌*ℤ◌, ◌≤ℤ◌, ◌<ℤ◌, nat_abs, arith, refl, ap, sym, ◌∙◌, inl, inr, ⊎_elim, [], ◌∷◌, subst, ◌↔◌, ints, length-map, eqb_tells, ring, at, num, ◌⊗◌, minus, plus, sign, sign-minus, minus-is, nought-is, mul_pos, nought-or, square_pos, Lies, normal_limit, svertex_limit, Vector, vector, IsDirection, IsNormal, IsAtMost, cross, triple, dot, up, SameDirection, Decided, vector_of, IsAt, MapVertex, Arc, MapSloop, Map, Item, arc_item, sloop_item, items, item_normal, dir_of, ArcBetween, Shaped, axis_x, axis_y, axis_z, normal-is, axis_x-is, axis_y-is, axis_z-is, item-forms, normal-form, axes-forms, cross-self, dir-at, arc-at, Close, SArc, SphereMap, svertex_of, arc_of, map_of, IsSphereMap, rise, rise_form, IsOver, close_sign, IsClose, ArcPasses, zero-dot, self-pos}
+use Rattle.nef_smap.proofs.Prelude.{◌≡◌, ℕ, zero, suc, ◌<◌, ◌≤◌, length, ℤ, pos, negsuc, ◌*ℤ◌, ◌≤ℤ◌, ◌<ℤ◌, nat_abs, arith, refl, ap, sym, ◌∙◌, inl, inr, ⊎_elim, [], ◌∷◌, subst, ◌↔◌, ints, length-map, eqb_tells, ring, at, num, ◌⊗◌, minus, plus, sign, sign-minus, minus-is, nought-is, mul_pos, Lies, normal_limit, svertex_limit, Vector, vector, IsDirection, IsNormal, IsAtMost, cross, triple, dot, up, SameDirection, Decided, vector_of, IsAt, MapVertex, Arc, MapSloop, Map, Item, arc_item, sloop_item, items, item_normal, dir_of, ArcBetween, Shaped, axis_x, axis_y, axis_z, normal-is, axis_x-is, axis_y-is, axis_z-is, item-forms, normal-form, axes-forms, cross-self, dir-at, arc-at, Close, SArc, SphereMap, svertex_of, arc_of, map_of, IsSphereMap, rise, rise_form, IsOver, close_sign, IsClose, ArcPasses, zero-dot, self-pos}
 use Rattle.nef_smap.proofs.Rise.{rise-is, rise-level, form-over, meridian-over, meridian-turn, svertex-meridian, rise-meridian}
 use Rattle.nef_smap.proofs.Close.{rise-direction}
 use Rattle.nef_smap.proofs.CloseSigns.{level-sign, passes-alike}
 use Rattle.nef_smap.proofs.Passing.{passes-on, on-passes}
 use Rattle.nef_smap.proofs.Stands.{first-none}
 use Rattle.nef_space.proofs.Lists.{is-at_within}
+use Rattle.nef_space.proofs.Elementary.{nought-factor}
 
 -- ---- upward
 pub normal-ahead : (n : Vector) → IsNormal n → IsAtMost normal_limit n → pos 0 <ℤ dot n up
@@ -21,17 +22,6 @@ normal-ahead n h s = leads n.x n.y n.z h s.of_y s.of_z
 pub svertex-across : (v : Vector) → IsDirection v → IsAtMost svertex_limit v → IsDirection (cross up v)
 svertex-across v h s z = let a = s.of_x in let p = z.0 in let q = z.1 in let t : v.z ≡ pos 0 = omega (arith, ints) in h (omega (arith, ints), omega (arith, ints), t)
 
-product-nought : (x y : ℤ) → (y ≡ pos 0 → ⊥) → x *ℤ y ≡ pos 0 → x ≡ pos 0
-product-nought x y f e = ⊎_elim (λ z. z) (λ g. absurd (by g)) (nought-or x)
-  where
-    by : (x ≡ pos 0 → ⊥) → ⊥
-    by g =
-        let p = mul_pos (x *ℤ x) (y *ℤ y) (square_pos x g) (square_pos y f) in
-        let s = ap (λ r. r *ℤ (x *ℤ y)) e in
-        let i = ring (x ∷ y ∷ []) ((at 0 ⊗ at 0) ⊗ (at 1 ⊗ at 1)) ((at 0 ⊗ at 1) ⊗ (at 0 ⊗ at 1)) tt in
-        let o = ring (x ∷ y ∷ []) (num (pos 0) ⊗ (at 0 ⊗ at 1)) (num (pos 0)) tt in
-        omega (arith, ints)
-
 -- a form that is nought at u and c isn't at a direction aside
 pub aside-off : (u c a m : Vector) → (dot (cross u c) a ≡ pos 0 → ⊥) → dot m u ≡ pos 0 → IsDirection m → dot m c ≡ pos 0 → dot m a ≡ pos 0 → ⊥
 aside-off u c a m off mu hm mc ma =
@@ -41,7 +31,7 @@ aside-off u c a m off mu hm mc ma =
     let p = ap (λ r. dot l l *ℤ r) ma in
     let o = ring (dot l l ∷ []) (at 0 ⊗ num (pos 0)) (num (pos 0)) tt in
     let q : dot m l *ℤ dot l a ≡ pos 0 = omega (arith, ints) in
-    let ml = product-nought (dot m l) (dot l a) off q in
+    let ml = nought-factor (dot m l) (dot l a) off q in
     let w = ap (λ r. r *ℤ dot l m) ml in
     let o' = ring (dot l m ∷ []) (num (pos 0) ⊗ at 0) (num (pos 0)) tt in
     let t = mul_pos (dot l l) (dot m m) (self-pos l (λ z. off (zero-dot l a z))) (self-pos m hm) in

@@ -1,11 +1,12 @@
 -- The program's stars are well formed.
-use Rattle.nef_smap.proofs.Prelude.{◌≡◌, ℕ, zero, suc, List, [], ◌∷◌, length, map, Bool, true, false, cond, arith, refl, sym, ap, subst, ◌∙◌, inl, inr, ◌⊎◌, by_order, IsBelow, Vector, opposite, direction_numbers, IsDirection, SameDirection, vector_of, Dir, same_directions_equal, IsPrimitive, VectorBelow, IsAt, Ray, Star, ray_of, star_of, left_of, left_at, IsRayBelow, IsRay, IsStar, each_has_one_label, vector-same, dir-self, is-at_none, is-at_first}
+use Rattle.nef_smap.proofs.Prelude.{◌≡◌, ℕ, zero, suc, List, [], ◌∷◌, length, map, Bool, true, false, cond, arith, refl, sym, ap, subst, ◌∙◌, inl, inr, IsBelow, Vector, opposite, direction_numbers, IsDirection, SameDirection, vector_of, Dir, IsPrimitive, VectorBelow, IsAt, Ray, Star, ray_of, star_of, left_of, left_at, IsRayBelow, IsRay, IsStar, each_has_one_label, dir-self, is-at_none, is-at_first}
 use Rattle.law_sphere.specs.Stars.{Ray as PlainRay, LeavesAxis as IsPlainRay}
 use Rattle.law_sphere.specs.Raw.{IsWellFormed, RayBelow, sector_count as plain_count}
 use Rattle.nef_star.specs.Stars.{sector_count}
 use Rattle.nef_smap.proofs.Primitive.{dir-primitive}
 use Rattle.nef_space.proofs.Lists.{is-at_is, is-at_map, is-at_within}
 use Rattle.law_sphere.proofs.cones.Lowest.{below-either}
+use Rattle.nef_star.proofs.RoundStars.{same-dirs}
 
 -- ---- the order of directions
 pub below-vectors : (u v : Vector) → IsBelow (direction_numbers u) (direction_numbers v) → VectorBelow u v
@@ -18,9 +19,6 @@ pub vectors-below : (u v : Vector) → VectorBelow u v → IsBelow (direction_nu
 vectors-below u v (inl h) = inl h
 vectors-below u v (inr (inl (e, h))) = inr (e, inl h)
 vectors-below u v (inr (inr (e, f, h))) = inr (e, inr (f, inl h))
-
-pub dir-equal : (a b : Dir) → vector_of a ≡ vector_of b → a ≡ b
-dir-equal a b e = same_directions_equal a b (subst (λ (v : Vector). SameDirection (vector_of a) v) e (dir-self (vector_of a) a.some))
 
 -- ---- rays
 plain-counts : (rays : List Ray) → sector_count rays ≡ plain_count (map ray_of rays)
@@ -72,7 +70,7 @@ module _ (t : Star) (T : IsStar t) where
       elim (below-either (vector_of q.normal) (vector_of r.normal)) [
         | inl b ↦ inl b
         | inr s ↦ elim s [
-          | inl e ↦ let a = one_ahead q r direction apart least (dir-equal q.normal r.normal e) in inr (e, a.0, a.1)
+          | inl e ↦ let a = one_ahead q r direction apart least (same-dirs q.normal r.normal e) in inr (e, a.0, a.1)
           | inr b ↦ absurd (least (inl (vectors-below (vector_of r.normal) (vector_of q.normal) b)))
         ]
       ]

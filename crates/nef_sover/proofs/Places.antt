@@ -1,9 +1,7 @@
 -- Elements of lists by their places.
-use Rattle.nef_sover.proofs.Prelude.{◌≡◌, ℕ, zero, suc, ◌+◌, ◌<◌, ◌≤◌, List, [], ◌∷◌, ◌++◌, length, take, get_or, Option, Some, None, Result, Ok, Err, refl, sym, ap, subst, ◌∙◌, AllZip, IsAt, is-at_within, is-at_is, is-at_get, is-at_none, is-at_first}
+use Rattle.nef_sover.proofs.Prelude.{ℕ, zero, suc, ◌+◌, ◌≤◌, List, [], ◌∷◌, ◌++◌, length, take, Option, Some, None, refl, sym, ap, subst, ◌∙◌, AllZip, IsAt, is-at_within, is-at_is, is-at_none, is-at_first}
 use Rattle.std.specs.Option.{MatchOption}
-use Rattle.std.specs.Result.{IfOk}
 use Rattle.std.proofs.lemmas.List.{take_more, take_all}
-use Rattle.nef_space.proofs.Lists.{is-at_read}
 
 -- two lists place by place
 pub zip-second : {X Y : Type 0} (R : X → Y → Type 0) (xs : List X) (ys : List Y) (k : ℕ) (x : X) → AllZip R xs ys → IsAt xs k x → (y : Y) × IsAt ys k y × R x y
@@ -30,11 +28,6 @@ zip-more R xs ys k x y z h r = subst (AllZip R (xs ++ x ∷ [])) (sym (take_more
 
 pub zip-all : {X Y : Type 0} (R : X → Y → Type 0) (xs : List X) (ys : List Y) (k : ℕ) → length ys ≤ k → AllZip R xs (take k ys) → AllZip R xs ys
 zip-all R xs ys k l z = subst (AllZip R xs) (take_all k ys l) z
-
--- what a call answers if it succeeds
-pub if-ok : {X E : Type 0} (P Q R : X → Type 0) (r : Result X E) → ((x : X) → P x → Q x → R x) → IfOk r P → IfOk r Q → IfOk r R
-if-ok P Q R (Ok x) f p q = f x p q
-if-ok P Q R (Err e) f p q = tt
 
 pub match-option : {X : Type 0} (o : Option X) (P Q : Type 0) (R S : X → Type 0) → (P → Q) → ((x : X) → R x → S x) → MatchOption o P R → MatchOption o Q S
 match-option None P Q R S f g h = f h

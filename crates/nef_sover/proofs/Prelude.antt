@@ -11,7 +11,7 @@ pub use Rattle.law_sphere.specs.building.Overlays.{IsItemCrossing, IsMerged}
 pub use Rattle.nef_star.specs.declared.star.Op.{Op}
 pub use Rattle.nef_smap.proofs.Lists.{at-contains, contains-at}
 pub use Rattle.nef_smap.proofs.Primitive.{dir-primitive}
-pub use Rattle.nef_smap.proofs.WellFormed.{below-vectors, dir-equal, star-well_formed}
+pub use Rattle.nef_smap.proofs.WellFormed.{below-vectors, star-well_formed}
 pub use Rattle.nef_smap.specs.declared.map.SLoop.{SLoop}
 pub use Rattle.nef_smap.specs.declared.map.SVertex.{SVertex}
 pub use Rattle.nef_smap.specs.declared.map.SphereMap.{SphereMap}
@@ -22,3 +22,4 @@ pub use Rattle.nef_sover.specs.Tracks.{AreSmallTracks, AreTracks, IsOnTrack, IsT
 pub use Rattle.nef_sover.specs.declared.axes.Axis.{Axis}
 pub use Rattle.nef_sover.specs.declared.axes.Track.{Track}
 pub use Rattle.nef_space.proofs.Lists.{is-at_get, is-at_is, is-at_map, is-at_within, map-is_at}
+pub use Rattle.nef_star.proofs.RoundStars.{same-dirs}

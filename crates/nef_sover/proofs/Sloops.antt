@@ -1,5 +1,5 @@
 -- The sloop of an overlay.
-use Rattle.nef_sover.proofs.Prelude.{◌≡◌, pos, List, Option, Some, option_map, sym, ap, subst, ◌∙◌, inl, inr, ◌⊎◌, neg, normal_limit, Vector, IsAtMost, IsNormal, opposite, Label, vector_of, Dir, IsOnCircle, MapSloop, sloop_item, Map, IsFree, MapLabel, NearLabel, at-sloop, IsAxis, IsLoneSloop, IsMergedSloop, SLoop, SphereMap, sloop_of, map_of, IsSphereMap, dir-primitive, dir-equal, Axis, AreAxes, AreOff, IsUncrossed, HasCircleLabels, HasOpLabels, IsLoneNormal, level-way, SameDirection-turned}
+use Rattle.nef_sover.proofs.Prelude.{◌≡◌, pos, List, Some, option_map, sym, ap, subst, ◌∙◌, inl, inr, ◌⊎◌, neg, normal_limit, Vector, IsAtMost, IsNormal, opposite, Label, vector_of, Dir, IsOnCircle, MapSloop, sloop_item, Map, IsFree, MapLabel, NearLabel, at-sloop, IsAxis, IsLoneSloop, IsMergedSloop, SLoop, SphereMap, sloop_of, map_of, IsSphereMap, dir-primitive, same-dirs, Axis, AreAxes, AreOff, IsUncrossed, HasCircleLabels, HasOpLabels, IsLoneNormal, level-way, SameDirection-turned}
 use Rattle.nef_smap.proofs.MapLists.{sloop-was}
 use Rattle.nef_sover.proofs.Bare.{one-label, near-circle, free-circle, sloop-mark, sloop-pos, sloop-neg}
 use Rattle.nef_sover.proofs.Lone.{uncrossed-a, uncrossed-b}
@@ -61,7 +61,7 @@ module _ (m : SphereMap) (S : IsSphereMap m) (n : Dir) where
   }
     where
       none-there : (c : MapSloop) → (map_of m).sloop ≡ Some c → c.normal ≡ vector_of n → ⊥
-      none-there c e q = let s = sloop-was m.sloop c e in absent s.0 s.1 (dir-equal s.0.normal n (ap (λ (x : MapSloop). x.normal) s.2 ∙ q))
+      none-there c e q = let s = sloop-was m.sloop c e in absent s.0 s.1 (same-dirs s.0.normal n (ap (λ (x : MapSloop). x.normal) s.2 ∙ q))
 
       free : (e : Vector) → IsOnCircle (vector_of n) e → IsFree (map_of m) e
       free = free-circle (map_of m) S.valid S.ordered (vector_of n) N (dir-primitive n) U none-there

@@ -2,12 +2,14 @@ pub mod Prelude
 pub mod Products
 pub mod Ring
 pub mod Order
+pub mod Elementary
 pub mod Combination
 pub mod Vectors
 pub mod Fractions
 pub mod Sizes
 pub mod Machine
 pub mod Lists
+pub mod Chains
 pub mod Samples
 pub mod ArithmeticExamples
 pub mod Examples

@@ -1,6 +1,6 @@
 -- The elements of lists that are put together or made one by one, and elements by their places.
 use Rattle.nef_space.proofs.Prelude.{◌≡◌, ℕ, zero, suc, ◌+◌, ◌<◌, ◌⊎◌, inl, inr, ⊎_elim, refl, sym, ◌∙◌, ap, arith, List, [], ◌∷◌, ◌++◌, length, subst}
-use Rattle.std.proofs.Common.{Option, Some, None, map, option_map, get_or, zero-add}
+use Rattle.std.proofs.Common.{All, Option, Some, None, map, option_map, get_or, zero-add}
 use Rattle.std.proofs.lemmas.Option.{none-some, same_Some, slice_get_within, slice_get-get_or, get_or_from_slice_get, slice_get-map}
 use Rattle.nef_space.specs.Signs.{Lies}
 use Rattle.nef_space.specs.Lists.{IsAt}
@@ -49,6 +49,10 @@ is-at_first {A} {x} {y} e = same_Some x y e
 pub is-at_one : {X : Type 0} (xs : List X) (k : ℕ) (x y : X) → IsAt xs k x → IsAt xs k y → x ≡ y
 is-at_one xs k x y a b = same_Some x y (sym a ∙ b)
 
+pub is-at_nowhere : {X : Type 0} (xs : List X) → ((k : ℕ) (x : X) → IsAt xs k x → ⊥) → xs ≡ []
+is-at_nowhere [] n = refl
+is-at_nowhere (x ∷ xs) n = absurd (n 0 x refl)
+
 pub is-at_within : {X : Type 0} (xs : List X) (k : ℕ) (x : X) → IsAt xs k x → k < length xs
 is-at_within xs k x a = slice_get_within xs k x a
 
@@ -59,6 +63,9 @@ is-at_some (y ∷ xs) (suc k) h = is-at_some xs k (omega arith)
 
 pub is-at_get : {X : Type 0} (xs : List X) (k : ℕ) (d : X) → k < length xs → IsAt xs k (get_or xs k d)
 is-at_get xs k d h = slice_get-get_or xs k d h
+
+pub all-of : {X : Type 0} (P : X → Type 0) (xs : List X) → ((k : ℕ) (x : X) → IsAt xs k x → P x) → All P xs
+all-of P xs f k d h = f k (get_or xs k d) (is-at_get xs k d h)
 
 pub is-at_is : {X : Type 0} (xs : List X) (k : ℕ) (x d : X) → IsAt xs k x → get_or xs k d ≡ x
 is-at_is xs k x d a = get_or_from_slice_get xs k x d a
@@ -85,6 +92,9 @@ pub is-at_parts : {X : Type 0} (xs ys : List X) (k : ℕ) (x : X) → IsAt (xs +
 is-at_parts [] ys k x a = inr (k, sym (zero-add k), a)
 is-at_parts (z ∷ xs) ys zero x a = inl a
 is-at_parts (z ∷ xs) ys (suc k) x a = ⊎_elim (λ b. inl b) (λ r. inr (r.0, (let e = r.1 in let h : suc k ≡ suc (length xs) + r.0 = omega arith in h), r.2)) (is-at_parts xs ys k x a)
+
+pub is-at_either : {X : Type 0} (xs ys : List X) (k : ℕ) (x : X) → IsAt (xs ++ ys) k x → IsAt xs k x ⊎ ((j : ℕ) × IsAt ys j x)
+is-at_either xs ys k x h = ⊎_elim (λ a. inl a) (λ r. inr (r.0, r.2)) (is-at_parts xs ys k x h)
 
 -- an element of a list with one more is one of the list, or the last
 pub is-at_more : {X : Type 0} (xs : List X) (y : X) (k : ℕ) (x : X) → IsAt (xs ++ y ∷ []) k x → IsAt xs k x ⊎ ((k ≡ length xs) × (y ≡ x))

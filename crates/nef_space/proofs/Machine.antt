@@ -13,11 +13,11 @@ pub record Meant (bs : List ℕ) (xs : List ℤ) (e : Code) : Type 0 where
   pub exact : run xs e ≡ value xs (meant e)
   pub small : unsigned_abs (value xs (meant e)) ≤ limit bs e
 
-both_left : (a b : Bool) → T (cond a b false) → T a
+pub both_left : (a b : Bool) → T (cond a b false) → T a
 both_left true b h = tt
 both_left false b h = absurd h
 
-both_right : (a b : Bool) → T (cond a b false) → T b
+pub both_right : (a b : Bool) → T (cond a b false) → T b
 both_right true b h = h
 both_right false b h = absurd h
 

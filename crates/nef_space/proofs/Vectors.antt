@@ -4,7 +4,17 @@ use lib.IntN.{*ℤ-zero}
 use Rattle.nef_space.proofs.Ring.{ring, Poly, at, num, neg, ◌⊕◌, ◌⊖◌, ◌⊗◌, value}
 use Rattle.nef_space.proofs.Combination.{follows, follows_times, GivenEquations, given, none}
 use Rattle.nef_space.proofs.Order.{sign, sign-plus, sign-scaled, plus-is, nought-is, by_order, square_nonneg, square_pos, nought-or}
-use Rattle.nef_space.specs.Vectors.{Vector, vector, blend, dot, cross, triple, opposite, IsZero, IsDirection, SameDirection, IsOpposite}
+use Rattle.nef_space.specs.Vectors.{Vector, vector, blend, dot, cross, triple, opposite, IsZero, IsDirection, SameDirection, IsOpposite, beside_x, beside_y, beside_z}
+
+-- ---- the vectors beside a normal, along the coordinate planes
+pub level-beside_x : (n : Vector) → dot n (beside_x n) ≡ pos 0
+level-beside_x n = ring (n.x ∷ n.y ∷ n.z ∷ []) (at 0 ⊗ num (pos 0) ⊕ at 1 ⊗ at 2 ⊕ at 2 ⊗ neg (at 1)) (num (pos 0)) tt
+
+pub level-beside_y : (n : Vector) → dot n (beside_y n) ≡ pos 0
+level-beside_y n = ring (n.x ∷ n.y ∷ n.z ∷ []) (at 0 ⊗ neg (at 2) ⊕ at 1 ⊗ num (pos 0) ⊕ at 2 ⊗ at 0) (num (pos 0)) tt
+
+pub level-beside_z : (n : Vector) → dot n (beside_z n) ≡ pos 0
+level-beside_z n = ring (n.x ∷ n.y ∷ n.z ∷ []) (at 0 ⊗ at 1 ⊕ at 1 ⊗ neg (at 0) ⊕ at 2 ⊗ num (pos 0)) (num (pos 0)) tt
 
 -- ---- vectors of polynomials: the numbers of a vector stand in a list of values from a place on
 abbrev pub numbers : Vector → Vector → Vector → Vector → List ℤ
@@ -41,6 +51,9 @@ each_nought xs f p x y z = given f.0 p.0 (num (pos 0)) x (given f.1 p.1 (num (po
 -- ---- products
 pub vector-same : (d e : Vector) → d.x ≡ e.x → d.y ≡ e.y → d.z ≡ e.z → d ≡ e
 vector-same d e i j k = ap (λ u. vector u d.y d.z) i ∙ ap (λ u. vector e.x u d.z) j ∙ ap (λ u. vector e.x e.y u) k
+
+pub same-vector : (x y z x' y' z' : ℤ) → x ≡ x' → y ≡ y' → z ≡ z' → vector x y z ≡ vector x' y' z'
+same-vector x y z x' y' z' i j k = vector-same (vector x y z) (vector x' y' z') i j k
 
 pub dot-comm : (a b : Vector) → dot a b ≡ dot b a
 dot-comm a b = ring (numbers a b b b) (dot_poly 0 3) (dot_poly 3 0) tt
@@ -82,6 +95,9 @@ self-pos h f =
     (λ z. let p = square_pos h.z z in omega (arith, ints)) (nought-or h.z))
     (λ y. let p = square_pos h.y y in omega (arith, ints)) (nought-or h.y))
     (λ x. let p = square_pos h.x x in omega (arith, ints)) (nought-or h.x)
+
+pub self-not_nought : (v : Vector) → IsDirection v → dot v v ≡ pos 0 → ⊥
+self-not_nought v h e = let p = self-pos v h in omega (arith, ints)
 
 pub pos-self : (v : Vector) → pos 0 <ℤ dot v v → IsDirection v
 pos-self v h z = let e = dot-zero v v z in omega (arith, ints)

@@ -1,5 +1,5 @@
 -- The order of arcs: arcs that are apart are in order once they are sorted.
-use Rattle.nef_spair.proofs.Prelude.{◌≡◌, ℕ, ◌<◌, ℤ, ◌<ℤ◌, List, Bool, Ordering, Less, Equal, Greater, arith, refl, sym, ap, ◌∙◌, inl, inr, IsPermutation, IsSortedBy, MatchOrdering, int_cmp, nat_cmp, ordering_then, ordering_reverse, on, then_cmp, is_lt, IsTotalOrder, IsStrictWeakOrder, int_ranks, int_cmp_total, nat_cmp_total, on_total, then_total, ranked, ints, ranks_by, vector_of, InOrder, SArc, dir-equal, IsArcBelow, IsTwin, AreApart, vector-same}
+use Rattle.nef_spair.proofs.Prelude.{◌≡◌, ℕ, ◌<◌, ℤ, ◌<ℤ◌, List, Bool, Ordering, Less, Equal, Greater, arith, refl, sym, ap, ◌∙◌, inl, inr, IsPermutation, IsSortedBy, MatchOrdering, int_cmp, nat_cmp, ordering_then, ordering_reverse, on, then_cmp, is_lt, IsTotalOrder, IsStrictWeakOrder, int_ranks, int_cmp_total, nat_cmp_total, on_total, then_total, ranked, ints, ranks_by, vector_of, InOrder, SArc, same-dirs, IsArcBelow, IsTwin, AreApart, vector-same}
 use Rattle.nef_spair.proofs.Apart.{still-apart as stand-apart, sorted-in_order}
 
 -- ---- the order as a function
@@ -25,7 +25,7 @@ module _ (a b : SArc) where
   by_each Equal Equal Less r h i j k = inl (inr (inr (h, i, j)))
   by_each Equal Equal Greater r h i j k = inl (inr (inr (sym h, sym i, j)))
   by_each Equal Equal Equal Less h i j k = inr (vector-same (vector_of a.normal) (vector_of b.normal) h i j, k)
-  by_each Equal Equal Equal Equal h i j k = (dir-equal a.normal b.normal (vector-same (vector_of a.normal) (vector_of b.normal) h i j), k)
+  by_each Equal Equal Equal Equal h i j k = (same-dirs a.normal b.normal (vector-same (vector_of a.normal) (vector_of b.normal) h i j), k)
   by_each Equal Equal Equal Greater h i j k = inr (sym (vector-same (vector_of a.normal) (vector_of b.normal) h i j), k)
 
   pub ranks : Ranks (arc_order a b)

@@ -1,7 +1,8 @@
 -- What is made of the pieces of simplified stars is built from these stars.
 use Rattle.nef_spair.proofs.Prelude.{◌≡◌, ℕ, suc, List, [], ◌∷◌, length, map, get_or, option_map, arith, refl, sym, ap, subst, ◌∙◌, inl, inr, ◌⊎◌, All, vector_of, VectorBelow, IsAt, InOrder, IsPlain, IsStraight, IsSimplified, IsKeptStar, IsKeptRaw, AreSimplified, Star, star_of, IsStar, RawStars, sloop_of, raw_of, is-at_map, map-is_at, is-at_within, is-at_get, star-well_formed, Pieces, IsSimple, AreSimple, IsDropped, ArePiecesOf}
 use Rattle.law_sphere.specs.Stars.{Star as PlainStar}
-use Rattle.nef_spair.proofs.Places.{others-from, others-all, others-in_order, all-at, at-all}
+use Rattle.nef_spair.proofs.Places.{others-from, others-all, others-in_order, all-at}
+use Rattle.nef_space.proofs.Lists.{all-of}
 
 -- ---- stars that have been simplified
 module _ (r q : RawStars) (w : AreSimple r.stars q.stars) where
@@ -29,7 +30,7 @@ module _ (r q : RawStars) (w : AreSimple r.stars q.stars) where
   simple-at k s a = w.each k (get_or r.stars k s) s (is-at_get r.stars k s (omega (arith, is-at_within q.stars k s a, w.as_many))) a
 
   pub all-stars : All IsStar q.stars
-  all-stars = at-all IsStar q.stars (λ k s a. let i = simple-at k s a in i.star)
+  all-stars = all-of IsStar q.stars (λ k s a. let i = simple-at k s a in i.star)
 
   pub all-simplified : AreSimplified (map star_of q.stars)
   all-simplified k t a = let s = is-at_map star_of q.stars k t a in subst IsSimplified s.2 (let i = simple-at k s.0 s.1 in i.simplified)
@@ -46,7 +47,7 @@ module _ (q : RawStars) (p : Pieces) (pieces : ArePiecesOf q p) where
   from-raw = others-from IsDropped q.stars p.kept pieces.kept
 
   pub kept-stars : All IsStar q.stars → All IsStar p.kept
-  kept-stars all = at-all IsStar p.kept (λ k t a. let f = from-raw k t a in all-at IsStar q.stars all f.0 t f.1)
+  kept-stars all = all-of IsStar p.kept (λ k t a. let f = from-raw k t a in all-at IsStar q.stars all f.0 t f.1)
 
   pub plain-from : (k : ℕ) (t : PlainStar) → IsAt K k t → (j : ℕ) × IsAt (map star_of q.stars) j t
   plain-from k t a = let u = is-at_map star_of p.kept k t a in let f = from-raw k u.0 u.1 in (f.0, subst (IsAt (map star_of q.stars) f.0) u.2 (map-is_at star_of q.stars f.0 u.0 f.1))

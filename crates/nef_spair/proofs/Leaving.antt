@@ -1,5 +1,5 @@
 -- The arcs that leave stars, one ray after another.
-use Rattle.nef_spair.proofs.Prelude.{◌≡◌, ℕ, zero, suc, ◌+◌, ◌<◌, ◌≤◌, List, [], ◌∷◌, ◌++◌, length, map, get_or, true, Bool, cond, arith, sym, ap, subst, ◌∙◌, inl, inr, ◌⊎◌, eq-or-lt_of_le, length-map, normal_limit, opposite, IsAtMost, SameDirection, Label, Out, vector_of, Dir, IsAt, Arc as PlainArc, Follows, is-at_one, IsArcFrom, IsFirstAfter, Ray, Star, ray_of, star_of, left_of, left_at, IsRay, BeginsAnywhere, IsNext, three_ways, count-some, SArc, arc_of, map-is_at, is-at_within, is-at_get, IsEarlierRay, LeavesAlong, IsTwin, AreApart, AreArcs, SameDirection-turned, dir-self, is-at_none, is-at_first}
+use Rattle.nef_spair.proofs.Prelude.{◌≡◌, ℕ, zero, suc, ◌+◌, ◌<◌, ◌≤◌, List, [], ◌∷◌, ◌++◌, length, map, get_or, true, Bool, cond, arith, sym, ap, subst, ◌∙◌, inl, inr, ◌⊎◌, eq-or-lt_of_le, length-map, normal_limit, opposite, IsAtMost, SameDirection, Label, Out, vector_of, Dir, IsAt, Arc as PlainArc, Follows, is-at_one, IsArcFrom, IsFirstAfter, Ray, Star, ray_of, star_of, left_of, left_at, IsRay, BeginsAnywhere, IsNext, three-ways, count-some, SArc, arc_of, map-is_at, is-at_within, is-at_get, IsEarlierRay, LeavesAlong, IsTwin, AreApart, AreArcs, SameDirection-turned, dir-self}
 use Rattle.nef_smap.proofs.WellFormed.{left-at}
 use Rattle.nef_spair.proofs.Places.{all-at}
 use Rattle.nef_space.proofs.Lists.{is-at_last, is-at_left, is-at_more}
@@ -65,7 +65,7 @@ module _ (t : Star) (T : BeginsAnywhere t) where
 
   pub one-ray : (i k : ℕ) (q r : Ray) → IsAt t.rays.items i q → IsAt t.rays.items k r → q.ahead ≡ true → r.ahead ≡ true → q.normal ≡ r.normal → i ≡ k
   one-ray i k q r a b qa ra e =
-      elim (three_ways i k) [
+      elim (three-ways i k) [
         | inl l ↦ absurd (later-differs i k l (is-at_within t.rays.items k r b) (same-left i k q r a b qa ra e))
         | inr o ↦ elim o [ inl s ↦ s | inr l ↦ absurd (later-differs k i l (is-at_within t.rays.items i q a) (same-left k i r q b a ra qa (sym e))) ]
       ]

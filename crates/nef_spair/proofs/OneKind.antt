@@ -1,5 +1,5 @@
 -- A map has one kind, and what its fields say of it.
-use Rattle.nef_spair.proofs.Prelude.{◌≡◌, ℤ, List, [], ◌∷◌, length, map, slice_get, Option, Some, None, option_map, arith, refl, sym, ap, subst, ◌∙◌, SpacePoint, Set, Vector, opposite, SameDirection, IsOpposite, vector_of, Dir, same_directions_equal, Map, MapVertex, MapSloop, Least, Cone, IsInVolume, IsInFacet, IsOnEdge, SLoop, SphereMap, svertex_of, sloop_of, map_of, dir-equal, Vertex, OnEdge, InFacet, InVolume, IsVertexMap, IsKind, KindFits}
+use Rattle.nef_spair.proofs.Prelude.{◌≡◌, ℤ, List, [], ◌∷◌, length, map, slice_get, Option, Some, None, option_map, arith, refl, sym, ap, subst, ◌∙◌, SpacePoint, Set, Vector, opposite, SameDirection, IsOpposite, vector_of, Dir, same_directions_equal, Map, MapVertex, MapSloop, Least, Cone, IsInVolume, IsInFacet, IsOnEdge, SLoop, SphereMap, svertex_of, sloop_of, map_of, same-dirs, Vertex, OnEdge, InFacet, InVolume, IsVertexMap, IsKind, KindFits}
 use Rattle.nef_space.proofs.Vectors.{opposite-itself, opposite-way}
 use Rattle.law_sphere.proofs.Kind.{flat-parallel}
 use Rattle.law_sphere.proofs.KindFlats.{facet-flat, facet-only}
@@ -34,12 +34,12 @@ module _ (M : Map) where
   one-kind Vertex (InFacet n) h i = absurd (h.no_facet (vector_of n) i)
   one-kind Vertex InVolume h i = absurd (h.no_volume i)
   one-kind (OnEdge d) Vertex h i = absurd (i.no_edge (vector_of d) h)
-  one-kind (OnEdge d) (OnEdge e) h i = ap OnEdge (dir-equal d e (one-edge (vector_of d) (vector_of e) h i))
+  one-kind (OnEdge d) (OnEdge e) h i = ap OnEdge (same-dirs d e (one-edge (vector_of d) (vector_of e) h i))
   one-kind (OnEdge d) (InFacet n) h i = absurd (facet-edge (vector_of n) (vector_of d) i h)
   one-kind (OnEdge d) InVolume h i = absurd (volume-edge (vector_of d) i h)
   one-kind (InFacet n) Vertex h i = absurd (i.no_facet (vector_of n) h)
   one-kind (InFacet n) (OnEdge d) h i = absurd (facet-edge (vector_of n) (vector_of d) h i)
-  one-kind (InFacet n) (InFacet m) h i = ap InFacet (dir-equal n m (one-facet (vector_of n) (vector_of m) h i))
+  one-kind (InFacet n) (InFacet m) h i = ap InFacet (same-dirs n m (one-facet (vector_of n) (vector_of m) h i))
   one-kind (InFacet n) InVolume h i = absurd (volume-facet (vector_of n) i h)
   one-kind InVolume Vertex h i = absurd (i.no_volume h)
   one-kind InVolume (OnEdge d) h i = absurd (volume-edge (vector_of d) h i)

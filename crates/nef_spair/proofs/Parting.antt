@@ -1,16 +1,11 @@
 -- Circles of straight stars, one star after another, and what they and the kept stars are made of.
-use Rattle.nef_spair.proofs.Prelude.{◌≡◌, List, [], ◌∷◌, ◌++◌, length, map, get_or, sym, ap, subst, ◌∙◌, inl, inr, normal_limit, Vector, IsAtMost, Label, Out, vector_of, MapSloop, IsPlain, IsStraight, sloop_at, Ray, Star, ray_of, star_of, SLoop, sloop_of, IsDropped, AreAllKept, IsCircleOf, AreCircles, is-at_none}
+use Rattle.nef_spair.proofs.Prelude.{◌≡◌, List, [], ◌∷◌, ◌++◌, length, map, get_or, sym, ap, subst, ◌∙◌, inl, inr, normal_limit, IsAtMost, Label, Out, vector_of, IsPlain, IsStraight, sloop_at, Ray, Star, ray_of, star_of, SLoop, sloop_of, IsDropped, AreAllKept, IsCircleOf, AreCircles, is-at_none}
 use Rattle.law_sphere.specs.Stars.{Ray as PlainRay}
-use Rattle.nef_spair.proofs.Places.{all-at, at-all}
-use Rattle.nef_space.proofs.Lists.{is-at_last, is-at_left, is-at_more}
+use Rattle.nef_spair.proofs.Places.{all-at}
+use Rattle.nef_space.proofs.Lists.{is-at_last, is-at_left, is-at_more, all-of}
+use Rattle.law_sphere.proofs.Equal.{sloop-equal}
 
 -- ---- the circle of a straight star
-sloop-same : (l k : MapSloop) → l.normal ≡ k.normal → l.pos ≡ k.pos → l.mark ≡ k.mark → l.neg ≡ k.neg → l ≡ k
-sloop-same l k a b c d =
-    ap (λ (x : Vector). let r : MapSloop = record { normal = x; pos = l.pos; mark = l.mark; neg = l.neg } in r) a
-    ∙ ap (λ (x : Label). let r : MapSloop = record { normal = k.normal; pos = x; mark = l.mark; neg = l.neg } in r) b
-    ∙ ap (λ (x : Label). let r : MapSloop = record { normal = k.normal; pos = k.pos; mark = x; neg = l.neg } in r) c
-    ∙ ap (λ (x : Label). let r : MapSloop = record { normal = k.normal; pos = k.pos; mark = k.mark; neg = x } in r) d
 
 first-ray : (rays : List Ray) (r : Ray) (p q : PlainRay) → map ray_of rays ≡ p ∷ q ∷ [] → r ≡ get_or rays 0 r → ray_of r ≡ p
 first-ray [] r p q e f = absurd (cc)
@@ -19,7 +14,7 @@ first-ray (s ∷ rays) r p q e f = let i : ray_of s ∷ map ray_of rays ≡ p �
 pub circle-is : (t : Star) (s : IsStraight (star_of t)) (r : Ray) (c : SLoop) → r ≡ get_or t.rays.items 0 r → c.normal ≡ r.normal → c.mark ≡ t.mark
     → c.pos ≡ get_or t.sectors.items 0 Out → c.neg ≡ get_or t.sectors.items 1 Out → sloop_of c ≡ sloop_at (star_of t) s
 circle-is t s r c e n m p q =
-    sloop-same (sloop_of c) (sloop_at (star_of t) s) (ap vector_of n ∙ ap (λ (x : PlainRay). x.normal) (first-ray t.rays.items r s.first s.second s.two_rays e)) (p ∙ ap (λ (l : List Label). get_or l 0 Out) s.two_sectors) m
+    sloop-equal (sloop_of c) (sloop_at (star_of t) s) (ap vector_of n ∙ ap (λ (x : PlainRay). x.normal) (first-ray t.rays.items r s.first s.second s.two_rays e)) (p ∙ ap (λ (l : List Label). get_or l 0 Out) s.two_sectors) m
     (q ∙ ap (λ (l : List Label). get_or l 1 Out) s.two_sectors)
 
 pub not-dropped : (t : Star) → (IsPlain (star_of t) → ⊥) → (IsStraight (star_of t) → ⊥) → IsDropped t → ⊥
@@ -31,7 +26,7 @@ pub no-circles : (ts : List Star) → AreAllKept ts → AreCircles ts []
 no-circles ts n = record {
   from = λ k c h. absurd (is-at_none h);
   all = λ j t h s. absurd (n j t h (inr s));
-  small = at-all (λ (c : SLoop). IsAtMost normal_limit (vector_of c.normal)) [] (λ k c h. absurd (is-at_none h));
+  small = all-of (λ (c : SLoop). IsAtMost normal_limit (vector_of c.normal)) [] (λ k c h. absurd (is-at_none h));
 }
 
 -- ---- the circles of more stars
@@ -48,7 +43,7 @@ module _ (ts : List Star) (cs : List SLoop) (t : Star) (w : AreCircles ts cs) wh
           | inl a ↦ let f = w.all j u a s in (f.0, f.1, is-at_left cs (c ∷ []) f.0 f.1 f.2, f.3)
           | inr a ↦ (length cs, c, is-at_last cs c, subst (λ (x : Star). IsCircleOf (star_of x) (sloop_of c)) a.1 i)
         ];
-    small = at-all (λ (x : SLoop). IsAtMost normal_limit (vector_of x.normal)) (cs ++ c ∷ []) (λ k d h.
+    small = all-of (λ (x : SLoop). IsAtMost normal_limit (vector_of x.normal)) (cs ++ c ∷ []) (λ k d h.
         elim (is-at_more cs c k d h) [
           | inl a ↦ all-at (λ (x : SLoop). IsAtMost normal_limit (vector_of x.normal)) cs w.small k d a
           | inr a ↦ subst (λ (x : SLoop). IsAtMost normal_limit (vector_of x.normal)) a.1 small

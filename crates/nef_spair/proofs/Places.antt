@@ -1,13 +1,9 @@
 -- Elements by their places in longer lists, and what is left of a list without some.
-use Rattle.nef_spair.proofs.Prelude.{◌≡◌, ℕ, zero, suc, ◌<◌, List, [], ◌∷◌, ◌++◌, length, get_or, slice_get, Some, arith, refl, sym, ap, subst, inl, inr, ◌⊎◌, All, IsAt, is-at_within, is-at_is, is-at_get, AreOthers, is-at_none, is-at_first, is-at_left, is-at_last, is-at_more}
-use Rattle.nef_space.proofs.Lists.{is-at_read}
+use Rattle.nef_spair.proofs.Prelude.{ℕ, zero, suc, ◌<◌, List, [], ◌∷◌, ◌++◌, arith, refl, sym, ap, subst, inl, inr, ◌⊎◌, All, IsAt, is-at_within, is-at_is, AreOthers, is-at_none, is-at_first}
 
 module _ {A : Type 0} where
   pub all-at : (P : A → Type 0) (xs : List A) → All P xs → (k : ℕ) (x : A) → IsAt xs k x → P x
   all-at P xs a k x h = subst P (is-at_is xs k x x h) (a k x (is-at_within xs k x h))
-
-  pub at-all : (P : A → Type 0) (xs : List A) → ((k : ℕ) (x : A) → IsAt xs k x → P x) → All P xs
-  at-all P xs a k d h = a k (get_or xs k d) (is-at_get xs k d h)
 
   -- ---- those of a list that P doesn't hold of
   module _ (P : A → Type 0) where

@@ -15,9 +15,9 @@ pub use Rattle.law_sphere.proofs.building.RawGround.{not-both, raw-shows_op}
 pub use Rattle.law_sphere.specs.building.From.{IsFirstAfter}
 pub use Rattle.nef_star.proofs.Counted.{count-some, refilled}
 pub use Rattle.nef_star.proofs.Needed.{true_or_false}
-pub use Rattle.nef_star.proofs.Turns.{four, three_ways}
+pub use Rattle.nef_star.proofs.Turns.{four}
 pub use Rattle.nef_smap.proofs.Lists.{at-contains, contains-at}
-pub use Rattle.nef_smap.proofs.WellFormed.{dir-equal, star-well_formed}
+pub use Rattle.nef_smap.proofs.WellFormed.{star-well_formed}
 pub use Rattle.nef_smap.specs.Maps.{IsLeastMap, IsRawStars, raw_of}
 pub use Rattle.nef_smap.specs.declared.map.RawStars.{RawStars}
 pub use Rattle.nef_smap.specs.declared.map.SArc.{SArc}
@@ -29,3 +29,5 @@ pub use Rattle.nef_spair.specs.Made.{IsMadeFrom, IsMadeOf, IsMadeOfSimple}
 pub use Rattle.nef_spair.specs.Pieces.{AreAllKept, AreCircles, AreOthers, ArePiecesOf, AreSimple, IsBareCircle, IsChosen, IsCircleOf, IsDropped, IsSimple, Pieces}
 pub use Rattle.nef_spair.specs.declared.answer.Kind.TheVariants.{InFacet, InVolume, OnEdge, Vertex}
 pub use Rattle.nef_space.proofs.Lists.{is-at_more, is-at_get, is-at_is, is-at_map, is-at_within, map-is_at}
+pub use Rattle.nef_space.proofs.Elementary.{three-ways}
+pub use Rattle.nef_star.proofs.RoundStars.{same-dirs}

@@ -5,7 +5,7 @@ use Rattle.nef_star.proofs.RayOrder.{one-value}
 use Rattle.nef_star.proofs.Counted.{count-some, turned-by, renamed}
 use Rattle.nef_star.proofs.Straight.{two_items}
 use Rattle.nef_star.proofs.Pushed.{at-item, marked-ray, marked-left}
-use Rattle.nef_star.proofs.Combined.{combined-gives}
+use Rattle.nef_star.proofs.Combined.{combined-gives, combined-equal}
 use Rattle.nef_star.proofs.Joined.{left-to_star}
 
 -- the numbers of two rays
@@ -285,9 +285,6 @@ module _ (op : Op) (t b s : Star) (T : BeginsAnywhere t) (B : BeginsAnywhere b) 
       (four-turning a t.axis.some (left_at t.rays.items) turning (left_at b.rays.items) other_turning i (1 - i) other to_second to_first (left_at s.rays.items) g0 g1 g2 g3)
       (ap length four_sectors ∙ sym (ap sector_count four_rays))
 
-  label-of : (v w v' w' z : Label) → z ≡ op_label op v w → v ≡ v' → w ≡ w' → z ≡ op_label op v' w'
-  label-of v w v' w' z c p p' = c ∙ ap (λ (u : Label). op_label op u w) p ∙ ap (op_label op v') p'
-
   is_k : k ≡ sector_at t.sectors.items 0
   is_k = let n = two-sectors t T A.two in sector-label t.sectors.items 0 k (omega (arith, n)) at_k
 
@@ -304,14 +301,14 @@ module _ (op : Op) (t b s : Star) (T : BeginsAnywhere t) (B : BeginsAnywhere b) 
   gives d v w o c c' = renamed s t.axis 4 d (op_label op v w) f (ap length four_rays)
       (both-gives a t.axis.some (left_at t.rays.items) turning (left_at b.rays.items) other_turning i (1 - i) other to_second to_first (left_at s.rays.items) g0 g1 g2 g3
       op (mark_at t.rays.items) (sector_at t.sectors.items) (mark_at b.rays.items) (sector_at b.sectors.items) (mark_at s.rays.items) (sector_at s.sectors.items)
-      (ap (λ (z : List Ray). mark_at z 0) four_rays ∙ label-of q.mark before _ _ r0.mark m0 (ray-mark t.rays.items 0 q first_in at_q) is_before)
-      (ap (λ (z : List Ray). mark_at z 1) four_rays ∙ label-of k x.mark _ _ r1.mark m1 is_k (ray-mark b.rays.items i x other_in at_x))
-      (ap (λ (z : List Ray). mark_at z 2) four_rays ∙ label-of r.mark past _ _ r2.mark m2 (ray-mark t.rays.items 1 r second_in at_r) is_past)
-      (ap (λ (z : List Ray). mark_at z 3) four_rays ∙ label-of l y.mark _ _ r3.mark m3 is_l (ray-mark b.rays.items (1 - i) y rest_in at_y))
-      (ap (λ (z : List Label). sector_at z 0) four_sectors ∙ label-of k before _ _ l0 s0 is_k is_before)
-      (ap (λ (z : List Label). sector_at z 1) four_sectors ∙ label-of k past _ _ l1 s1 is_k is_past)
-      (ap (λ (z : List Label). sector_at z 2) four_sectors ∙ label-of l past _ _ l2 s2 is_l is_past)
-      (ap (λ (z : List Label). sector_at z 3) four_sectors ∙ label-of l before _ _ l3 s3 is_l is_before)
+      (ap (λ (z : List Ray). mark_at z 0) four_rays ∙ combined-equal op q.mark before _ _ r0.mark m0 (ray-mark t.rays.items 0 q first_in at_q) is_before)
+      (ap (λ (z : List Ray). mark_at z 1) four_rays ∙ combined-equal op k x.mark _ _ r1.mark m1 is_k (ray-mark b.rays.items i x other_in at_x))
+      (ap (λ (z : List Ray). mark_at z 2) four_rays ∙ combined-equal op r.mark past _ _ r2.mark m2 (ray-mark t.rays.items 1 r second_in at_r) is_past)
+      (ap (λ (z : List Ray). mark_at z 3) four_rays ∙ combined-equal op l y.mark _ _ r3.mark m3 is_l (ray-mark b.rays.items (1 - i) y rest_in at_y))
+      (ap (λ (z : List Label). sector_at z 0) four_sectors ∙ combined-equal op k before _ _ l0 s0 is_k is_before)
+      (ap (λ (z : List Label). sector_at z 1) four_sectors ∙ combined-equal op k past _ _ l1 s1 is_k is_past)
+      (ap (λ (z : List Label). sector_at z 2) four_sectors ∙ combined-equal op l past _ _ l2 s2 is_l is_past)
+      (ap (λ (z : List Label). sector_at z 3) four_sectors ∙ combined-equal op l before _ _ l3 s3 is_l is_before)
       d v w o
       (subst (λ (n : ℕ). Gives a n (left_at t.rays.items) (mark_at t.rays.items) (sector_at t.sectors.items) d v) A.two c)
       (subst (λ (n : ℕ). Gives a n (left_at b.rays.items) (mark_at b.rays.items) (sector_at b.sectors.items) d w) A.other_two

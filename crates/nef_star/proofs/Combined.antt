@@ -5,24 +5,25 @@ use Rattle.nef_star.proofs.Rotated.{rotated-gives}
 use Rattle.nef_star.proofs.Counted.{agreeing}
 use Rattle.nef_star.proofs.Both.{gives-same, after-label}
 
+-- the operation's label of equal labels
+pub combined-equal : (op : Op) (x y x' y' z : Label) → z ≡ op_label op x y → x ≡ x' → y ≡ y' → z ≡ op_label op x' y'
+combined-equal op x y x' y' z e p q = e ∙ ap (λ (v : Label). op_label op v y) p ∙ ap (op_label op x') q
+
 -- ---- directions
 -- M' and S' are M and S combined with what g gives at each f i and after it
 module _ (op : Op) (a : Vector) (axis : IsDirection a) (n : ℕ) (some : 0 < n) (f : ℕ → Vector) (t : IsTurning a n f) (m : ℕ) (g : ℕ → Vector) (u : IsTurning a m g) (all : (p : ℕ) → p < m → (x : ℕ) × (x < n) × (f x ≡ g p))
     (M S N R M' S' : ℕ → Label)
     (on : (i : ℕ) → i < n → (l : Label) × Gives a m g N R (f i) l × (M' i ≡ op_label op (M i) l)) (after : (i : ℕ) → i < n → (l : Label) × IsLabelAfter a m g R (f i) l × (S' i ≡ op_label op (S i) l))
     (d : Vector) (o : IsOnCircle a d) (k l : Label) where
-  joined : (x y x' y' z : Label) → z ≡ op_label op x y → x ≡ x' → y ≡ y' → z ≡ op_label op x' y'
-  joined x y x' y' z e p q = e ∙ ap (λ (v : Label). op_label op v y) p ∙ ap (op_label op x') q
-
   pub combined-gives : Gives a n f M S d k → Gives a m g N R d l → Gives a n f M' S' d (op_label op k l)
   combined-gives (on_ray i h s e) v =
       let w = on i h in
       let same = one_label a axis m g u N R d w.0 l o (gives-same a axis m g u N R (f i) d (t.circle i h) o s w.0 w.1) v in
-      on_ray i h s (joined (M i) w.0 k l (M' i) w.2 e same)
+      on_ray i h s (combined-equal op (M i) w.0 k l (M' i) w.2 e same)
   combined-gives (in_sector i j h x p e) v =
       let w = after i h in
       let same = after-label a axis n f t m g u all d o i j h x p N R w.0 l w.1 v in
-      in_sector i j h x p (joined (S i) w.0 k l (S' i) w.2 e same)
+      in_sector i j h x p (combined-equal op (S i) w.0 k l (S' i) w.2 e same)
   combined-gives (in_only_sector z e) v = absurd (omega (arith, z, some))
 
 -- ---- stars

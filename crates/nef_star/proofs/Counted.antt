@@ -1,8 +1,8 @@
 -- Stars whose rays are counted from another one on, and stars without their last ray.
-use Rattle.nef_star.proofs.Prelude.{◌≡◌, ℕ, suc, ◌+◌, ◌-◌, ◌<◌, ◌≤◌, List, [], ◌∷◌, ◌++◌, length, map, take, drop, get_or, arith, refl, sym, ap, subst, ◌∙◌, inl, inr, length-append, All, drop-map, take-map, map-append, get_or-drop, get_or-take, get_or_append_left, get_or-append_right, length-drop, length-take-le, length-map, All-append, All-take, All-drop, svertex_limit, Vector, cross, zero_vector, IsDirection, IsAtMost, Label, Out, vector_of, Dir, IsOnCircle, Ray, Star, IsTurning, IsNext, Gives, in_only_sector, left_of, left_at, mark_of, mark_at, sector_at, sector_count, IsRay, BeginsAnywhere, KeepsLabels, IsCountedFrom, IsNeedless, NoneNeedless, LeftGives}
+use Rattle.nef_star.proofs.Prelude.{◌≡◌, ℕ, suc, ◌+◌, ◌-◌, ◌<◌, ◌≤◌, List, [], ◌∷◌, ◌++◌, length, map, take, drop, get_or, arith, refl, sym, ap, subst, ◌∙◌, inl, inr, length-append, All, drop-map, take-map, map-append, get_or-drop, get_or-take, get_or_append_left, get_or-append_right, length-drop, length-take-le, length-map, All-append, All-take, All-drop, svertex_limit, Vector, cross, zero_vector, IsDirection, IsAtMost, Label, Out, vector_of, Dir, IsOnCircle, Ray, Star, IsTurning, IsNext, Gives, left_of, left_at, mark_of, mark_at, sector_at, sector_count, IsRay, BeginsAnywhere, KeepsLabels, IsCountedFrom, IsNeedless, NoneNeedless, LeftGives}
 use Rattle.nef_star.proofs.Labelled.{left-on, to-left, to-star}
 use Rattle.nef_star.proofs.Rotated.{IsRotated, rotated-gives, rotated-turning}
-use Rattle.nef_star.proofs.Dropped.{fewer-turning, dropped-gives, only-gives, only-label}
+use Rattle.nef_star.proofs.Dropped.{fewer-turning, dropped-gives}
 
 -- ---- lists
 pub rotated-list : {X : Type 0} (d : X) (m : ℕ) (xs ys : List X) → m ≤ length xs → ys ≡ drop m xs ++ take m xs → IsRotated (length xs) m (λ k. get_or xs k d) (λ k. get_or ys k d)
@@ -166,19 +166,3 @@ module _ (t s : Star) (T : BeginsAnywhere t) (e : s.axis ≡ t.axis) (f : s.mark
             let w : i ≡ k = omega (arith, u) in
             h (suc k) j p later (inr (sym n, v))
             (sym (same-mark j here) ∙ z.0 ∙ same-sector i (omega (arith, u)) ∙ ap (sector_at t.sectors.items) w ∙ sym needless.0 ∙ needless.1, sym (same-mark j here) ∙ z.1 ∙ same-sector j here)
-
-  -- ---- without the only ray
-  module _ (n : length t.rays.items ≡ 1) (rays : s.rays.items ≡ []) (ends : s.sectors.items ≡ t.sectors.items) (needless : IsNeedless t 0 0) where
-    no_length : length s.rays.items ≡ 0
-    no_length = ap length rays
-
-    pub none-turned : BeginsAnywhere s
-    none-turned = turned-by (λ k d h. absurd (omega (arith, h, no_length))) 0 no_length
-        (record { circle = λ k h. absurd (omega (arith, h)); apart = λ k h i. absurd (omega (arith, i)); rising = λ i k p q h. absurd (omega (arith, h)) })
-        (let b : 0 < length t.rays.items = omega (arith, n) in ap length ends ∙ T.sectors ∙ count-some t.rays.items b ∙ n ∙ sym (ap sector_count rays))
-
-    pub none-kept : KeepsLabels t s
-    none-kept = kept-by t s T none-turned e f (λ d o l g.
-        in_only_sector no_length (ap (λ (x : List Label). sector_at x 0) ends ∙ only-label (vector_of t.axis) (left_at t.rays.items) (mark_at t.rays.items) (sector_at t.sectors.items) d l
-        (only-gives (vector_of t.axis) (left_at t.rays.items) (mark_at t.rays.items) (sector_at t.sectors.items) needless.0 d l
-        (subst (λ (m : ℕ). Gives (vector_of t.axis) m (left_at t.rays.items) (mark_at t.rays.items) (sector_at t.sectors.items) d l) n g))))

@@ -1,12 +1,13 @@
 -- What a star gives at one of its rays, one ray's labels changed, and two stars combined.
-use Rattle.nef_star.proofs.Prelude.{◌≡◌, ℕ, zero, suc, ◌<◌, List, length, map, get_or, set, arith, refl, sym, ap, subst, ◌∙◌, inl, inr, ◌⊎◌, length-set, All, map-set, get_or-set_same, get_or-set_other, length-map, All-set, Vector, zero_vector, cross, IsDirection, SameDirection, Label, Out, vector_of, Dir, IsOnCircle, StarLabel, Op, Ray, Star, op_label, IsTurning, Gives, on_ray, in_sector, in_only_sector, star_of, left_of, left_at, mark_of, mark_at, sector_at, sector_count, IsRay, BeginsAnywhere, KeepsLabels, HasLeft, LeftGives, LeftAfter, LeftPast, IsCombined, IsLeftCombined, IsCombinedAt}
-use Rattle.nef_star.proofs.Turns.{first_or_later}
+use Rattle.nef_star.proofs.Prelude.{◌≡◌, ℕ, ◌<◌, List, length, map, get_or, set, arith, sym, ap, subst, ◌∙◌, inl, inr, ◌⊎◌, length-set, All, map-set, get_or-set_same, get_or-set_other, length-map, All-set, Vector, zero_vector, cross, IsDirection, SameDirection, Label, Out, vector_of, Dir, IsOnCircle, StarLabel, Op, Ray, Star, op_label, IsTurning, Gives, on_ray, in_sector, in_only_sector, star_of, left_of, left_at, mark_of, mark_at, sector_at, sector_count, IsRay, BeginsAnywhere, KeepsLabels, HasLeft, LeftGives, LeftAfter, LeftPast, IsCombined, IsLeftCombined, IsCombinedAt}
 use Rattle.nef_star.proofs.Labelled.{left-on, to-left, to-star, sectors-fill, sectors-none}
 use Rattle.nef_star.proofs.RayOrder.{one-value}
 use Rattle.nef_star.proofs.Added.{turning-same}
 use Rattle.nef_star.proofs.Counted.{turned-by, count-some}
 use Rattle.nef_star.proofs.Dropped.{only-label}
 use Rattle.nef_star.proofs.Pushed.{at-item, left-on_circle, marked-ray, marked-left}
+use Rattle.std.proofs.lemmas.Bool.{cases_eq}
+use Rattle.std.proofs.Math.Nat.{eq-zero-or-pos}
 
 -- ---- at a ray
 pub gives-mark : (t : Star) (d : Vector) (k : ℕ) (r : Ray) → k < length t.rays.items → r ≡ get_or t.rays.items k r → SameDirection (left_at t.rays.items k) d → LeftGives t d r.mark
@@ -28,12 +29,6 @@ set-here g d xs k x h = let n = length-map xs g in ap (λ l. get_or l k d) (map-
 pub set-other : {X Y : Type 0} (g : X → Y) (d : Y) (xs : List X) (k : ℕ) (x : X) (i : ℕ) → (i ≡ k → ⊥) → get_or (map g (set xs k x)) i d ≡ get_or (map g xs) i d
 set-other g d xs k x i n = ap (λ l. get_or l i d) (map-set g xs k x) ∙ get_or-set_other (map g xs) k i (g x) d n
 
-pub nat-is : (i k : ℕ) → (i ≡ k) ⊎ (i ≡ k → ⊥)
-nat-is zero zero = inl refl
-nat-is zero (suc k) = inr (λ e. omega (arith, e))
-nat-is (suc i) zero = inr (λ e. omega (arith, e))
-nat-is (suc i) (suc k) = elim (nat-is i k) [ inl e ↦ inl (ap suc e) | inr n ↦ inr (λ e. let f : i ≡ k = omega (arith, e) in n f) ]
-
 -- ray k of t is q, and that of s is r
 module _ (op : Op) (b t s : Star) (T : BeginsAnywhere t) (k : ℕ) (q r : Ray) (h : k < length t.rays.items) (at_k : q ≡ get_or t.rays.items k q) (normal : r.normal ≡ q.normal) (ahead : r.ahead ≡ q.ahead)
     (e : s.axis ≡ t.axis) (f : s.mark ≡ t.mark) (p l : Label) (rays : s.rays.items ≡ set t.rays.items k r) (sectors : s.sectors.items ≡ set t.sectors.items k p) where
@@ -47,7 +42,7 @@ module _ (op : Op) (b t s : Star) (T : BeginsAnywhere t) (k : ℕ) (q r : Ray) (
   old-mark = at-item mark_of Out t.rays.items k q h ∙ ap mark_of (sym at_k)
 
   pub same-lefts : (i : ℕ) → left_at s.rays.items i ≡ left_at t.rays.items i
-  same-lefts i = ap (λ (l : List Ray). left_at l i) rays ∙ by (nat-is i k)
+  same-lefts i = ap (λ (l : List Ray). left_at l i) rays ∙ by (cases_eq i k)
     where
       by : (i ≡ k) ⊎ (i ≡ k → ⊥) → left_at (set t.rays.items k r) i ≡ left_at t.rays.items i
       by (inl z) = subst (λ (j : ℕ). left_at (set t.rays.items k r) j ≡ left_at t.rays.items j) (sym z) (set-here left_of zero_vector t.rays.items k r h ∙ marked-left q r normal ahead ∙ sym old-left)
@@ -109,7 +104,7 @@ combined-kept op a b c s t h k m = record {
 }
 
 pub none-too : (t b : Star) → ((k : ℕ) → k < length b.rays.items → HasLeft t (left_at b.rays.items k)) → length t.rays.items ≡ 0 → length b.rays.items ≡ 0
-none-too t b all none = elim (first_or_later (length b.rays.items)) [ inl e ↦ e | inr h ↦ let w = all 0 h in let x = w.1 in absurd (omega (arith, x, none)) ]
+none-too t b all none = elim (eq-zero-or-pos (length b.rays.items)) [ inl e ↦ e | inr h ↦ let w = all 0 h in let x = w.1 in absurd (omega (arith, x, none)) ]
 
 -- stars without rays
 module _ (op : Op) (b t s : Star) (B : BeginsAnywhere b) (T : BeginsAnywhere t) (none : length t.rays.items ≡ 0) (none' : length b.rays.items ≡ 0) (e : s.axis ≡ t.axis) (f : s.mark ≡ t.mark) (rays : s.rays.items ≡ t.rays.items)

@@ -3,9 +3,10 @@ use lib.Dec.{T}
 use Rattle.nef_star.proofs.Prelude.{◌≡◌, ℕ, ◌+◌, ◌-◌, ◌<◌, ◌≤◌, length, get_or, true, false, arith, refl, sym, ap, subst, ◌∙◌, inl, inr, ◌⊎◌, ◌↔◌, cross, IsDirection, vector_of, Dir, IsSimplified, Follows, Ray, Star, IsNext, ray_of, star_of, mark_at, sector_at, IsRayBelow, BeginsAnywhere, KeepsLabels, IsCountedFrom, IsNeedless, NoneNeedless, IsRayTried, length-map}
 use Rattle.law_sphere.specs.Stars.{Ray as PlainRay}
 use Rattle.nef_star.proofs.Labelled.{at-ray, at-sector}
-use Rattle.nef_star.proofs.Rotated.{Moved, moved-value, lt-or-le, moved-from as unmoved}
+use Rattle.nef_star.proofs.Rotated.{Moved, moved-value, moved-from as unmoved}
 use Rattle.nef_star.proofs.RayOrder.{LeastOf}
 use Rattle.nef_star.proofs.Counted.{rotated-list, counted-length, marks, sectors}
+use Rattle.std.proofs.lemmas.Bool.{cases_lt}
 
 unmoved-next : (n m i j i' j' : ℕ) → m < n → i < n → j < n → Moved n m i i' → Moved n m j j' → IsNext n i' j' → IsNext n i j
 unmoved-next n m i j i' j' h k l (inl e) (inl f) (inl (x, y)) = inl (omega (arith, e, f, x), l)
@@ -151,7 +152,7 @@ next-one n i j k (inr (x, h)) (inl (y, g)) l = absurd (omega (arith, y, h))
 next-one n i j k (inr (x, h)) (inr (y, g)) l = omega (arith, x, y)
 
 pub needed-more : (t : Star) (c : ℕ) → NoneNeedless c t → (i : ℕ) → IsNext (length t.rays.items) i c → (IsNeedless t i c → ⊥) → NoneNeedless (c + 1) t
-needed-more t c a i x last j k l h y z = by (lt-or-le k c)
+needed-more t c a i x last j k l h y z = by (cases_lt k c)
   where
     by : (k < c) ⊎ (c ≤ k) → ⊥
     by (inl m) = a j k m h y z

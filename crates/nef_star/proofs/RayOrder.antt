@@ -1,20 +1,18 @@
 -- The order of rays.
-use Rattle.nef_star.proofs.Prelude.{◌≡◌, ℕ, zero, suc, ◌+◌, ◌<◌, List, [], ◌∷◌, length, get_or, Bool, true, false, arith, refl, sym, subst, ◌∙◌, inl, inr, ◌⊎◌, eq-or-lt_of_le, IsBelow, direction_numbers, vector_of, Dir, Ray, IsRayBelow}
-use lib.Dec.{T}
-use Rattle.nef_geo.proofs.Orders.{never-below, below-trans}
-
-pub true_not_false : (b : Bool) → b ≡ true → b ≡ false → ⊥
-true_not_false b e f = subst T (sym e ∙ f) tt
+use Rattle.nef_star.proofs.Prelude.{◌≡◌, ℕ, zero, suc, ◌+◌, ◌<◌, List, [], ◌∷◌, length, get_or, arith, refl, sym, subst, ◌∙◌, inl, inr, ◌⊎◌, eq-or-lt_of_le, IsBelow, direction_numbers, vector_of, Dir, Ray, IsRayBelow}
+use Rattle.nef_geo.proofs.Orders.{never-below}
+use Rattle.nef_space.proofs.Elementary.{below-trans}
+use Rattle.std.proofs.lemmas.Bool.{false≢true}
 
 pub ray-below-trans : (p q r : Ray) → IsRayBelow p q → IsRayBelow q r → IsRayBelow p r
 ray-below-trans p q r (inl h) (inl k) = inl (below-trans (direction_numbers (vector_of p.normal)) (direction_numbers (vector_of q.normal)) (direction_numbers (vector_of r.normal)) h k)
 ray-below-trans p q r (inl h) (inr (e, k, k')) = inl (subst (λ (d : Dir). IsBelow (direction_numbers (vector_of p.normal)) (direction_numbers (vector_of d))) e h)
 ray-below-trans p q r (inr (e, h, h')) (inl k) = inl (subst (λ (d : Dir). IsBelow (direction_numbers (vector_of d)) (direction_numbers (vector_of r.normal))) (sym e) k)
-ray-below-trans p q r (inr (e, a, b)) (inr (f, c, d)) = absurd (true_not_false q.ahead c b)
+ray-below-trans p q r (inr (e, a, b)) (inr (f, c, d)) = absurd (false≢true (sym b ∙ c))
 
 pub ray-below-self : (r : Ray) → IsRayBelow r r → ⊥
 ray-below-self r (inl h) = never-below (direction_numbers (vector_of r.normal)) h
-ray-below-self r (inr (e, a, b)) = true_not_false r.ahead a b
+ray-below-self r (inr (e, a, b)) = false≢true (sym b ∙ a)
 
 pub one-value : {X : Type 0} (xs : List X) (k : ℕ) (d e : X) → k < length xs → get_or xs k d ≡ get_or xs k e
 one-value [] k d e h = absurd (omega arith)

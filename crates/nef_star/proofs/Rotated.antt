@@ -1,6 +1,8 @@
 -- Directions that turn, counted from another one of them, turn and give the same.
 use Rattle.nef_star.proofs.Prelude.{◌≡◌, ℕ, zero, suc, ◌+◌, ◌-◌, ◌<◌, ◌≤◌, arith, refl, sym, ap, subst, ◌∙◌, inl, inr, ◌⊎◌, Vector, IsDirection, SameDirection, Label, IsOnCircle, Passes, seen_from_later, seen_from_between, seen_from_after, IsTurning, IsNext, Gives, on_ray, in_sector, in_only_sector}
-use Rattle.nef_star.proofs.Turns.{same-self, four, next_in, has_next, first_or_later, distinct}
+use Rattle.nef_star.proofs.Turns.{same-self, four, next_in, has_next, distinct}
+use Rattle.std.proofs.lemmas.Bool.{cases_lt}
+use Rattle.std.proofs.Math.Nat.{eq-zero-or-pos}
 
 -- g counts from the m-th of the n values of f on
 pub record IsRotated {X : Type 0} (n m : ℕ) (f g : ℕ → X) : Type 0 where
@@ -11,13 +13,8 @@ pub record IsRotated {X : Type 0} (n m : ℕ) (f g : ℕ → X) : Type 0 where
 abbrev pub Moved : ℕ → ℕ → ℕ → ℕ → Type 0
 Moved n m i j = (j + m ≡ i) ⊎ (j + m ≡ i + n)
 
-pub lt-or-le : (i m : ℕ) → (i < m) ⊎ (m ≤ i)
-lt-or-le i zero = inr (omega arith)
-lt-or-le zero (suc m) = inl (omega arith)
-lt-or-le (suc i) (suc m) = elim (lt-or-le i m) [ inl p ↦ inl (omega (arith, p)) | inr q ↦ inr (omega (arith, q)) ]
-
 pub moved : (n m i : ℕ) → m < n → i < n → (j : ℕ) × (j < n) × Moved n m i j
-moved n m i h k = by (lt-or-le i m)
+moved n m i h k = by (cases_lt i m)
   where
     by : (i < m) ⊎ (m ≤ i) → (j : ℕ) × (j < n) × Moved n m i j
     by (inl p) = (i + n - m, omega arith, inr (omega arith))
@@ -25,7 +22,7 @@ moved n m i h k = by (lt-or-le i m)
 
 -- what stands in place j came from place i
 pub moved-from : (n m j : ℕ) → m < n → j < n → (i : ℕ) × (i < n) × Moved n m i j
-moved-from n m j h k = by (lt-or-le (j + m) n)
+moved-from n m j h k = by (cases_lt (j + m) n)
   where
     by : (j + m < n) ⊎ (n ≤ j + m) → (i : ℕ) × (i < n) × Moved n m i j
     by (inl p) = (j + m, p, inl refl)
@@ -70,7 +67,7 @@ module _ (a : Vector) (n m : ℕ) (f g : ℕ → Vector) (h : m < n) (r : IsRota
         zero-value = let low : 0 + m < n = omega arith in let e : 0 + m ≡ m = omega arith in r.low 0 low ∙ ap f e
 
         split : (k : ℕ) → (k + m < n) ⊎ (n ≤ k + m)
-        split k = lt-or-le (k + m) n
+        split k = cases_lt (k + m) n
 
         from_first : (i k : ℕ) → i < k → k < n → SameDirection (f 0) (f i) ⊎ Passes a (f 0) (f i) (f k)
         from_first zero k p l = inl (same-self a (f 0) (on 0 (omega arith)))
@@ -86,7 +83,7 @@ module _ (a : Vector) (n m : ℕ) (f g : ℕ → Vector) (h : m < n) (r : IsRota
         ]
 
         rising : (i k : ℕ) → 0 < i → i < k → k < n → Passes a (g 0) (g i) (g k)
-        rising i k p q l = by (first_or_later m) (split i) (split k)
+        rising i k p q l = by (eq-zero-or-pos m) (split i) (split k)
           where
             by : (m ≡ 0) ⊎ (0 < m) → (i + m < n) ⊎ (n ≤ i + m) → (k + m < n) ⊎ (n ≤ k + m) → Passes a (g 0) (g i) (g k)
             by (inl z) u w = rw (same 0 (omega (arith, z)), same i (omega arith), same k l) (t.rising i k p q l)

@@ -3,9 +3,11 @@ use Rattle.nef_star.proofs.Prelude.{◌≡◌, ℕ, zero, suc, ◌+◌, ◌<◌,
 use Rattle.nef_star.proofs.Rotated.{moved-from, moved-value, moved}
 use Rattle.nef_star.proofs.LastAt.{as-same}
 use Rattle.nef_star.proofs.Counted.{lefts, marks, sectors, counted-length, count-some}
-use Rattle.nef_star.proofs.Joined.{changed-turned, changed-count, same-lefts, set-here, set-other, nat-is}
+use Rattle.nef_star.proofs.Joined.{changed-turned, changed-count, same-lefts, set-here, set-other}
 use Rattle.nef_star.proofs.Labelled.{sectors-fill}
 use Rattle.nef_star.proofs.Pushed.{at-item}
+use Rattle.nef_space.proofs.Elementary.{less-unless}
+use Rattle.std.proofs.lemmas.Bool.{cases_eq}
 
 -- ---- the ways
 -- the star goes just the ways of the first k ends
@@ -93,12 +95,9 @@ module _ (ends : List ArcEnd) (k : ℕ) (t s u : Star) (old : IsEnded ends k t s
     lefts = λ j. lefts_same j ∙ old.lefts j;
     ends_at = λ j l. ⊎_elim
         (λ z. subst (IsEndAt ends u) (sym z) here)
-        (λ n. elsewhere j n (old.ends_at j (le-ne j k (omega (arith, l)) n)))
-        (nat-is j k);
+        (λ n. elsewhere j n (old.ends_at j (less-unless j k (omega (arith, l)) n)))
+        (cases_eq j k);
   }
-    where
-      le-ne : (j k : ℕ) → j ≤ k → (j ≡ k → ⊥) → j < k
-      le-ne j k l n = elim (eq-or-lt_of_le {n = j} {m = k} l) [ inl e ↦ absurd (n e) | inr p ↦ p ]
 
 -- the way of ray k is that of an end
 pub way-of_end : (ends : List ArcEnd) (k : ℕ) (t s : Star) → HasWays ends (length ends) t → IsEnded ends k t s → (q : Ray) → k < length s.rays.items → q ≡ get_or s.rays.items k q → (v : Vector) → v ≡ left_of q

@@ -1,9 +1,10 @@
 -- Stars of two opposite rays.
 use Rattle.nef_star.proofs.Prelude.{◌≡◌, ℕ, zero, suc, ◌<◌, pos, List, [], ◌∷◌, length, map, Bool, true, false, cond, arith, refl, sym, ap, subst, ◌∙◌, inl, inr, get_or, All, length-map, All-cons, All-nil, ints, normal_limit, svertex_limit, IsBelow, Vector, dot, opposite, direction_numbers, IsDirection, IsAtMost, IsNormal, SameDirection, vector_of, Dir, IsOnCircle, IsStraight, Ray, Star, ray_of, star_of, left_of, left_at, sector_count, IsRayBelow, AreStraight, IsRay, IsStar, IsTurning, dot-comm, self-pos, opposite-dot, dir-self}
 use Rattle.law_sphere.specs.Stars.{Ray as PlainRay}
-use Rattle.nef_star.proofs.RayOrder.{ray-below-self, true_not_false}
+use Rattle.nef_star.proofs.RayOrder.{ray-below-self}
 use Rattle.nef_star.proofs.Pushed.{left-on_circle}
 use Rattle.nef_star.proofs.RoundStars.{same-dirs as dir_equal}
+use Rattle.std.proofs.lemmas.Bool.{false≢true}
 
 pub two_items : {X : Type 0} (xs : List X) (q r : X) → length xs ≡ 2 → q ≡ get_or xs 0 q → r ≡ get_or xs 1 r → xs ≡ q ∷ r ∷ []
 two_items [] q r n e f = absurd (omega (arith, n))
@@ -106,7 +107,7 @@ module _ (a : Vector) (axis : IsDirection a) (q r : Ray) (Q : IsRay a q) (R : Is
     where
       not-below : IsRayBelow r q → ⊥
       not-below (inl z) = ray-below-self q (inl (subst (λ (n : Dir). IsBelow (direction_numbers (vector_of n)) (direction_numbers (vector_of q.normal))) (sym one) z))
-      not-below (inr (z, w, v)) = true_not_false r.ahead w behind
+      not-below (inr (z, w, v)) = false≢true (sym behind ∙ w)
   none_below (suc (suc k)) x y h e f b = absurd (omega (arith, h))
 
 pub plane-star : (t : Star) (q r : Ray) → t.rays.items ≡ q ∷ r ∷ [] → length t.sectors.items ≡ 2 → IsAtMost svertex_limit (vector_of t.axis) → IsRay (vector_of t.axis) q → IsRay (vector_of t.axis) r

@@ -2,6 +2,8 @@
 use Rattle.nef_star.proofs.Prelude.{◌≡◌, ℕ, zero, suc, ◌-◌, ◌<◌, ◌≤◌, pos, ◌<ℤ◌, arith, refl, sym, ap, subst, ◌∙◌, inl, inr, ◌⊎◌, ints, eq-or-lt_of_le, Vector, dot, cross, triple, IsDirection, IsParallel, SameDirection, Label, IsOnCircle, Passes, AboutThree, AboutFour, turn_from_parallel, one_is_first, never_both_ways, order_is_transitive, same_in_place, order_is_cyclic, nearer_ones, no_ray_between, Decided, IsTurning, IsNext, Gives, on_ray, in_sector as of_sector, in_only_sector, IsUnder, zero-decided, self-pos, SameDirection-trans, SameDirection-turned, dir-self}
 use Rattle.law_sphere.proofs.cyclic.Cyclic.{in_sector}
 use Rattle.law_sphere.proofs.Vectors.{positive-or}
+use Rattle.nef_space.proofs.Elementary.{three-ways}
+use Rattle.std.proofs.Math.Nat.{eq-zero-or-pos}
 
 -- ---- directions about an axis
 pub same-self : (a d : Vector) → IsOnCircle a d → SameDirection d d
@@ -47,21 +49,6 @@ has_next n k h = by (eq-or-lt_of_le {n = suc k} {m = n} (omega arith))
     by (inl e) = (0, inr (e, refl))
     by (inr l) = (suc k, inl (refl, l))
 
-pub first_or_later : (k : ℕ) → (k ≡ 0) ⊎ (0 < k)
-first_or_later zero = inl refl
-first_or_later (suc k) = inr (omega arith)
-
-pub three_ways : (i k : ℕ) → (i < k) ⊎ (i ≡ k) ⊎ (k < i)
-three_ways zero zero = inr (inl refl)
-three_ways zero (suc k) = inl (omega arith)
-three_ways (suc i) zero = inr (inr (omega arith))
-three_ways (suc i) (suc k) = by (three_ways i k)
-  where
-    by : (i < k) ⊎ (i ≡ k) ⊎ (k < i) → (suc i < suc k) ⊎ (suc i ≡ suc k) ⊎ (suc k < suc i)
-    by (inl h) = inl (omega arith)
-    by (inr (inl h)) = inr (inl (ap suc h))
-    by (inr (inr h)) = inr (inr (omega arith))
-
 -- ---- directions that turn
 module _ (a : Vector) (axis : IsDirection a) (n : ℕ) (f : ℕ → Vector) (t : IsTurning a n f) where
   on : (k : ℕ) → k < n → IsOnCircle a (f k)
@@ -73,7 +60,7 @@ module _ (a : Vector) (axis : IsDirection a) (n : ℕ) (f : ℕ → Vector) (t :
   distinct_up (suc i) k h l s = (t.rising (suc i) k (omega arith) h l).not_target (SameDirection-turned (f (suc i)) (f k) s)
 
   pub distinct : (i k : ℕ) → i < n → k < n → SameDirection (f i) (f k) → i ≡ k
-  distinct i k h l s = by (three_ways i k)
+  distinct i k h l s = by (three-ways i k)
     where
       by : (i < k) ⊎ (i ≡ k) ⊎ (k < i) → i ≡ k
       by (inl p) = absurd (distinct_up i k p l s)
@@ -92,7 +79,7 @@ module _ (a : Vector) (axis : IsDirection a) (n : ℕ) (f : ℕ → Vector) (t :
   pub none_between : (k j i : ℕ) → k < n → IsNext n k j → i < n → Passes a (f k) (f i) (f j) → ⊥
   none_between k j i h x l p =
       no_ray_between a (f 0) (f k) (f j) (f i) (four a (f 0) (f k) (f j) (f i) axis (on 0 (omega arith)) (on k h) (on j (next_in n k j h x)) (on i l))
-      (before_next k j h x) (place (first_or_later i) (three_ways i k) x) p
+      (before_next k j h x) (place (eq-zero-or-pos i) (three-ways i k) x) p
     where
       Where : Type 0
       Where = SameDirection (f k) (f i) ⊎ SameDirection (f j) (f i) ⊎ SameDirection (f 0) (f i)
@@ -107,7 +94,7 @@ module _ (a : Vector) (axis : IsDirection a) (n : ℕ) (f : ℕ → Vector) (t :
       place (inl e) w y = inr (inr (inl (subst (λ (m : ℕ). SameDirection (f 0) (f m)) (sym e) (same-self a (f 0) (on 0 (omega arith))))))
       place (inr q) (inl w) y = inr (inr (inr (inl (t.apart k (omega arith) h, t.rising i k q w h))))
       place (inr q) (inr (inl w)) y = inl (subst (λ (m : ℕ). SameDirection (f k) (f m)) (sym w) (same-self a (f k) (on k h)))
-      place (inr q) (inr (inr w)) (inl (e, m)) = later e m w (three_ways j i)
+      place (inr q) (inr (inr w)) (inl (e, m)) = later e m w (three-ways j i)
       place (inr q) (inr (inr w)) (inr (e, m)) = absurd (omega arith)
 
   -- ---- each direction is on one of them, or between one and the next
@@ -176,7 +163,7 @@ module _ (a : Vector) (axis : IsDirection a) (n : ℕ) (f : ℕ → Vector) (t :
   one_place d k i h l o (inl s) (inl s') = distinct k i h l (SameDirection-trans (f k) d (f i) s (SameDirection-turned (f i) d s'))
   one_place d k i h l o (inl s) (inr (j, x, p)) = absurd (not_both d k i j h l o s x p)
   one_place d k i h l o (inr (j, x, p)) (inl s) = absurd (not_both d i k j l h o s x p)
-  one_place d k i h l o (inr (j, x, p)) (inr (j', x', p')) = by (three_ways k i)
+  one_place d k i h l o (inr (j, x, p)) (inr (j', x', p')) = by (three-ways k i)
     where
       by : (k < i) ⊎ (k ≡ i) ⊎ (i < k) → k ≡ i
       by (inl w) = absurd (one_sector d k j i j' h x p l x' p' o (distinct_up k i w l))
@@ -190,7 +177,7 @@ module _ (a : Vector) (axis : IsDirection a) (n : ℕ) (f : ℕ → Vector) (t :
     given d k h (inr (j, x, p)) = (sectors k, of_sector k j h x p refl)
 
     pub some_label : (d : Vector) → IsOnCircle a d → (l : Label) × Gives a n f marks sectors d l
-    some_label d o = by (first_or_later n)
+    some_label d o = by (eq-zero-or-pos n)
       where
         by : (n ≡ 0) ⊎ (0 < n) → (l : Label) × Gives a n f marks sectors d l
         by (inl e) = (sectors 0, in_only_sector e refl)

@@ -8,7 +8,8 @@ use Rattle.nef_expr.proofs.Sets.{each-set}
 use Rattle.nef_expr.proofs.Turns.{node-turned}
 use Rattle.nef_script.specs.declared.arguments.Verb.TheVariants as verb
 use Rattle.nef_statement.proofs.Turning.{set-same}
-use Rattle.nef_statement.proofs.Alike.{same-self, same-half, same-other, same-inside, same-closed, same-border, same-regular, same-both, same-either, same-less, same-one_of}
+use Rattle.nef_statement.proofs.Alike.{same-half}
+use Rattle.law_near.proofs.SameSets.{same-self, same-other, same-inside, same-closed, same-border, same-regular, same-both, same-either, same-less, same-one_of}
 
 abbrev pub names_in : Bindings → List (List ℕ)
 names_in sets = map (λ (b : List ℕ × Set). b.0) sets

@@ -8,6 +8,7 @@ use Rattle.law_text.proofs.existence.Reduced.{Reduced, reduce-by}
 use Rattle.nef_expr.specs.declared.nodes.Node.TheVariants as node
 use Rattle.nef_expr.specs.declared.table.Origin.{Origin}
 use Rattle.nef_expr.proofs.Halves.{half-in_range, half-some, half-read}
+use Rattle.nef_space.proofs.Elementary.{whole-nought}
 
 -- ---- points
 -- the point (x/w, y/w, z/w), whose numbers are at most as large as these
@@ -72,11 +73,8 @@ plane-of f S = by (reduce-by f.a f.b f.c f.d (some-divides offset_limit f.a f.b 
     wide = let N = S.normal_small in let a = N.of_x in let b = N.of_y in let c = N.of_z in record { of_x = omega (arith, a); of_y = omega (arith, b); of_z = omega (arith, c) }
 
     by : Reduced f.a f.b f.c f.d → (o : Oriented) × IsPositiveMultiple f (given_form o)
-    by r = then (normal-choice (vector r.x' r.y' r.z') (λ z. (let R = r.reduced in S.normal (nought R.factor f.a r.x' R.x_is z.0, nought R.factor f.b r.y' R.y_is z.1, nought R.factor f.c r.z' R.z_is z.2))))
+    by r = then (normal-choice (vector r.x' r.y' r.z') (λ z. (let R = r.reduced in S.normal (whole-nought R.factor f.a r.x' R.x_is z.0, whole-nought R.factor f.b r.y' R.y_is z.1, whole-nought R.factor f.c r.z' R.z_is z.2))))
       where
-        nought : (k x y : ℤ) → x ≡ k *ℤ y → y ≡ pos 0 → x ≡ pos 0
-        nought k x y e g = e ∙ ap (λ n. k *ℤ n) g ∙ omega (arith, ints)
-
         multiple : (b : Bool) (o : Oriented) → o.flipped ≡ b → o.plane.a ≡ negated_if b r.x' → o.plane.b ≡ negated_if b r.y' → o.plane.c ≡ negated_if b r.z' → o.plane.d ≡ negated_if b r.w' → IsPositiveMultiple f (given_form o)
         multiple true o e p q s t =
             let R = r.reduced in

@@ -10,18 +10,10 @@ use Rattle.nef_lex.proofs.Decimal.{decimal_value-push}
 use Rattle.nef_lex.proofs.LineLaws.{pieces_of_ended}
 use Rattle.nef_lex.proofs.WordLaws.{words_of_spaced}
 use Rattle.law_text.proofs.Words.{spelled}
+use Rattle.law_text.proofs.Lines.{Each, Each-append}
 
 abbrev pub Row : Type 0
 Row = List Word
-
--- each element has P
-abbrev pub Each : {A : Type 0} → (A → Type 0) → List A → Type 0
-Each P [] = Unit {0}
-Each P (x ∷ xs) = P x × Each P xs
-
-pub Each-append : {A : Type 0} (P : A → Type 0) (xs ys : List A) → Each P xs → Each P ys → Each P (xs ++ ys)
-Each-append P [] ys h k = k
-Each-append P (x ∷ xs) ys h k = (h.0, Each-append P xs ys h.1 k)
 
 -- a word of a text: it isn't empty, and has neither a blank nor a line's end nor a comment mark
 abbrev pub IsByte : ℕ → Type 0

@@ -5,6 +5,7 @@ use Rattle.nef_script.specs.declared.script.ScriptKind.TheVariants.{ScriptTooLon
 use Rattle.nef_statement.specs.Status.{EndsByItself}
 use Rattle.nef_statement.proofs.Grown.{grows_within-all, grows_within-none}
 use Rattle.nef_statement.proofs.One.{said-one}
+use Rattle.nef_core.proofs.Facts.{none-not_some}
 
 -- ---- what words choose
 pub some-one : {X : Type 0} (o : Option X) (x y : X) → o ≡ Some x → o ≡ Some y → x ≡ y
@@ -22,9 +23,6 @@ read-not_refused words out source = let e : None ≡ Some None = sym (ap (option
 
 chosen-not_refused : (words : List (List ℕ)) (o : Options) → options_in words ≡ None → options_in words ≡ Some o → ⊥
 chosen-not_refused words o out is = let e : None ≡ Some o = sym out ∙ is in cc
-
-none-not_some : (s : Option ℕ) (n : ℕ) → s ≡ None → s ≡ Some n → ⊥
-none-not_some s n e f = let g : None ≡ Some n = sym e ∙ f in cc
 
 -- ---- the bytes of a source that tells them
 -- it had bytes, and these were taken to its end

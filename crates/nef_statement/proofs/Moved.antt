@@ -1,9 +1,11 @@
 -- Answers about points, directions and sets that are the same.
-use Rattle.nef_statement.proofs.Prelude.{ℕ, Bool, true, false, List, [], ◌∷◌, inl, inr, ⊎_elim, HasLabel, IsEven, IsEvenPath, Joined, Germ, SameSet, SpacePoint, SamePoint, InFrame, toward, Set, Vector, SameDirection, Label, In, between-same, carriers, Joined-same, cones-of_same, Label-cells, signs-same, same-point_sym, Germ-same, dim-same, same-itself, same-point_trans, point_of, IsRayEnd, Changes, IsSameAnswer, IsJoinedAnswer, IsRayAnswer, SameDirection-turned, SameDirection-trans, direction-left}
+use Rattle.nef_statement.proofs.Prelude.{ℕ, Bool, true, false, List, [], ◌∷◌, inl, inr, ⊎_elim, IsEven, IsEvenPath, Joined, Germ, SameSet, SpacePoint, SamePoint, InFrame, toward, Set, Vector, SameDirection, Label, In, between-same, Joined-same, cones-of_same, same-point_sym, Germ-same, same-point_trans, point_of, IsRayEnd, Changes, IsSameAnswer, IsJoinedAnswer, IsRayAnswer, SameDirection-turned, SameDirection-trans, direction-left}
 use Rattle.nef_space.specs.Sets.{Holds}
 use Rattle.nef_conn.proofs.Leaves.{toward-same}
-use Rattle.nef_statement.proofs.Alike.{same-turned, same-trans}
 use Rattle.nef_unique.proofs.Sets.{label-moved}
+use Rattle.law_near.proofs.SameSets.{same-turned, same-trans}
+use Rattle.law_near.proofs.Same.{dim-same}
+use Rattle.nef_space.proofs.Elementary.{same-itself}
 
 full-holds : (p : SpacePoint) → Holds Set.full p
 unfolding Holds

@@ -1,8 +1,8 @@
 -- The names that most proofs cite, passed on from one place. Declares nothing.
 pub use Rattle.nef_geo.proofs.Prelude.{IsStretched, IsZeroStep, ◌&&◌}
-pub use Rattle.nef_conn.proofs.Prelude.{between-way, dim-same, is-at_first, is-at_none}
+pub use Rattle.nef_conn.proofs.Prelude.{between-way, is-at_first, is-at_none}
 pub use Rattle.nef_smap.proofs.Prelude.{Minus, Plus, Zero}
-pub use Rattle.nef_ray.proofs.Prelude.{Changes, Complex, Decided, Germ-same, HasOppositeSigns, IsCrossing, IsRayEnd, IsReachedBy, Label-cells, ahead-back, ahead-same, between-same, between-turned, direction-left, label-one, label_of, near-same, one-crossing, opposite, plane-point, plane-slope, plane-turned, reach_all, same-itself, same-point_sym, sign-toward, signs-same, slope-same, start, start-between, start-close, within-self}
+pub use Rattle.nef_ray.proofs.Prelude.{Changes, Complex, Decided, Germ-same, HasOppositeSigns, IsCrossing, IsRayEnd, IsReachedBy, Label-cells, ahead-back, ahead-same, between-same, between-turned, direction-left, label-one, label_of, near-same, one-crossing, opposite, plane-point, plane-slope, plane-turned, reach_all, same-point_sym, sign-toward, signs-same, slope-same, start, start-between, start-close, within-self}
 pub use Rattle.law_turns.proofs.Prelude.{Closure, Interior, ordered}
 pub use Rattle.nef_expr.proofs.Prelude.{AreWithOperands, InHalf, IsComposition, IsMarked, IsOrdered, IsTrue, IsTurnedNode, OperandsTurned, Oriented, Shape, node_set, set_of, sets_after, sign_of, slice_index}
 pub use Rattle.law_text.proofs.Prelude.{All, Arc, Belongs, Bool, Corner, Cycle, Dir, Edges, Facet, FlatDim-by_cone, Form, Germ, HasLabel, Holds, In, InFrame, IsAt, IsCorner, IsDirection, IsEdgePoint, IsFacetPoint, IsNormal, IsOnEdges, IsParts, IsSkeletonPoint, IsSpot, Item, Label, Lies, List, MapSloop, MapVertex, NearLabel, None, Not, One, Option, Out, Parts, Plane, Point, SArc, SLoop, SVertex, SameDirection, SameDirection-trans, SameDirection-turned, SamePoint, SameSet, Set, Shell, Shows, Some, SpacePoint, Spells, Spot, SpotMark, TextVersion, Towards, Two, Vector, Vertex, Word, [], ap, append_assoc, arc_line, arc_of, arith, at, is-at_one, at_vertex, carriers, complex_of, cond, cones-of_same, corner_words, counts, cycle_line, decimal, digit_glyph, digits_onto, dir-self, dir_of, direction_limit, edge_line, edge_of, faced_text, facet-of, facet_line, facet_text, false, first_line, flat_map, form_at, form_of, get_or, in_facet, inl, inr, ints, label_word, length, length-map, line, map, mul_pos, nat_abs, nat_eq, neg, neg_ℤ, negsuc, normal_of, num, numbers, off_skeleton, offset_limit, on_edge, on_skeleton, option_word, point_limit, point_of, pos, refl, ring, same_points_equal, set-vertices, sface_line, shell_line, shelled_text, side_words, sign, signed_decimal, slice_get, sloop_line, sloop_of, slope, subst, suc, svertex_line, svertex_of, sym, text, toward, true, vector, version_word, vertex_line, vertex_of, vertex_text, vertices_text, volume_line, volumes_text, weight_limit, with_rows, zero, ℕ, ℤ, ⊎_elim, ◌%◌, ◌*ℤ◌, ◌*◌, ◌++◌, ◌+ℤ◌, ◌+◌, ◌/◌, ◌<ℤ◌, ◌<◌, ◌==◌, ◌^◌, ◌↔◌, ◌∙◌, ◌∷◌, ◌≡◌, ◌≤◌, ◌⊎◌, ◌⊕◌, ◌⊗◌}

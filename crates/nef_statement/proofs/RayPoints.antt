@@ -1,5 +1,5 @@
 -- A ray of a script has an answer: its end is a point of the program.
-use Rattle.nef_statement.proofs.Prelude.{◌≡◌, ℕ, ◌*◌, ◌^◌, ℤ, pos, ◌+ℤ◌, ◌*ℤ◌, ◌<ℤ◌, neg_ℤ, nat_abs, arith, refl, sym, ap, ◌∙◌, inl, inr, ⊎_elim, List, [], ◌∷◌, Bool, true, false, ints, mul_pos, pos-abs, ring, at, num, neg, ◌⊕◌, ◌⊗◌, normal_limit, ray_direction_limit, ray_point_limit, ray_weight_limit, HasLabel, SpacePoint, Form, form_at, slope, normal_of, SamePoint, toward, InFrame, Set, sign, Lies, Vector, opposite, IsDirection, SameDirection, IsAtMost, Label, Out, IsCrossing, IsPointAtMost, IsReachedBy, form_of, point_at, point_of, HasOppositeSigns, IsZeroStep, Plane, Point, dot_size, normal_within, carriers, between-turned, InFrame-decided, start, start-close, start-between, sign-toward, near-same, label-one, Label-cells, between-same, reach_all, within-self, slope-same, same-point_sym, Germ-same, SamePlane, ahead-back, ahead-same, plane-turned, plane-point, plane-slope, same-itself, same-point_trans, one-crossing, between-way, IsRayEnd, Changes, point-with, answer_of, end_line, IsRayAnswer, SameDirection-turned, SameDirection-trans, dir-self, direction-left}
+use Rattle.nef_statement.proofs.Prelude.{◌≡◌, ℕ, ◌*◌, ◌^◌, ℤ, pos, ◌+ℤ◌, ◌*ℤ◌, ◌<ℤ◌, neg_ℤ, nat_abs, arith, refl, sym, ap, ◌∙◌, inl, inr, ⊎_elim, List, [], ◌∷◌, Bool, true, false, ints, mul_pos, pos-abs, ring, at, num, neg, ◌⊕◌, ◌⊗◌, normal_limit, ray_direction_limit, ray_point_limit, ray_weight_limit, HasLabel, SpacePoint, Form, form_at, slope, normal_of, SamePoint, toward, InFrame, Set, sign, Lies, Vector, opposite, IsDirection, SameDirection, IsAtMost, Label, Out, IsCrossing, IsPointAtMost, IsReachedBy, form_of, point_at, point_of, HasOppositeSigns, IsZeroStep, Plane, Point, dot_size, normal_within, carriers, between-turned, InFrame-decided, start, start-close, start-between, sign-toward, near-same, label-one, Label-cells, between-same, reach_all, within-self, slope-same, same-point_sym, Germ-same, SamePlane, ahead-back, ahead-same, plane-turned, plane-point, plane-slope, same-point_trans, one-crossing, between-way, IsRayEnd, Changes, point-with, answer_of, end_line, IsRayAnswer, SameDirection-turned, SameDirection-trans, dir-self, direction-left}
 use Rattle.nef_geo.proofs.Crossings.{IsCrossing-reached, opposite-crossing}
 use Rattle.nef_geo.proofs.Rays.{reached_within}
 use Rattle.nef_geo.proofs.Sizes.{form_size}
@@ -7,6 +7,7 @@ use Rattle.nef_ray.proofs.Along.{crossing-or, level-label, CarriersHoldRay}
 use Rattle.nef_ray.proofs.SomeEnd.{some-end}
 use Rattle.law_complex.proofs.Spans.{opposite-level}
 use Rattle.nef_unique.proofs.Sets.{label-moved}
+use Rattle.nef_space.proofs.Elementary.{same-itself}
 
 -- the step to where a form with the opposite sign of its slope is zero
 zero-step : (v g : ℤ) → HasOppositeSigns v g → IsZeroStep v g (pos (nat_abs v)) (pos (nat_abs g))

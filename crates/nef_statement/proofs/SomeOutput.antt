@@ -8,11 +8,11 @@ use Rattle.law_text.proofs.existence.Scripts.{turns-half, turns-both, turns-turn
 use Rattle.nef_script.specs.declared.arguments.Verb.TheVariants as verb
 use Rattle.nef_script.specs.declared.script.ScriptKind.TheVariants as kind
 use Rattle.nef_script.proofs.Values.{zero-are}
-use Rattle.nef_statement.proofs.Alike.{same-self}
 use Rattle.nef_statement.proofs.Bound.{names_in, names-push}
 use Rattle.nef_statement.proofs.RayPoints.{ray-answer}
 use Rattle.nef_statement.proofs.Texts.{one-text}
 use Rattle.nef_statement.proofs.Turning.{set-same}
+use Rattle.law_near.proofs.SameSets.{same-self}
 
 -- ---- tests that don't hold
 abbrev pub refusal_in : List (ScriptKind × Bool) → Option ScriptKind

@@ -1,11 +1,11 @@
 -- The statement, and the laws beside it.
 use Rattle.nef_statement.proofs.Prelude.{◌≡◌, ℕ, ap, ◌∙◌, List, [], ◌++◌, take, TextVersion, Set, lines_of, IsAccepted, AreSaid, OneOutput, FirstLinesSay, OneMeaning, AsMeant, SameOutput, SameStatus, Statement, IsText}
-use Rattle.nef_statement.proofs.Alike.{same-self}
 use Rattle.nef_statement.proofs.Meant.{ends-so}
 use Rattle.nef_statement.proofs.One.{said-one, first-said}
 use Rattle.nef_statement.proofs.Runs.{one-meaning, as-meant, same-output, same-status}
 use Rattle.nef_statement.proofs.SomeOutput.{some-output}
 use Rattle.nef_statement.proofs.Texts.{text-says, one-text}
+use Rattle.law_near.proofs.SameSets.{same-self}
 
 text-one : (version : TextVersion) (s : Set) (x y : List ℕ) → IsText version s x → IsText version s y → x ≡ y
 text-one version s x y h k = (one-text version s s x y h k).1 (same-self s)

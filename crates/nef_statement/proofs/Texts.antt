@@ -8,8 +8,8 @@ use Rattle.nef_statement.proofs.Edged.{sorted-edges, belongs-edged}
 use Rattle.nef_complex.specs.declared.complex.Vertex.{Vertex as ComplexVertex}
 use Rattle.law_text.proofs.existence.Shown.{shown-maps}
 use Rattle.nef_volumes.proofs.Components.{shown-counted}
-use Rattle.nef_statement.proofs.Alike.{same-alike, same-turned, same-trans}
 use Rattle.nef_statement.proofs.Told.{HasWeights, vertices-told, weights-told}
+use Rattle.law_near.proofs.SameSets.{same-alike, same-turned, same-trans}
 
 -- the texts of two sets are equal exactly where the sets are one
 pub same-texts : (version : TextVersion) (s t : Set) (x y : List ℕ) → IsWrittenOf s (text version) x → IsWrittenOf t (text version) y → (x ≡ y) ↔ SameSet s t

@@ -8,7 +8,6 @@ pub use Rattle.nef_spair.proofs.Prelude.{Arc, BeginsAnywhere, Bool, ByOp, Cone, 
 pub use Rattle.std.proofs.Common.{add-one, append_assoc}
 pub use Rattle.std.proofs.lemmas.List.{append-nil, drop_all, get_or-map, get_or_default, length_push, take_all}
 pub use Rattle.law_sphere.proofs.border.Cones.{topology-cone}
-pub use Rattle.nef_spair.proofs.Places.{at-all}
 pub use Rattle.nef_stopo.specs.Labels.{nearby_of, topology_of}
 pub use Rattle.nef_stopo.specs.Stars.{AreRaysMarked, AreRemarked, IsRayMarked}
-pub use Rattle.nef_space.proofs.Lists.{is-at_more}
+pub use Rattle.nef_space.proofs.Lists.{is-at_more, all-of}

@@ -1,5 +1,5 @@
 -- The raw stars of a map with what its labels become, and the map that is built of them.
-use Rattle.nef_stopo.proofs.Prelude.{◌≡◌, ℕ, List, length, map, Option, Some, None, Result, Ok, Err, IfOk, refl, sym, ap, subst, ◌∙◌, length-map, option_map, normal_limit, SpacePoint, Set, Vector, IsDirection, IsAtMost, Label, vector_of, IsAt, MapVertex, MapSloop, MapLabel, sloop_item, forms, Cone, at-sloop, IsLabelling, IsRawOf, Topology, set_by, IsTopologyMap, MarkLabel, label_from, face_label, sloop_by, map_labels, IsRemarkedAt, IsTopologyRaw, at-other, topology-cone, Star, star_of, IsStar, SLoop, SphereMap, RawStars, svertex_of, sloop_of, map_of, raw_of, IsSphereMap, IsLeastMap, IsRawStars, is-at_map, at-all, AreRemarked}
+use Rattle.nef_stopo.proofs.Prelude.{◌≡◌, ℕ, List, length, map, Option, Some, None, Result, Ok, Err, IfOk, refl, sym, ap, subst, ◌∙◌, length-map, option_map, normal_limit, SpacePoint, Set, Vector, IsDirection, IsAtMost, Label, vector_of, IsAt, MapVertex, MapSloop, MapLabel, sloop_item, forms, Cone, at-sloop, IsLabelling, IsRawOf, Topology, set_by, IsTopologyMap, MarkLabel, label_from, face_label, sloop_by, map_labels, IsRemarkedAt, IsTopologyRaw, at-other, topology-cone, Star, star_of, IsStar, SLoop, SphereMap, RawStars, svertex_of, sloop_of, map_of, raw_of, IsSphereMap, IsLeastMap, IsRawStars, is-at_map, all-of, AreRemarked}
 use Rattle.law_sphere.specs.Stars.{Star as PlainStar}
 use Rattle.law_sphere.proofs.border.RawTopology.{topology-stars}
 use Rattle.law_sphere.proofs.border.MarkMade.{topology-mark}
@@ -28,7 +28,7 @@ module _ (k : Topology) (m : SphereMap) (S : IsSphereMap m) (r : RawStars) (mark
       subst (IsAtMost normal_limit) (sym c.2) (S.small.normals i.0 (sloop_item (sloop_of c.0)) i.1)
 
   pub raw-stars : IsRawStars r
-  raw-stars = record { stars = at-all IsStar r.stars is-star; circle_small = circle-small }
+  raw-stars = record { stars = all-of IsStar r.stars is-star; circle_small = circle-small }
 
   star-remarked : (i : ℕ) (v : MapVertex) (u : PlainStar) → IsAt (map svertex_of m.svertices) i v → IsAt (map star_of r.stars) i u → IsRemarkedAt k (map_of m) v.dir u
   star-remarked i v u a b =

@@ -1,10 +1,7 @@
 -- Lists of images, made one after the other.
 use Rattle.nef_turn.proofs.Prelude.{◌≡◌, ℕ, ◌+◌, ◌<◌, ◌≤◌, List, [], ◌∷◌, ◌++◌, length, get_or, arith, refl, sym, ap, subst, ◌∙◌, ⊎_elim, IsAt, is-at_one, is-at_within, is-at_more, is-at_read, AreImages, is-at_none}
 use Rattle.nef_smap.proofs.SideLists.{is-at_some as at-length}
-
-length-more : {A : Type 0} (xs : List A) (x : A) → length (xs ++ x ∷ []) ≡ length xs + 1
-length-more [] x = refl
-length-more (y ∷ ys) x = let e = length-more ys x in omega (arith, e)
+use Rattle.std.proofs.lemmas.List.{length_push}
 
 module _ {A B : Type 0} (R : ℕ → A → B → Type 0) (xs : List A) where
   pub images-none : AreImages R 0 xs []
@@ -12,7 +9,7 @@ module _ {A B : Type 0} (R : ℕ → A → B → Type 0) (xs : List A) where
 
   pub images-more : (n : ℕ) (ys : List B) (x : A) (y : B) → AreImages R n xs ys → IsAt xs n x → R n x y → AreImages R (n + 1) xs (ys ++ y ∷ [])
   images-more n ys x y I a r = record {
-    count = length-more ys y ∙ ap (λ m. m + 1) I.count;
+    count = length_push ys y ∙ ap (λ m. m + 1) I.count;
     each = λ j z b. ⊎_elim (λ c. I.each j z c)
         (λ (e, f). (x, subst (λ m. IsAt xs m x) (sym (e ∙ I.count)) a, subst (λ m. R m x z) (sym (e ∙ I.count)) (subst (λ (w : B). R n x w) f r)))
         (is-at_more ys y j z b);

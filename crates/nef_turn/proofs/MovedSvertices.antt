@@ -1,5 +1,5 @@
 -- Turned svertices, sorted, and their new numbers.
-use Rattle.nef_turn.proofs.Prelude.{◌≡◌, ℕ, ◌+◌, ◌<◌, ◌≤◌, List, length, map, get_or, set, arith, ap, sym, ◌∙◌, subst, ⊎_elim, length-set, eq-or-lt_of_le, length-map, get_or-set_same, get_or-set_other, length_permutation, IsPermutation, vector_of, IsAt, MapVertex, Shaped, InOrder, is-at_one, is-at_map, map-is_at, svertex_of, map_of, SVertex, SphereMap, is-at_within, is-at_is, dir-equal, is-at_read, was-listed, still-listed, turned_vector, turned_svertex, image-number, Moved, AreImages, AreApart, IsMoved, IsMovedBelow, HaveSameWay, HaveSameNumber, AreMoved, AreOldNumbers, AreNewNumbers, svertex_in, IsOfMoved, Renumbers, number_in}
+use Rattle.nef_turn.proofs.Prelude.{◌≡◌, ℕ, ◌+◌, ◌<◌, ◌≤◌, List, length, map, get_or, set, arith, ap, sym, ◌∙◌, subst, ⊎_elim, length-set, eq-or-lt_of_le, length-map, get_or-set_same, get_or-set_other, length_permutation, IsPermutation, vector_of, IsAt, MapVertex, Shaped, InOrder, is-at_one, is-at_map, map-is_at, svertex_of, map_of, SVertex, SphereMap, is-at_within, is-at_is, same-dirs, is-at_read, was-listed, still-listed, turned_vector, turned_svertex, image-number, Moved, AreImages, AreApart, IsMoved, IsMovedBelow, HaveSameWay, HaveSameNumber, AreMoved, AreOldNumbers, AreNewNumbers, svertex_in, IsOfMoved, Renumbers, number_in}
 use Rattle.nef_turn.proofs.Images.{images-all}
 use Rattle.nef_turn.proofs.Orders.{moved-apart}
 
@@ -35,7 +35,7 @@ module _ (k : ℕ) (m : SphereMap) (V : Shaped (map_of m)) (us : List Moved) (I 
           let (x, d, s) = from j w b in
           let one = is-at_one m.svertices w.old v x (subst (λ (n : ℕ). IsAt m.svertices n v) e c) d in
           moved-apart us ts moved images-apart i j u w a b
-          (dir-equal u.svertex.dir w.svertex.dir (way-of k u v q ∙ ap (λ (y : SVertex). turned_vector k (vector_of y.dir)) one ∙ sym (way-of k w x s)));
+          (same-dirs u.svertex.dir w.svertex.dir (way-of k u v q ∙ ap (λ (y : SVertex). turned_vector k (vector_of y.dir)) one ∙ sym (way-of k w x s)));
       ordered = o;
     }
 

@@ -1,5 +1,5 @@
 -- `==` on what a map holds says whether it is equal.
-use Rattle.nef_unique.proofs.Prelude.{◌≡◌, refl, ap, sym, ◌∙◌, Bool, true, false, Option, Some, None, List, Decides, Decides-and, Decides-like, Decides-int_eq, Decides-eqb, vector, Label, Out, Not, In, Dir, Point, same_points_equal, SVertex, SArc, SLoop}
+use Rattle.nef_unique.proofs.Prelude.{◌≡◌, refl, ap, sym, ◌∙◌, Bool, true, false, Option, Some, None, List, Decides, Decides-and, Decides-like, Decides-int_eq, Decides-eqb, vector, Label, Out, Not, In, Dir, Point, SVertex, SArc, SLoop}
 use Rattle.std.specs.Option.{option_eq}
 use Rattle.std.specs.Cmp.Lexicographic.{pointwise}
 use Rattle.std.proofs.lemmas.Slice.Eq.{slice_eq-Decides}
@@ -8,9 +8,9 @@ use Rattle.nef_geo.specs.contracts.dir.DirPartialEq.TheImpl.{eq-value as dir_eq}
 use Rattle.nef_smap.specs.contracts.map.SVertexPartialEq.TheImpl.{eq-value as svertex_eq}
 use Rattle.nef_smap.specs.contracts.map.SArcPartialEq.TheImpl.{eq-value as arc_eq}
 use Rattle.nef_smap.specs.contracts.map.SLoopPartialEq.TheImpl.{eq-value as sloop_eq}
-use Rattle.nef_smap.proofs.WellFormed.{dir-equal}
 use Rattle.nef_complex.proofs.SamePoints.{point_test, point-one}
 use Rattle.nef_unique.proofs.Injective.{svertex-equal, arc-equal, sloop-equal}
+use Rattle.nef_star.proofs.RoundStars.{same-dirs}
 
 -- the test says whether two values are equal
 abbrev pub IsTest : (A : Type 0) → (A → A → Bool) → Type 0
@@ -53,7 +53,7 @@ dir_test = dir_eq.it
 pub dir-decides : IsTest Dir dir_test
 dir-decides d e =
     Decides-like (dir_test d e)
-    (λ h. dir-equal d e (ap (λ r. vector r d.y d.z) h.0 ∙ ap (λ r. vector e.x r d.z) h.1.0 ∙ ap (λ r. vector e.x e.y r) h.1.1))
+    (λ h. same-dirs d e (ap (λ r. vector r d.y d.z) h.0 ∙ ap (λ r. vector e.x r d.z) h.1.0 ∙ ap (λ r. vector e.x e.y r) h.1.1))
     (λ h. (ap (λ (r : Dir). r.x) h, (ap (λ (r : Dir). r.y) h, ap (λ (r : Dir). r.z) h)))
     (Decides-and _ _ (Decides-int_eq d.x e.x) (Decides-and _ _ (Decides-int_eq d.y e.y) (Decides-int_eq d.z e.z)))
 

@@ -2,7 +2,7 @@
 use Rattle.nef_unique.proofs.Prelude.{◌≡◌, ℕ, ◌<◌, ◌^◌, refl, ap, ◌∙◌, List, [], ◌∷◌, map, subst, Option, Some, None, option_map, Label, Dir, MapVertex, Arc, MapSloop, Map, svertex_of, arc_of, sloop_of, map_of, SVertex, SArc, SLoop, SphereMap, Edge as PlainEdge, Vertex, edge_of}
 use Rattle.std.proofs.Props.{props}
 use Rattle.nef_index.specs.declared.skeleton.Edge.{Edge}
-use Rattle.nef_smap.proofs.WellFormed.{dir-equal}
+use Rattle.nef_star.proofs.RoundStars.{same-dirs}
 
 -- ---- lists and options
 pub map-one : {A B : Type 0} (f : A → B) → ((x y : A) → f x ≡ f y → x ≡ y) → (xs ys : List A) → map f xs ≡ map f ys → xs ≡ ys
@@ -68,15 +68,15 @@ map-equal m n a b c d e =
 
 -- ---- by what they stand for
 svertex-one : (v u : SVertex) → svertex_of v ≡ svertex_of u → v ≡ u
-svertex-one v u e = svertex-equal v u (dir-equal v.dir u.dir (ap (λ (r : MapVertex). r.dir) e)) (ap (λ (r : MapVertex). r.mark) e) (ap (λ (r : MapVertex). r.around) e)
+svertex-one v u e = svertex-equal v u (same-dirs v.dir u.dir (ap (λ (r : MapVertex). r.dir) e)) (ap (λ (r : MapVertex). r.mark) e) (ap (λ (r : MapVertex). r.around) e)
 
 arc-one : (a b : SArc) → arc_of a ≡ arc_of b → a ≡ b
 arc-one a b e =
-    arc-equal a b (ap (λ (r : Arc). r.source) e) (ap (λ (r : Arc). r.target) e) (dir-equal a.normal b.normal (ap (λ (r : Arc). r.normal) e))
+    arc-equal a b (ap (λ (r : Arc). r.source) e) (ap (λ (r : Arc). r.target) e) (same-dirs a.normal b.normal (ap (λ (r : Arc). r.normal) e))
     (ap (λ (r : Arc). r.mark) e) (ap (λ (r : Arc). r.pos) e) (ap (λ (r : Arc). r.neg) e)
 
 sloop-one : (l k : SLoop) → sloop_of l ≡ sloop_of k → l ≡ k
-sloop-one l k e = sloop-equal l k (dir-equal l.normal k.normal (ap (λ (r : MapSloop). r.normal) e)) (ap (λ (r : MapSloop). r.mark) e) (ap (λ (r : MapSloop). r.pos) e) (ap (λ (r : MapSloop). r.neg) e)
+sloop-one l k e = sloop-equal l k (same-dirs l.normal k.normal (ap (λ (r : MapSloop). r.normal) e)) (ap (λ (r : MapSloop). r.mark) e) (ap (λ (r : MapSloop). r.pos) e) (ap (λ (r : MapSloop). r.neg) e)
 
 pub map_of-one : (m n : SphereMap) → map_of m ≡ map_of n → m ≡ n
 map_of-one m n e =

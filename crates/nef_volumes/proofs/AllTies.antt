@@ -2,6 +2,7 @@
 use Rattle.nef_volumes.proofs.Prelude.{◌≡◌, ℕ, ◌⊎◌, inl, inr, List, ◌++◌, refl, ◌∙◌, subst, ◌↔◌, Contains, Contains-append_left, Contains-append_right, Set, opposite, up, IsAt, Side, around_svertex, pos_item, neg_item, Sees, is-at_one, chain-trans, chain-turned, Vertex, Edge, Complex, Corner, Shows, VertexSide, RayDown, AreTied, Tie, FacetLink, IsSideOf, LinkInSface, AreSidesAlong, pos_arcs, neg_arcs, around_ends, LinkAcrossFacet, LinkDown, LinkOutside, VolumeLink, ShellLink, cell_of, outside_cell, IsCellOf, IsEndOf, AreLinks, AreTiedSides, AreTiesOf, AreTiesWithOutside, AreTiedOutside, AreTiesDown, AreVolumeTies, LinkOfItems, LinkOfEnds, LinkOfFacets, AreTiedCorners, AreItemTies}
 use Rattle.nef_volumes.proofs.SideCells.{tie-chain, more-tied, more-sides, both-links, links-as, one-cell}
 use Rattle.nef_volumes.proofs.BelowTies.{linked, one-below}
+use Rattle.nef_volumes.proofs.FacetSides.{moved}
 
 -- lists of ties of two links together
 pub either-tied : (C : Complex) (Link Other : VertexSide → VertexSide → Type 0) (ts us : List Tie) → AreTiesOf C Link ts → AreTiesOf C Other us → AreTiesOf C (λ x y. Link x y ⊎ Other x y) (ts ++ us)
@@ -20,8 +21,6 @@ ties-as C Link Other ts f g A = record { only = links-as C (IsCellOf C) (IsCellO
 
 module _ (C : Complex) where
   -- ---- links of items and of ends are links along edges and across facets
-  at-low : (x : VertexSide) (i j : ℕ) (o : Side) → i ≡ j → IsSideOf C x i o → IsSideOf C x j o
-  at-low x i j o e (l, f, g, h) = (l, f ∙ e, g, h)
 
   as-side : (x : VertexSide) (i : ℕ) (o p : Side) → o ≡ p → IsSideOf C x i o → IsSideOf C x i p
   as-side x i o p e (l, f, g, h) = (l, f, g ∙ e, h)
@@ -33,8 +32,8 @@ module _ (C : Complex) where
     is_edge = A.is_edge;
     low_side = pos_item j.item;
     high_side = pos_item k.item;
-    is_low = at-low x j.vertex A.edge.low (pos_item j.item) A.from_low f;
-    is_high = at-low y k.vertex A.edge.high (pos_item k.item) A.to_high g;
+    is_low = moved C x j.vertex A.edge.low (pos_item j.item) A.from_low f;
+    is_high = moved C y k.vertex A.edge.high (pos_item k.item) A.to_high g;
     along = pos_arcs j.item k.item A.along refl refl;
   }))
   of-items x y (j, k, inl A, inr (f, g)) = inr (inl (record {
@@ -43,8 +42,8 @@ module _ (C : Complex) where
     is_edge = A.is_edge;
     low_side = neg_item j.item;
     high_side = neg_item k.item;
-    is_low = at-low x j.vertex A.edge.low (neg_item j.item) A.from_low f;
-    is_high = at-low y k.vertex A.edge.high (neg_item k.item) A.to_high g;
+    is_low = moved C x j.vertex A.edge.low (neg_item j.item) A.from_low f;
+    is_high = moved C y k.vertex A.edge.high (neg_item k.item) A.to_high g;
     along = neg_arcs j.item k.item A.along refl refl;
   }))
   of-items x y (j, k, inr A, h) = inr (inr (record { here = j; there = k; across = A; sides = h }))

@@ -1,10 +1,12 @@
 -- The side above the point where a ray down ends is one, up to its sface.
-use Rattle.nef_volumes.proofs.Prelude.{◌≡◌, ℕ, ◌+◌, pos, ◌⊎◌, inl, inr, [], ◌∷◌, arith, ap, sym, ◌∙◌, subst, ints, ring, at, num, ◌⊕◌, ◌⊖◌, ◌⊗◌, SpacePoint, Form, form_at, normal_of, SamePoint, toward, IsBetween, Set, Vector, IsDirection, SameDirection, dot, cross, opposite, blend, plane_axis, up, Label, same-point_sym, between-same, IsAt, item_normal, pos_item, Side, dir_of, HasSide, Sees, InOneSface, here, link, BoundsSector, normals-same, on-level, normal-is, is-at_one, bounds-sees, Vertex, Edge, Complex, Corner, Shows, item_plane, IsVertexPoint, IsEdgePoint, Spot, at_vertex, on_edge, in_facet, IsSpot, HasCorner, VertexSide, HasSideLabel, IsAbove, RayDown, same-itself, same-point_trans, facet-point, through-at, through-level, axis-in, LinkInSface, through-same, corner-same as corner-like, level-of_opposite, one-vertex, one-named, SameDirection-turned, SameDirection-trans, opposite-same}
+use Rattle.nef_volumes.proofs.Prelude.{◌≡◌, ℕ, ◌+◌, pos, ◌⊎◌, inl, inr, arith, ap, sym, ◌∙◌, subst, SpacePoint, Form, form_at, normal_of, SamePoint, toward, IsBetween, Set, Vector, IsDirection, SameDirection, dot, cross, opposite, blend, plane_axis, up, Label, same-point_sym, between-same, IsAt, item_normal, pos_item, Side, dir_of, HasSide, Sees, InOneSface, here, link, BoundsSector, normals-same, on-level, normal-is, is-at_one, bounds-sees, Vertex, Edge, Complex, Corner, Shows, item_plane, IsVertexPoint, IsEdgePoint, Spot, at_vertex, on_edge, in_facet, IsSpot, HasCorner, VertexSide, HasSideLabel, IsAbove, RayDown, same-point_trans, facet-point, through-at, through-level, axis-in, LinkInSface, through-same, corner-same as corner-like, level-of_opposite, one-vertex, one-named, SameDirection-turned, SameDirection-trans}
 use Rattle.law_sphere.proofs.cones.Smooth.{parallel-by}
 use Rattle.nef_conn.proofs.WayInward.{names-same}
 use Rattle.nef_locate.proofs.SameAxis.{axis-same}
 use Rattle.nef_conn.proofs.OneNamed.{one-edge_through, edge-inside}
 use Rattle.nef_conn.proofs.SameRay.{on-ray}
+use Rattle.nef_space.proofs.Vectors.{square-cross, direction-opposite}
+use Rattle.nef_space.proofs.Elementary.{same-itself}
 
 module _ (s : Set) (C : Complex) (S : Shows s C) where
   -- ---- links in one sface
@@ -89,10 +91,7 @@ module _ (s : Set) (C : Complex) (S : Shows s C) where
         let d = plane_axis (item_normal H.item) in
         normals-same (item_normal H.item) (item_normal K.item) ((S.cones H.beside.vertex H.vertex H.is_beside.vertex).valid.shaped.normals H.beside.item H.item H.is_beside.item)
         ((S.cones K.beside.vertex K.vertex K.is_beside.vertex).valid.shaped.normals K.beside.item K.item K.is_beside.item)
-        (parallel-by (item_normal H.item) d (item_normal K.item) axis.0 axis.1 (level-too d axis.1) (level-too (cross (item_normal H.item) d) (across (item_normal H.item) d)))
-      where
-        across : (a d : Vector) → dot a (cross a d) ≡ pos 0
-        across a d = ring (a.x ∷ a.y ∷ a.z ∷ d.x ∷ d.y ∷ d.z ∷ []) (at 0 ⊗ (at 1 ⊗ at 5 ⊖ at 2 ⊗ at 4) ⊕ at 1 ⊗ (at 2 ⊗ at 3 ⊖ at 0 ⊗ at 5) ⊕ at 2 ⊗ (at 0 ⊗ at 4 ⊖ at 1 ⊗ at 3)) (num (pos 0)) tt
+        (parallel-by (item_normal H.item) d (item_normal K.item) axis.0 axis.1 (level-too d axis.1) (level-too (cross (item_normal H.item) d) (square-cross (item_normal H.item) d)))
 
     abbrev g : Form
     g = item_plane H.vertex H.item
@@ -120,11 +119,8 @@ module _ (s : Set) (C : Complex) (S : Shows s C) where
         let axis = axis-in (item_normal H.item) some-n in
         let r = K.named in
         let level = (through-level (item_normal H.item) (opposite d) H.vertex.point).0 (level-of_opposite (item_normal H.item) d axis.1) in
-        one-named s C S g z d (away d axis.0) level j k H.named
+        one-named s C S g z d (direction-opposite d axis.0) level j k H.named
         (names-same C h g z on-h on-g planes f d axes k r)
-      where
-        away : (d : Vector) → IsDirection d → IsDirection (opposite d)
-        away d i z = i (let x = z.0 in let y = z.1 in let w = z.2 in (omega (arith, ints), omega (arith, ints), omega (arith, ints)))
 
   -- ---- sides above one point are of one sface
   module _ (x y : VertexSide) (l m : Label) (has : HasSideLabel C x l) (has_other : HasSideLabel C y m) where

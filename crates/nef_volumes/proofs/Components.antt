@@ -1,5 +1,5 @@
 -- Points at items are joined exactly where the items have one facet number, and points at sides where the sides have one volume number; so facets and volumes are the components of the points with two flat directions and with three.
-use Rattle.nef_volumes.proofs.Prelude.{◌≡◌, ◌↔◌, ℕ, ◌<◌, inr, List, length, arith, subst, length-map, FlatDim, Joined, SpacePoint, Set, Label, Item, items, is-at_within, is-at_some, side-has, Vertex, Complex as PlainComplex, Corner, IsCorner, VertexSide, HasSideLabel, Shows, same-itself, vertex_of, edge_of, complex_of, IsAtItem, IsAtSide, IsUpright, sides-have_points, sides-joined, HasComponents, IsFacetOf, IsVolumeOf, FacetNumbers, IsParts, Parts, FacetsAreComponents, VolumesAreComponents, AreCounted, HasItem}
+use Rattle.nef_volumes.proofs.Prelude.{◌≡◌, ◌↔◌, ℕ, ◌<◌, inr, List, length, arith, subst, length-map, FlatDim, Joined, SpacePoint, Set, Label, Item, items, is-at_within, is-at_some, side-has, Vertex, Complex as PlainComplex, Corner, IsCorner, VertexSide, HasSideLabel, Shows, vertex_of, edge_of, complex_of, IsAtItem, IsAtSide, IsUpright, sides-have_points, sides-joined, HasComponents, IsFacetOf, IsVolumeOf, FacetNumbers, IsParts, Parts, FacetsAreComponents, VolumesAreComponents, AreCounted, HasItem}
 use Rattle.nef_complex.specs.declared.complex.Complex.{Complex}
 use Rattle.law_complex.proofs.links.ItemLinks.{items-joined}
 use Rattle.law_complex.proofs.links.ItemPoints.{items-have_points}
@@ -10,6 +10,7 @@ use Rattle.nef_conn.proofs.SidesName.{converse-for_all}
 use Rattle.nef_conn.proofs.Steps.{joined-items_linked}
 use Rattle.nef_volumes.proofs.SideLabels.{upright}
 use Rattle.nef_volumes.proofs.VolumeLabels.{numbered-side}
+use Rattle.nef_space.proofs.Elementary.{same-itself}
 
 -- ---- the numbers of items
 module _ (C : PlainComplex) (rows : List (List ℕ)) (N : FacetNumbers C rows) where

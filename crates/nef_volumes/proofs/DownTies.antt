@@ -1,8 +1,10 @@
 -- The ties down the rays from some of the vertices.
-use Rattle.nef_volumes.proofs.Prelude.{◌≡◌, ℕ, zero, suc, ◌+◌, ◌<◌, ◌≤◌, ◌⊎◌, inl, inr, ⊎_elim, List, [], ◌∷◌, ◌++◌, length, arith, sym, subst, Contains, Contains-append_left, Contains-append_right, Contains-push, Contains-push_cases, less-or-last, Complex, VertexSide, Tie, complex_of, LinkDown, IsCellOf, IsTieDown, AreDownBetween, AreTiesDown}
+use Rattle.nef_volumes.proofs.Prelude.{◌≡◌, ℕ, ◌+◌, ◌<◌, ◌≤◌, ◌⊎◌, inl, inr, List, [], ◌∷◌, ◌++◌, length, arith, sym, subst, Contains, Contains-append_left, Contains-append_right, Contains-push, Contains-push_cases, Complex, VertexSide, Tie, complex_of, LinkDown, IsCellOf, IsTieDown, AreDownBetween, AreTiesDown}
 use Rattle.nef_complex.specs.declared.complex.Complex.{Complex as ProgramComplex}
 use Rattle.nef_volumes.proofs.ReadVertex.{vertex-within}
 use Rattle.nef_volumes.proofs.SideCells.{both-links}
+use Rattle.std.proofs.lemmas.Bool.{cases_lt}
+use Rattle.nef_space.proofs.Elementary.{less-or-last}
 
 module _ (C : Complex) (start : ℕ) where
   pub down-start : AreDownBetween C start start []
@@ -35,16 +37,11 @@ module _ (C : Complex) (start : ℕ) where
   pub down-fewer : (n end : ℕ) (ts : List Tie) → end ≤ n → AreDownBetween C start n ts → AreDownBetween C start end ts
   down-fewer n end ts f D = record { only = D.only; all = λ x y L s l. D.all x y L s (omega (arith, f, l)) }
 
-before-or-from : (k m : ℕ) → (k < m) ⊎ (m ≤ k)
-before-or-from k zero = inr (omega arith)
-before-or-from zero (suc m) = inl (omega arith)
-before-or-from (suc k) (suc m) = ⊎_elim (λ h. inl (omega (arith, h))) (λ h. inr (omega (arith, h))) (before-or-from k m)
-
 -- the lists of the vertices before one and of those from it on, together
 pub down-appended : (C : Complex) (middle end : ℕ) (ts us : List Tie) → AreDownBetween C 0 middle ts → AreDownBetween C middle end us → AreDownBetween C 0 end (ts ++ us)
 down-appended C middle end ts us D E = record {
   only = both-links C (IsCellOf C) (LinkDown C) ts us D.only E.only;
-  all = λ x y L s l. found x y L l (before-or-from x.vertex middle);
+  all = λ x y L s l. found x y L l (cases_lt x.vertex middle);
 }
   where
     found : (x y : VertexSide) → LinkDown C x y → x.vertex < end → (x.vertex < middle) ⊎ (middle ≤ x.vertex) → (u : Tie) × Contains (ts ++ us) u × IsTieDown C x.vertex u

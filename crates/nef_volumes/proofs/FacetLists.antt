@@ -1,8 +1,9 @@
 -- Lists of facets, and the numbers of the volumes beside them.
-use Rattle.nef_volumes.proofs.Prelude.{◌≡◌, ℕ, ◌<◌, ⊎_elim, List, [], ◌∷◌, ◌++◌, length, length-append, Bool, true, false, Some, slice_get, arith, refl, ap, sym, ◌∙◌, subst, IsAt, Label, Plane, items, item_pos, item_neg, HasSide, map_of, sides_of, side_number, is-at_one, is-at_within, is-at_some, is-at_left, is-at_last, less-or-last, side-number, Vertex, Complex as PlainComplex, Corner as PlainCorner, vertex_of, complex_of, IsVolumeOf, VolumeNumbers, Cycle, Facet, side_at, HasItem, side_beside, HasVolumesBeside, AreFacetsOf}
+use Rattle.nef_volumes.proofs.Prelude.{◌≡◌, ℕ, ◌<◌, ⊎_elim, List, [], ◌∷◌, ◌++◌, length, length-append, Bool, true, false, Some, slice_get, arith, refl, ap, sym, ◌∙◌, subst, IsAt, Label, Plane, items, item_pos, item_neg, HasSide, map_of, sides_of, side_number, is-at_one, is-at_within, is-at_some, is-at_left, is-at_last, side-number, Vertex, Complex as PlainComplex, Corner as PlainCorner, vertex_of, complex_of, IsVolumeOf, VolumeNumbers, Cycle, Facet, side_at, HasItem, side_beside, HasVolumesBeside, AreFacetsOf}
 use Rattle.nef_complex.specs.declared.complex.Complex.{Complex}
 use Rattle.nef_complex.specs.declared.complex.Vertex.{Vertex as ProgramVertex}
 use Rattle.nef_volumes.proofs.ReadVertex.{vertex-there, vertex-read, vertex-within}
+use Rattle.nef_space.proofs.Elementary.{less-or-last}
 
 -- ---- the volume at a side of an item
 module _ (c : Complex) (k : PlainCorner) (h : HasItem (complex_of c) k) where
@@ -37,18 +38,6 @@ module _ (c : Complex) (k : PlainCorner) (h : HasItem (complex_of c) k) where
 
 -- ---- one facet more
 module _ (C : PlainComplex) (rows : List (List ℕ)) (planes : List Plane) (marks : List Label) where
-  pub facets-none : AreFacetsOf C rows planes marks [] []
-  facets-none = record {
-    as_many = refl;
-    plane = λ n f a. absurd (none n f a);
-    mark = λ n f a. absurd (none n f a);
-    cycles_of = λ n f a. absurd (none n f a);
-    beside = λ n f a. absurd (none n f a);
-  }
-    where
-      none : (n : ℕ) (f : Facet) → IsAt [] n f → ⊥
-      none n f a = let w = is-at_within [] n f a in omega (arith, w)
-
   pub facets-more : (cycles : List (List Cycle)) (fs : List Facet) (own : List Cycle) (f : Facet) → AreFacetsOf C rows planes marks cycles fs → IsAt planes (length fs) f.plane → IsAt marks (length fs) f.mark → f.cycles ≡ own → HasVolumesBeside C rows f
       → AreFacetsOf C rows planes marks (cycles ++ own ∷ []) (fs ++ f ∷ [])
   facets-more cycles fs own f D p q e b = record {

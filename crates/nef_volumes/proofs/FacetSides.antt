@@ -13,7 +13,7 @@ module _ (C : Complex) where
   side-below : (k : Corner) (v : Vertex) (x : Item) → IsCorner C k v x → IsSideOf C (neg_of k) k.vertex (neg_item k.item)
   side-below k v x K = (item_neg x, refl, refl, (v, K.vertex, (x, K.item, refl)))
 
-  moved : (x : VertexSide) (i j : ℕ) (o : Side) → i ≡ j → IsSideOf C x i o → IsSideOf C x j o
+  pub moved : (x : VertexSide) (i j : ℕ) (o : Side) → i ≡ j → IsSideOf C x i o → IsSideOf C x j o
   moved x i j o e h = subst (λ (n : ℕ). IsSideOf C x n o) e h
 
   low-corner : (j k : Corner) (A : LinkAlong C j k) → HasItem C j

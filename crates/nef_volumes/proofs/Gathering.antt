@@ -1,7 +1,8 @@
 -- Sides put into the lists of their shells, one after the other.
-use Rattle.nef_volumes.proofs.Prelude.{◌≡◌, ◌≢◌, ℕ, suc, ◌+◌, ◌<◌, ◌≤◌, pos, ◌⊎◌, inl, inr, ⊎_elim, List, [], ◌∷◌, ◌++◌, length, set, arith, refl, ap, sym, ◌∙◌, subst, cases_order, ints, IsAt, Either, earlier, last, is-at_either, is-at_one, is-at_within, less-or-last, set-same, set-at, IsNameBelow, AreRowsByNumber, IsShellOf, AreNumberedNames, IsNamedBefore, AreGathered, IsPut}
+use Rattle.nef_volumes.proofs.Prelude.{◌≡◌, ◌≢◌, ℕ, suc, ◌+◌, ◌<◌, ◌≤◌, pos, ◌⊎◌, inl, inr, ⊎_elim, List, [], ◌∷◌, ◌++◌, length, set, arith, refl, ap, sym, ◌∙◌, subst, cases_order, ints, IsAt, Either, earlier, last, is-at_pushed, is-at_one, is-at_within, set-same, set-at, IsNameBelow, AreRowsByNumber, IsShellOf, AreNumberedNames, IsNamedBefore, AreGathered, IsPut}
 use Rattle.nef_complex.specs.declared.parts.Side.{Side}
-use Rattle.nef_volumes.proofs.Held.{held-none, held-as, held-opened, held-more}
+use Rattle.nef_volumes.proofs.Held.{held-as, held-opened, held-more}
+use Rattle.nef_space.proofs.Elementary.{less-or-last}
 
 same-name : (i j k l : ℕ) → i ≡ j → k ≡ l → ◌≡◌ {A = Side} (record { vertex = i; side = k }) (record { vertex = j; side = l })
 same-name i j k l e f = cc
@@ -22,16 +23,6 @@ before-next i k s (inr (e, inr (f, h))) = absurd h
 next-above : (i k : ℕ) (s : Side) → IsNamedBefore i k s → IsNameBelow s (record { vertex = i; side = k })
 next-above i k s (inl h) = inl (omega (arith, ints, h))
 next-above i k s (inr (e, h)) = inr (ap pos e, inl (omega (arith, ints, h)))
-
-pub gathered-none : (rows : List (List ℕ)) → AreGathered rows 0 0 []
-gathered-none rows = record {
-  held = held-none (IsShellOf rows) (IsNamedBefore 0 0) IsNameBelow [] (λ m row a. absurd (let w = is-at_within {X = List Side} [] m row a in omega (arith, w))) none;
-  some = λ m h a. absurd (let w = is-at_within {X = List Side} [] m h a in omega (arith, w));
-}
-  where
-    none : (s : Side) → IsNamedBefore 0 0 s → ⊥
-    none s (inl h) = omega (arith, h)
-    none s (inr (e, h)) = omega (arith, h)
 
 module _ (rows : List (List ℕ)) (A : AreNumberedNames rows) (i k : ℕ) (hs : List (List Side)) (G : AreGathered rows i k hs) (n : ℕ) (number : IsShellOf rows (record { vertex = i; side = k }) n) where
   abbrev x : Side
@@ -81,7 +72,7 @@ module _ (rows : List (List ℕ)) (A : AreNumberedNames rows) (i k : ℕ) (hs : 
 
         by : ((P.rows ≡ hs) × (n < length hs)) ⊎ ((P.rows ≡ hs ++ [] ∷ []) × (n ≡ length hs)) → (s : Side) × IsAt h 0 s
         by (inl e) = G.some m h (subst (λ (rs : List (List Side)). IsAt rs m h) e.0 a)
-        by (inr e) = in-more (λ u. d (u ∙ sym e.1)) (is-at_either hs m h [] (subst (λ (rs : List (List Side)). IsAt rs m h) e.0 a))
+        by (inr e) = in-more (λ u. d (u ∙ sym e.1)) (is-at_pushed hs m h [] (subst (λ (rs : List (List Side)). IsAt rs m h) e.0 a))
 
     abbrev longer : List Side
     longer = P.row ++ x ∷ []

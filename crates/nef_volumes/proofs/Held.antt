@@ -1,5 +1,5 @@
 -- Things in rows by their numbers: one thing more.
-use Rattle.nef_volumes.proofs.Prelude.{◌≡◌, ℕ, ◌<◌, ◌⊎◌, inl, inr, ⊎_elim, List, [], ◌∷◌, ◌++◌, length, set, arith, sym, subst, cases_order, IsAt, Either, earlier, last, is-at_either, is-at_one, is-at_within, is-at_left, is-at_last, set-same, set-other, set-at, AreRowsByNumber}
+use Rattle.nef_volumes.proofs.Prelude.{◌≡◌, ℕ, ◌<◌, ◌⊎◌, inl, inr, ⊎_elim, List, [], ◌∷◌, ◌++◌, length, set, arith, sym, subst, cases_order, IsAt, Either, earlier, last, is-at_pushed, is-at_one, is-at_within, is-at_left, is-at_last, set-same, set-other, set-at, AreRowsByNumber}
 
 module _ {X : Type 0} (Number : X → ℕ → Type 0) where
   no-thing : (q : ℕ) (x : X) → IsAt {X = X} [] q x → ⊥
@@ -26,9 +26,9 @@ module _ {X : Type 0} (Number : X → ℕ → Type 0) where
     -- one more row, an empty one
     pub held-opened : AreRowsByNumber Number In Below (rows ++ [] ∷ [])
     held-opened = record {
-      each = λ m q row x a b. each-in m q row x b (is-at_either rows m row [] a);
+      each = λ m q row x a b. each-in m q row x b (is-at_pushed rows m row [] a);
       all = λ x m n i. let r = H.all x m n i in (r.0, r.1, is-at_left rows ([] ∷ []) m r.0 r.2, r.3);
-      ordered = λ m q r row x y l a b c. ordered-in m q r row x y l b c (is-at_either rows m row [] a);
+      ordered = λ m q r row x y l a b c. ordered-in m q r row x y l b c (is-at_pushed rows m row [] a);
     }
       where
         each-in : (m q : ℕ) (row : List X) (x : X) → IsAt row q x → Either rows m row [] → Number x m × In x
@@ -59,11 +59,11 @@ module _ {X : Type 0} (Number : X → ℕ → Type 0) where
       order-last q r y z h (last e f) (last g k) = absurd (omega (arith, e, g, h))
 
       each-row : (m q : ℕ) (w : List X) (y : X) → ((m ≡ n) × (w ≡ longer)) ⊎ IsAt rows m w → IsAt w q y → Number y m × Now y
-      each-row m q w y (inl e) b = subst (λ (k : ℕ). Number y k × Now y) (sym e.0) (each-last q y (is-at_either row q y x (subst (λ (r : List X). IsAt r q y) e.1 b)))
+      each-row m q w y (inl e) b = subst (λ (k : ℕ). Number y k × Now y) (sym e.0) (each-last q y (is-at_pushed row q y x (subst (λ (r : List X). IsAt r q y) e.1 b)))
       each-row m q w y (inr a) b = let r = H.each m q w y a b in (r.0, to y r.1)
 
       order-row : (m q r : ℕ) (w : List X) (y z : X) → q < r → ((m ≡ n) × (w ≡ longer)) ⊎ IsAt rows m w → IsAt w q y → IsAt w r z → Below y z
-      order-row m q r w y z h (inl e) a b = order-last q r y z h (is-at_either row q y x (subst (λ (v : List X). IsAt v q y) e.1 a)) (is-at_either row r z x (subst (λ (v : List X). IsAt v r z) e.1 b))
+      order-row m q r w y z h (inl e) a b = order-last q r y z h (is-at_pushed row q y x (subst (λ (v : List X). IsAt v q y) e.1 a)) (is-at_pushed row r z x (subst (λ (v : List X). IsAt v r z) e.1 b))
       order-row m q r w y z h (inr d) a b = H.ordered m q r w y z h d a b
 
       -- a row of before still has its things

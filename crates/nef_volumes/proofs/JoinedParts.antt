@@ -1,5 +1,5 @@
 -- Points are joined exactly where they lie in one part.
-use Rattle.nef_volumes.proofs.Prelude.{Bool, ◌≡◌, ℕ, arith, refl, ap, subst, ◌↔◌, Decides-like, Decides-eqb, FlatDim, Joined, SpacePoint, Set, FlatDim-one, joined-both, joined-turned, Complex as PlainComplex, edge-points, facet-of, facet-point, dim-same, free-flat, facet-at, complex_of, ShowsSet, IsParts, Parts, IsPartAt, Volume}
+use Rattle.nef_volumes.proofs.Prelude.{Bool, ◌≡◌, ℕ, arith, refl, ap, subst, ◌↔◌, Decides-like, Decides-eqb, FlatDim, Joined, SpacePoint, Set, FlatDim-one, joined-both, joined-turned, Complex as PlainComplex, edge-points, facet-of, facet-point, free-flat, facet-at, complex_of, ShowsSet, IsParts, Parts, IsPartAt, Volume}
 use Rattle.std.specs.Bool.{Decides}
 use Rattle.nef_conn.proofs.Reaching.{corners-reached, sides-reached}
 use Rattle.nef_conn.proofs.OnEdges.{joined-as_flat, joined-vertices, joined-edges}
@@ -9,6 +9,7 @@ use Rattle.nef_volumes.specs.declared.all.Part.TheVariants.{Vertex, Edge, Facet}
 use Rattle.nef_volumes.specs.contracts.all.PartPartialEq.TheImpl.{eq-value as part_eq}
 use Rattle.nef_volumes.proofs.Components.{facets-are_components, volumes-are_components}
 use Rattle.nef_volumes.proofs.SideLabels.{upright}
+use Rattle.law_near.proofs.Same.{dim-same}
 
 module _ (s : Set) (c : Complex) (p : Parts) (S : ShowsSet s c) (I : IsParts (complex_of c) p) where
   abbrev C : PlainComplex

@@ -4,6 +4,7 @@ use Rattle.nef_geo.proofs.InPlane.{up-direction}
 use Rattle.nef_complex.specs.declared.complex.Complex.{Complex}
 use Rattle.nef_locate.proofs.UpwardSides.{no-svertex}
 use Rattle.nef_volumes.proofs.SideLabels.{HasLeastMaps}
+use Rattle.nef_conn.proofs.FirstMet.{step-inside}
 
 -- the corner at the high ends of all axes
 abbrev corner : SpacePoint
@@ -33,10 +34,7 @@ beyond-z s d h = (1, omega arith, λ t k i. let m = mul_pos t.a d.z k.0 h in let
 not-inward : (s : Set) → Germ s corner (vector (negsuc 0) (negsuc 0) (negsuc 0)) Out → ⊥
 not-inward s (n, some, f) =
     let t : Ratio = record { a = pos 1; b = n + 1; proper = omega arith } in
-    f t (omega (arith, ints), omega (arith, ints)) (record { along_x = within n; along_y = within n; along_z = within n })
-  where
-    within : (n : ℕ) → nat_abs (pos half_side *ℤ pos (n + 1) +ℤ pos 1 *ℤ pos 1 *ℤ negsuc 0) < half_side * (1 * (n + 1))
-    within n = omega (arith, ints)
+    f t (omega (arith, ints), omega (arith, ints)) (record { along_x = step-inside n; along_y = step-inside n; along_z = step-inside n })
 
 -- ---- the corner is a vertex
 -- twice the square of a number that isn't zero is more than one

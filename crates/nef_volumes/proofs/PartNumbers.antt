@@ -1,11 +1,7 @@
 -- The numbers of the part in which a point lies are those of its place in the complex.
-use Rattle.nef_volumes.proofs.Prelude.{ℕ, arith, IsInTable, SpacePoint, InFrame, InClosedFrame, is-at_within, is-at_some, sides_of, Complex as PlainComplex, Corner, IsPlaceIn, IsPlaceAt, IsParts, IsFacetOf, Parts, IsPartAt, HasItem, Volume}
+use Rattle.nef_volumes.proofs.Prelude.{ℕ, arith, IsInTable, SpacePoint, is-at_within, is-at_some, sides_of, Complex as PlainComplex, Corner, IsPlaceIn, IsPlaceAt, IsParts, IsFacetOf, Parts, IsPartAt, HasItem, Volume}
 use Rattle.nef_locate.specs.declared.point.Place.TheVariants as place
 use Rattle.nef_volumes.proofs.Components.{item-numbered}
-
--- the frame lies in the closed frame
-pub frame-closed : (p : SpacePoint) → InFrame p → InClosedFrame p
-frame-closed p h = let x = h.along_x in let y = h.along_y in let z = h.along_z in record { along_x = omega arith; along_y = omega arith; along_z = omega arith }
 
 module _ (C : PlainComplex) (p : Parts) (I : IsParts C p) where
   pub item-facet : (k : Corner) → HasItem C k → (n : ℕ) × IsFacetOf p.facet_of k n

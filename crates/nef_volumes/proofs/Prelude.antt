@@ -4,8 +4,8 @@ pub use Rattle.nef_conn.proofs.Prelude.{FlatDim-one, HasComponents, IsVertex, Se
 pub use Rattle.nef_classes.proofs.Prelude.{IsCellBelow, IsCellNumber, NumbersClasses, drop, length-take}
 pub use Rattle.nef_smap.proofs.Prelude.{AreClasses, AreLinked, AreNumbered, AreRoots, AreSfaces, IsBelow, Link, LinksAreBelow, SeeOneWay, eqb_tells}
 pub use Rattle.nef_complex.proofs.Prelude.{is-at_take, lt_by}
-pub use Rattle.nef_locate.proofs.Prelude.{Bool, BoundsSector, Corner, FlatDim, Form, Germ, Germ-same, HasCorner, HasLabel, HasSide, IfOk-weaker, InClosedFrame, InFrame, InOrder, IsAbove, IsAhead, IsAt, IsBetween, IsCorner, IsDirection, IsEdgePoint, IsFirstHit, IsFree, IsLeastMap, IsPlaceAt, IsPlaceIn, IsSide, IsSideAbove, IsSkeletonPoint, IsSmall, IsSphereMap, IsSpot, IsVertexPoint, IsZero, Item, Label, LabelledSide, List, Map, MapLabel, MapVertex, None, OnItem, Option, Out, Plane, RayDown, SVertex, SameDirection, SameDirection-trans, SameDirection-turned, SamePoint, Set, Shows, ShowsSet, Side, SideSees, Some, SpacePoint, SphereMap, Spot, Vector, Vertex, [], ap, arc_item, arith, around_svertex, at, at-arc, is-at_map, at_svertex, at_vertex, axis-in, blend, bounds-sees, by_order, complex_of, cond, corner-same, corner_of, cross, dim-same, dir-self, dir_of, dot, edge-points, edge_of, facet-of, false, form_at, free-flat, germ-label, get_or, half_side, in_facet, inl, inr, ints, is-at_get, is-at_one, is-at_within, item_neg, item_normal, item_plane, item_pos, items, label-germ, length, length-map, map, map-is_at, map_of, meets_edge, meets_vertex, mul_pos, nat_abs, neg, neg_item, neg_ℤ, negsuc, normal_of, not_true, num, on-level, on_edge, on_item, opposite, opposite-same, plane_axis, point_of, pos, pos_item, refl, ring, rules, same-itself, same-point_sym, seen, side-has, side-number, side_number, sides_of, slice_get, subst, suc, svertex_of, sym, through-at, through-level, toward, true, up, vector, vertex_of, zero, ℕ, ℤ, ⊎_elim, ◌*ℤ◌, ◌*◌, ◌++◌, ◌+ℤ◌, ◌+◌, ◌-◌, ◌<ℤ◌, ◌<◌, ◌↔◌, ◌∙◌, ◌∷◌, ◌≡◌, ◌≢◌, ◌≤◌, ◌⊎◌, ◌⊕◌, ◌⊖◌, ◌⊗◌}
-pub use Rattle.nef_facets.proofs.Prelude.{Adds, Any, AreNumbers, AreTied, AreTiedWithin, Cell, Chained, Complex, Contains, Cycle, Cycles, Edge, Either, Err, FacetLink, FacetNumbers, HasCounts, IfOk, IsCellIn, IsChain, IsCycle, IsFacetOf, IsFacetParts, LinkAlong, Ok, RayNames, Result, Tie, ahead, cases_order, cell_of, chain-here, chain-link, chain-map, chain-trans, chain-turned, corner_at, count_items, cycle_corners, dot-opposite, earlier, is-at_either, is-at_is, is-at_last, is-at_left, is-at_some, joined-germs, label-one, labels-by_germs, last, length-append, length-set, less-or-last, level-of_opposite, near-ahead, normal-is, one-named, one-vertex, read, set, set-at, set-other, set-same, take, take_all}
+pub use Rattle.nef_locate.proofs.Prelude.{Bool, BoundsSector, Corner, FlatDim, Form, Germ, Germ-same, HasCorner, HasLabel, HasSide, IfOk-weaker, InClosedFrame, InFrame, InOrder, IsAbove, IsAhead, IsAt, IsBetween, IsCorner, IsDirection, IsEdgePoint, IsFirstHit, IsFree, IsLeastMap, IsPlaceAt, IsPlaceIn, IsSide, IsSideAbove, IsSkeletonPoint, IsSmall, IsSphereMap, IsSpot, IsVertexPoint, IsZero, Item, Label, LabelledSide, List, Map, MapLabel, MapVertex, None, OnItem, Option, Out, Plane, RayDown, SVertex, SameDirection, SameDirection-trans, SameDirection-turned, SamePoint, Set, Shows, ShowsSet, Side, SideSees, Some, SpacePoint, SphereMap, Spot, Vector, Vertex, [], ap, arc_item, arith, around_svertex, at, at-arc, is-at_map, at_svertex, at_vertex, axis-in, blend, bounds-sees, by_order, complex_of, cond, corner-same, corner_of, cross, dir-self, dir_of, dot, edge-points, edge_of, facet-of, false, form_at, free-flat, germ-label, get_or, half_side, in_facet, inl, inr, ints, is-at_get, is-at_one, is-at_within, item_neg, item_normal, item_plane, item_pos, items, label-germ, length, length-map, map, map-is_at, map_of, meets_edge, meets_vertex, mul_pos, nat_abs, neg, neg_item, neg_ℤ, negsuc, normal_of, not_true, num, on-level, on_edge, on_item, opposite, opposite-same, plane_axis, point_of, pos, pos_item, refl, ring, rules, same-point_sym, seen, side-has, side-number, side_number, sides_of, slice_get, subst, suc, svertex_of, sym, through-at, through-level, toward, true, up, vector, vertex_of, zero, ℕ, ℤ, ⊎_elim, ◌*ℤ◌, ◌*◌, ◌++◌, ◌+ℤ◌, ◌+◌, ◌-◌, ◌<ℤ◌, ◌<◌, ◌↔◌, ◌∙◌, ◌∷◌, ◌≡◌, ◌≢◌, ◌≤◌, ◌⊎◌, ◌⊕◌, ◌⊖◌, ◌⊗◌}
+pub use Rattle.nef_facets.proofs.Prelude.{Adds, Any, AreNumbers, AreTied, AreTiedWithin, Cell, Chained, Complex, Contains, Cycle, Cycles, Edge, Either, Err, FacetLink, FacetNumbers, HasCounts, IfOk, IsCellIn, IsChain, IsCycle, IsFacetOf, IsFacetParts, LinkAlong, Ok, RayNames, Result, Tie, ahead, cases_order, cell_of, chain-here, chain-link, chain-map, chain-trans, chain-turned, corner_at, count_items, cycle_corners, dot-opposite, earlier, is-at_pushed, is-at_is, is-at_last, is-at_left, is-at_some, joined-germs, label-one, labels-by_germs, last, length-append, length-set, level-of_opposite, near-ahead, normal-is, one-named, one-vertex, read, set, set-at, set-other, set-same, take, take_all}
 pub use Rattle.std.proofs.Common.{◌==◌}
 pub use Rattle.std.proofs.lemmas.Bool.Decides.{Decides-at, Decides-eqb, Decides-like}
 pub use Rattle.std.proofs.lemmas.Iterator.Adapters.{YieldsList-from_vec}

@@ -141,3 +141,7 @@ rest-numbered s C S up ts T O (first ∷ more) rest H N e = subst (VolumeNumbers
 -- there is a first row
 pub some-row : (C : Complex) (rows : List (List ℕ)) → HasCounts (row_counts C) rows → 0 < length rows
 some-row C rows H = let n = H.as_many in omega (arith, n)
+
+-- a side has one number
+pub side-number_one : (C : Complex) (x : VertexSide) (i j : ℕ) → IsSideNumber C x i → IsSideNumber C x j → i ≡ j
+side-number_one C x i j I J = ap (λ (a : Cell). a.column) (one-cell C x (side_cell x.vertex i) (side_cell x.vertex j) (number-cell C x i I) (number-cell C x j J))

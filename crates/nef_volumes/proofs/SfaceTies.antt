@@ -1,7 +1,8 @@
 -- The ties between sides of one sface.
-use Rattle.nef_volumes.proofs.Prelude.{◌≡◌, ◌≢◌, ℕ, zero, suc, ◌+◌, ◌<◌, ◌==◌, true, false, ◌⊎◌, inl, inr, ⊎_elim, arith, refl, ap, sym, ◌∙◌, subst, List, [], ◌∷◌, ◌++◌, length, length-append, take, Some, cases_order, eqb_tells, length-take, Contains, IsAt, IsChain, Chained, Vector, Label, Map, Side, HasSide, Sees, InOneSface, here, link, LabelledSide, sides_of, IsSide, SideSees, SeeOneWay, AreSfaces, side_number, side-has, side-number, number-one, Either, earlier, last, is-at_either, is-at_one, is-at_within, is-at_some, is-at_take, less-or-last, chain-here, chain-link, chain-trans, chain-turned, Vertex, Complex, VertexSide, AreTied, Cell, Tie, LinkInSface, Adds, Any, side_cell, IsCellOf, AreTiedSides, AreTiesOf, tie_within, IsFirstNumber, IsTieNumbered, AreInOneSface, IsTieInSface, AddsInSfaces, adds-one, adds-none}
+use Rattle.nef_volumes.proofs.Prelude.{◌≡◌, ◌≢◌, ℕ, zero, suc, ◌+◌, ◌<◌, ◌==◌, true, false, ◌⊎◌, inl, inr, ⊎_elim, arith, refl, ap, sym, ◌∙◌, subst, List, [], ◌∷◌, ◌++◌, length, length-append, take, Some, cases_order, eqb_tells, length-take, Contains, IsAt, IsChain, Chained, Vector, Label, Map, Side, HasSide, Sees, InOneSface, here, link, LabelledSide, sides_of, IsSide, SideSees, SeeOneWay, AreSfaces, side_number, side-has, side-number, number-one, Either, earlier, last, is-at_pushed, is-at_one, is-at_within, is-at_some, is-at_take, chain-here, chain-link, chain-trans, chain-turned, Vertex, Complex, VertexSide, AreTied, Cell, Tie, LinkInSface, Adds, Any, side_cell, IsCellOf, AreTiedSides, AreTiesOf, tie_within, IsFirstNumber, IsTieNumbered, AreInOneSface, IsTieInSface, AddsInSfaces, adds-one, adds-none}
 use Rattle.nef_classes.proofs.Cutting.{take-at}
 use Rattle.nef_volumes.proofs.SideCells.{tie-chain, more-tied, cell-is, cell-numbered}
+use Rattle.nef_space.proofs.Elementary.{less-or-last}
 
 -- ---- chains of numbers and of sides
 module _ (M : Map) where
@@ -194,13 +195,10 @@ pub record AreSfacesTo (C : Complex) (n : ℕ) (rows : List (List ℕ)) : Type 0
   pub as_many : length rows ≡ n
   pub row : (i : ℕ) (v : Vertex) (ns : List ℕ) → IsAt C.vertices i v → IsAt rows i ns → AreSfaces v.map ns
 
-pub sfaces-none : (C : Complex) → AreSfacesTo C 0 []
-sfaces-none C = record { as_many = refl; row = λ i v ns a b. absurd (let w = is-at_within {X = List ℕ} [] i ns b in omega (arith, w)) }
-
 pub sfaces-more : (C : Complex) (n : ℕ) (rows : List (List ℕ)) (v : Vertex) (ns : List ℕ) → IsAt C.vertices n v → AreSfaces v.map ns → AreSfacesTo C n rows → AreSfacesTo C (n + 1) (rows ++ ns ∷ [])
 sfaces-more C n rows v ns a F S = record {
   as_many = let e = S.as_many in let f = length-append rows (ns ∷ []) in omega (arith, e, f);
-  row = λ i w ms b c. by i w ms b (is-at_either rows i ms ns c);
+  row = λ i w ms b c. by i w ms b (is-at_pushed rows i ms ns c);
 }
   where
     by : (i : ℕ) (w : Vertex) (ms : List ℕ) → IsAt C.vertices i w → Either rows i ms ns → AreSfaces w.map ms

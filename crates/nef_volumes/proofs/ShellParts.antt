@@ -1,11 +1,10 @@
 -- The gathered lists are the shells, and the rows those of each volume.
-use Rattle.nef_volumes.proofs.Prelude.{◌≡◌, ℕ, zero, suc, ◌+◌, ◌<◌, inl, inr, List, length, arith, refl, ap, sym, ◌∙◌, subst, ints, IsAt, Chained, IsInTable, Label, InOrder, Complex, VertexSide, VolumeLink, side-has, is-at_map, map-is_at, chain-link, chain-map, is-at_one, is-at_within, IsSideNumber, IsVolumeOf, VolumeNumbers, shell_sides, ShellLink, IsSideNamed, IsNameBelow, IsSideListed, IsShell, IsShellBelow, Shells, Shell, AreVolumeLabels, side_cell, AreShellRows, IsShellOf, AreGathered, AreShellsOf, HaveVolumes, Cell}
+use Rattle.nef_volumes.proofs.Prelude.{◌≡◌, ℕ, zero, suc, ◌+◌, ◌<◌, inl, inr, List, length, arith, refl, sym, ◌∙◌, subst, ints, IsAt, Chained, IsInTable, Label, InOrder, Complex, VertexSide, VolumeLink, side-has, is-at_map, map-is_at, chain-link, chain-map, is-at_one, is-at_within, IsSideNumber, IsVolumeOf, VolumeNumbers, shell_sides, ShellLink, IsSideNamed, IsNameBelow, IsSideListed, IsShell, IsShellBelow, Shells, Shell, AreVolumeLabels, AreShellRows, IsShellOf, AreGathered, AreShellsOf, HaveVolumes}
 use Rattle.nef_complex.specs.declared.parts.Side.{Side}
 use Rattle.nef_volumes.proofs.AllTies.{shell-volume}
-use Rattle.nef_volumes.proofs.RowNumbers.{number-cell}
 use Rattle.nef_volumes.proofs.ShellRows.{rows-named, shell-side, shell-number, shell-chain}
-use Rattle.nef_volumes.proofs.SideCells.{one-cell}
 use Rattle.nef_volumes.proofs.VolumeLabels.{numbered-side}
+use Rattle.nef_volumes.proofs.RowNumbers.{side-number_one}
 
 below-trans : (r s t : Side) → IsNameBelow r s → IsNameBelow s t → IsNameBelow r t
 below-trans r s t (inl h) (inl g) = inl (omega (arith, ints, h, g))
@@ -14,10 +13,6 @@ below-trans r s t (inr (e, h)) (inl g) = inl (omega (arith, ints, e, g))
 below-trans r s t (inr (e, inl h)) (inr (f, inl g)) = inr (e ∙ f, inl (omega (arith, ints, h, g)))
 below-trans r s t (inr (e, inl h)) (inr (f, inr (k, g))) = absurd g
 below-trans r s t (inr (e, inr (f, h))) g = absurd h
-
--- a side has one number
-pub side-number_one : (C : Complex) (x : VertexSide) (i j : ℕ) → IsSideNumber C x i → IsSideNumber C x j → i ≡ j
-side-number_one C x i j I J = ap (λ (a : Cell). a.column) (one-cell C x (side_cell x.vertex i) (side_cell x.vertex j) (number-cell C x i I) (number-cell C x j J))
 
 module _ (C : Complex) (rows : List (List ℕ)) (R : AreShellRows C rows) (hs : List (List Side)) (G : AreGathered rows (length rows) 0 hs) where
   -- a side with a number is in the list with it

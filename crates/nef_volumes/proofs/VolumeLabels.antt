@@ -1,8 +1,11 @@
 -- The labels of volumes: one for each number, that of all sides with the number.
-use Rattle.nef_volumes.proofs.Prelude.{◌≡◌, ℕ, zero, suc, ◌+◌, ◌<◌, ◌≤◌, pos, ◌⊎◌, inl, inr, ⊎_elim, List, [], ◌∷◌, ◌++◌, length, length-append, arith, refl, ap, sym, ◌∙◌, subst, cases_order, ints, IsAt, IsInTable, IsBelow, Set, Label, Out, Map, Side, sides_of, IsSide, side_number, side-has, side-number, number-one as number-is, is-at_one, is-at_within, is-at_some, is-at_left, is-at_last, less-or-last, Vertex, Complex, VertexSide, HasSideLabel, complex_of, ShowsSet, IsSideNumber, IsVolumeOf, VolumeNumbers, HasAppeared, AreLabelsTo, AreLabelsOf, AreVolumeLabels}
+use Rattle.nef_volumes.proofs.Prelude.{◌≡◌, ℕ, ◌+◌, ◌<◌, ◌≤◌, pos, ◌⊎◌, inl, inr, ⊎_elim, List, [], ◌∷◌, ◌++◌, length, length-append, arith, refl, sym, ◌∙◌, subst, cases_order, ints, IsAt, IsInTable, IsBelow, Set, Label, Out, Map, Side, sides_of, IsSide, side_number, side-has, side-number, is-at_one, is-at_within, is-at_some, is-at_left, is-at_last, Vertex, Complex, VertexSide, HasSideLabel, complex_of, ShowsSet, IsSideNumber, IsVolumeOf, VolumeNumbers, HasAppeared, AreLabelsTo, AreLabelsOf, AreVolumeLabels}
 use Rattle.nef_complex.specs.declared.complex.Complex.{Complex as ProgramComplex}
 use Rattle.nef_volumes.proofs.SideLabels.{upright, chain-label}
 use Rattle.nef_volumes.proofs.OutsideSide.{out-side}
+use Rattle.std.proofs.Math.Nat.{eq-zero-or-pos}
+use Rattle.nef_volumes.proofs.RowNumbers.{side-number_one}
+use Rattle.nef_space.proofs.Elementary.{less-or-last}
 
 -- ---- along a row
 module _ (M : Map) (row : List ℕ) (xs : List Label) where
@@ -60,8 +63,6 @@ module _ (M : Map) (row : List ℕ) (xs : List Label) where
   labels-all n ys h D = record { long = D.long; kept = D.kept; some = D.some; all = λ s m l a. D.all s m (omega (arith, l, h)) a }
 
 -- ---- row after row
-pub outside-first : (C : Complex) (rows : List (List ℕ)) → AreLabelsOf C rows 0 (Out ∷ [])
-outside-first C rows = record { outside = refl; some = λ k l a h. absurd (let w = is-at_within (Out ∷ []) k l a in omega (arith, w, h)); all = λ i s m l a. absurd (omega (arith, l)) }
 
 module _ (C : Complex) (rows : List (List ℕ)) (N : VolumeNumbers C rows) (n : ℕ) (v : Vertex) (a : IsAt C.vertices n v) (row : List ℕ) (e : IsAt rows n row) (ys : List Label) (D : AreLabelsOf C rows n ys) where
   pub as-long : length row ≡ length (sides_of v.map)
@@ -88,16 +89,11 @@ module _ (C : Complex) (rows : List (List ℕ)) (N : VolumeNumbers C rows) (n : 
       let (y, (i, k, I, K, o), Y) = N.numbered.by_appearance x j m X (let w = some-label in omega (arith, w, h)) l in
       by y x i k I K J q o Y
     where
-      number-same : (x : VertexSide) (i k : ℕ) → IsSideNumber C x i → IsSideNumber C x k → i ≡ k
-      number-same x i k I K =
-          let one = is-at_one C.vertices x.vertex I.vertex K.vertex I.is_vertex K.is_vertex in
-          number-is I.vertex.map i x.side I.label I.is_side ∙ ap (λ (w : Vertex). side_number w.map x.side) one ∙ sym (number-is K.vertex.map k x.side K.label K.is_side)
-
       by : (y x : VertexSide) (i k : ℕ) → IsSideNumber C y i → IsSideNumber C x k → IsSideNumber C x s → x.vertex ≡ n → IsBelow (pos y.vertex ∷ pos i ∷ []) (pos x.vertex ∷ pos k ∷ []) → IsVolumeOf C rows y j → (t : ℕ) × (t < s) × IsAt row t j
       by y x i k I K J q (inl o) (t, T, Y) = let w = D.all y.vertex t j (omega (arith, ints, o, q)) Y in absurd (omega (arith, w, h))
       by y x i k I K J q (inr (f, inl o)) (t, T, (r, z, b)) =
-          let c = number-same x k s K J in
-          let d = number-same y t i T I in
+          let c = side-number_one C x k s K J in
+          let d = side-number_one C y t i T I in
           let g : y.vertex ≡ n = omega (arith, ints, f, q) in
           let same = is-at_one rows n r row (subst (λ (w : ℕ). IsAt rows w r) g z) e in
           (t, omega (arith, ints, o, c, d), subst (λ (w : List ℕ). IsAt w t j) same b)
@@ -145,15 +141,11 @@ numbered-side C rows N x l (v, a, g) =
 
 pub labels-of_volumes : (s : Set) (c : ProgramComplex) → ShowsSet s c → (rows : List (List ℕ)) → VolumeNumbers (complex_of c) rows → (n : ℕ) (ls : List Label) → length rows ≤ n → AreLabelsOf (complex_of c) rows n ls → AreVolumeLabels (complex_of c) rows ls
 labels-of_volumes s c S rows N n ls h D = record {
-  some = λ k l a. some k l a (zero-or_more k);
-  labels = λ k l x m a X i. labels k l x m a X i (zero-or_more k);
+  some = λ k l a. some k l a (eq-zero-or-pos k);
+  labels = λ k l x m a X i. labels k l x m a X i (eq-zero-or-pos k);
   all = λ x k (j, J, X). let w = is-at_within rows x.vertex X.0 X.1 in D.all x.vertex j k (omega (arith, w, h)) X;
 }
   where
-    zero-or_more : (k : ℕ) → (k ≡ 0) ⊎ (1 ≤ k)
-    zero-or_more zero = inl refl
-    zero-or_more (suc k) = inr (omega arith)
-
     some : (k : ℕ) (l : Label) → IsAt ls k l → (k ≡ 0) ⊎ (1 ≤ k) → (x : VertexSide) × IsVolumeOf (complex_of c) rows x k
     some k l a (inl e) =
         let o = out-side s c S.shows S.maps in

@@ -1,11 +1,8 @@
 -- One shell more in the row of its volume.
-use Rattle.nef_volumes.proofs.Prelude.{◌≡◌, ℕ, ◌⊎◌, inl, inr, List, [], ◌∷◌, ◌++◌, length, set, ap, subst, IsAt, IsInTable, Either, earlier, last, is-at_either, is-at_one, is-at_within, is-at_left, is-at_last, Shell, IsOfVolume, IsOneOf, StandsBefore, AreShellsOf}
+use Rattle.nef_volumes.proofs.Prelude.{◌≡◌, ℕ, ◌⊎◌, inl, inr, List, [], ◌∷◌, ◌++◌, length, set, ap, subst, IsAt, IsInTable, Either, earlier, last, is-at_pushed, is-at_one, is-at_within, is-at_left, is-at_last, Shell, IsOfVolume, IsOneOf, StandsBefore, AreShellsOf}
 use Rattle.nef_complex.specs.declared.parts.Side.{Side}
-use Rattle.nef_volumes.proofs.Held.{held-none, held-as, held-more}
+use Rattle.nef_volumes.proofs.Held.{held-as, held-more}
 use Rattle.nef_volumes.proofs.Joining.{cell-one_number}
-
-pub shells-none : (volume_of : List (List ℕ)) (rows : List (List Shell)) → ((n : ℕ) (row : List Shell) → IsAt rows n row → row ≡ []) → AreShellsOf volume_of [] rows
-shells-none volume_of rows none = held-none (IsOfVolume volume_of) (IsOneOf []) (StandsBefore []) rows none (λ h (k, a). cc)
 
 module _ (volume_of : List (List ℕ)) (lists : List (List Side)) (rows : List (List Shell)) (H : AreShellsOf volume_of lists rows) (own : List Side) (n : ℕ) (row : List Shell) (at : IsAt rows n row)
     (s : Side) (first : IsAt own 0 s) (number : IsInTable volume_of s.vertex s.side n) where
@@ -27,7 +24,7 @@ module _ (volume_of : List (List ℕ)) (lists : List (List Side)) (rows : List (
       cell-one_number volume_of (record { row = s.vertex; column = s.side }) m n (subst (λ (w : Side). IsInTable volume_of w.vertex w.side m) e h) number
 
   apart : (h : Shell) → IsOneOf more h → IsOneOf lists h ⊎ (h ≡ shell)
-  apart h (k, a) = by (is-at_either lists k h.sides own a)
+  apart h (k, a) = by (is-at_pushed lists k h.sides own a)
     where
       by : Either lists k h.sides own → IsOneOf lists h ⊎ (h ≡ shell)
       by (earlier b) = inl (k, b)

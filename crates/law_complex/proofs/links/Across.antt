@@ -1,8 +1,10 @@
 -- Across a facet: a point of it is tied to the points close to the corner that a ray within its plane names.
-use Rattle.law_complex.proofs.links.Prelude.{◌≡◌, ℕ, pos, ◌<ℤ◌, arith, sym, ◌∙◌, ◌⊎◌, inl, inr, ⊎_elim, ◌∷◌, subst, [], ints, ring, at, num, ◌⊗◌, FlatDim, SpacePoint, Form, form_at, normal_of, slope, plane_through, SamePoint, toward, IsBetween, Set, Vector, opposite, dot, triple, IsDirection, SameDirection, plane_axis, plane_dir, carriers, Drop, ahead, same-point_sym, between-turned, even-until, start-close, reach_all, between-same, factor-same, IsAt, Item, arc_item, item_normal, dir_of, OnItem, same-plus, same-minus, normal-is, on-level, is-at_one, dir-at, turn-same, at-arc, level-same, Vertex, Edge, Complex, Corner, HasEnds, IsCorner, Shows, item_plane, IsVertexPoint, IsEdgePoint, PlaneMeet, meets_vertex, meets_edge, LiesIn, IsFirstInPlane, IsCornerAt, RayNames, HasCorner, IsFlatIn, between-way, between-start, between-outer, same-itself, near_point, near-between, way-near, dim-same, plane-ahead, end-meets, IsInFacetOf, beside-vertex, facet-point, ahead-back, ahead-same, through-level, axis-in, LinkAcross, SameDirection-turned, SameDirection-trans, dir-self, dot-opposite, level-way, direction-left, direction-right}
+use Rattle.law_complex.proofs.links.Prelude.{◌≡◌, ℕ, pos, ◌<ℤ◌, arith, sym, ◌∙◌, ◌⊎◌, inl, inr, ⊎_elim, ◌∷◌, subst, [], ints, ring, at, num, ◌⊗◌, FlatDim, SpacePoint, Form, form_at, normal_of, slope, plane_through, SamePoint, toward, IsBetween, Set, Vector, opposite, dot, triple, IsDirection, SameDirection, plane_axis, plane_dir, carriers, Drop, ahead, same-point_sym, between-turned, even-until, start-close, reach_all, between-same, factor-same, IsAt, Item, arc_item, item_normal, dir_of, OnItem, same-plus, same-minus, normal-is, on-level, is-at_one, dir-at, turn-same, at-arc, level-same, Vertex, Edge, Complex, Corner, HasEnds, IsCorner, Shows, item_plane, IsVertexPoint, IsEdgePoint, PlaneMeet, meets_vertex, meets_edge, LiesIn, IsFirstInPlane, IsCornerAt, RayNames, HasCorner, IsFlatIn, between-way, between-start, between-outer, near_point, near-between, way-near, plane-ahead, end-meets, IsInFacetOf, beside-vertex, facet-point, ahead-back, ahead-same, through-level, axis-in, LinkAcross, SameDirection-turned, SameDirection-trans, dir-self, dot-opposite, level-way, direction-left, direction-right}
 use Rattle.law_complex.proofs.FacetAngles.{through-at}
 use Rattle.law_complex.proofs.links.Ties.{beside-close, beside-ahead, beside-cell, IsTied, tied-cell, tied-both, tied-ahead, tied-ray}
 use Rattle.law_complex.proofs.links.EdgeEnds.{edge-ways, tied-low, EndsOnSide, close_way, on-close, tied-close_way, AreTiedItems}
+use Rattle.law_near.proofs.Same.{dim-same}
+use Rattle.nef_space.proofs.Elementary.{same-itself}
 
 -- y is tied to a point close to a vertex on the item of the corner, whose plane has the normal n
 pub record IsAcross (s : Set) (C : Complex) (n : Vector) (y : SpacePoint) (k : Corner) : Type 0 where

@@ -1,5 +1,5 @@
 -- A ray down ties the points below a vertex to those above the point where it ends, and these to a side there.
-use Rattle.law_complex.proofs.links.Prelude.{◌≡◌, ℕ, ◌+◌, arith, sym, ◌∙◌, ⊎_elim, subst, nought, plus, sign-plus, FlatDim, SpacePoint, normal_of, SamePoint, toward, IsBetween, Set, Vector, opposite, blend, dot, SameDirection, up, Label, carriers, ahead, steep, signs-same, same-point_sym, between-turned, between-inner, IsAt, item_normal, item_pos, item_mark, item_neg, HasSide, Sees, normal-is, is-at_one, dir-at, Vertex, Edge, Complex, Corner, HasEnds, Shows, item_plane, IsVertexPoint, IsEdgePoint, Spot, at_vertex, on_edge, in_facet, IsSpot, IsSkeletonPoint, VertexSide, HasSideLabel, IsAbove, between-way, near_point, near-between, dim-same, facet-point, ahead-back, facet-of, LinkDown, IsUpright, self-pos, SameDirection-turned, SameDirection-trans, direction-left}
+use Rattle.law_complex.proofs.links.Prelude.{◌≡◌, ℕ, ◌+◌, arith, sym, ◌∙◌, ⊎_elim, subst, nought, plus, sign-plus, FlatDim, SpacePoint, normal_of, SamePoint, toward, IsBetween, Set, Vector, opposite, blend, dot, SameDirection, up, Label, carriers, ahead, steep, signs-same, same-point_sym, between-turned, between-inner, IsAt, item_normal, item_pos, item_mark, item_neg, HasSide, Sees, normal-is, is-at_one, dir-at, Vertex, Edge, Complex, Corner, HasEnds, Shows, item_plane, IsVertexPoint, IsEdgePoint, Spot, at_vertex, on_edge, in_facet, IsSpot, IsSkeletonPoint, VertexSide, HasSideLabel, IsAbove, between-way, near_point, near-between, facet-point, ahead-back, facet-of, LinkDown, IsUpright, self-pos, SameDirection-turned, SameDirection-trans, direction-left}
 use Rattle.law_sphere.proofs.Sectors.{bounds-sees}
 use Rattle.law_complex.proofs.Skeletons.{FacetAt, skeleton-or_flat}
 use Rattle.law_complex.proofs.links.Ties.{ahead-way, ahead-cells, IsTied, tied-cell, tied-turned, tied-both, tied-ahead, tied-ray}
@@ -8,6 +8,7 @@ use Rattle.law_complex.proofs.links.EdgeEnds.{edge-ways, tied-low, tied-turn}
 use Rattle.law_complex.proofs.links.Across.{corner-across, through-same}
 use Rattle.law_complex.proofs.links.SidePoints.{at-side}
 use Rattle.law_complex.proofs.links.SideLinks.{JoinsSides, PointTied, pos-point}
+use Rattle.law_near.proofs.Same.{dim-same}
 
 module _ (s : Set) (C : Complex) (S : Shows s C) where
   pub facet-at : FacetAt s C

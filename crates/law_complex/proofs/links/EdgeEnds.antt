@@ -1,7 +1,8 @@
 -- Beside an edge: its points are tied to those close to both of its ends; and the arcs along it.
-use Rattle.law_complex.proofs.links.Prelude.{◌≡◌, ℕ, ◌+◌, ◌≤◌, ℤ, pos, ◌+ℤ◌, ◌*ℤ◌, neg_ℤ, ◌<ℤ◌, arith, ap, sym, ◌∙◌, ◌⊎◌, inl, inr, ⊎_elim, ◌∷◌, subst, [], ints, sign, ring, at, num, ◌⊕◌, ◌⊗◌, FlatDim, SpacePoint, SamePoint, toward, IsBetween, Set, Vector, opposite, blend, dot, cross, triple, IsZero, IsDirection, SameDirection, IsOpposite, carriers, ahead, steep, same-point_sym, between-turned, between-inner, forms, IsAt, MapVertex, Arc, Item, arc_item, item_normal, dir_of, OnItem, Shaped, dot-comb, normal-is, same-plus, same-minus, amount, is-at_one, dir-at, arc-at, turn-same, at-arc, ends-of, level-same, Vertex, Edge, Complex, Corner, HasEnds, IsCorner, Shows, between-way, near_point, near-between, edge-points, dim-same, ahead-back, AreAlong, self-pos, triple-dot, square-cross, nought-if, SameDirection-trans, dir-self, dot-opposite, opposite-way, direction-left, direction-right, right-turn, back-triple}
+use Rattle.law_complex.proofs.links.Prelude.{◌≡◌, ℕ, ◌+◌, ◌≤◌, ℤ, pos, ◌+ℤ◌, ◌*ℤ◌, neg_ℤ, ◌<ℤ◌, arith, ap, sym, ◌∙◌, ◌⊎◌, inl, inr, ⊎_elim, ◌∷◌, subst, [], ints, sign, ring, at, num, ◌⊕◌, ◌⊗◌, FlatDim, SpacePoint, SamePoint, toward, IsBetween, Set, Vector, opposite, blend, dot, cross, triple, IsZero, IsDirection, SameDirection, IsOpposite, carriers, ahead, steep, same-point_sym, between-turned, between-inner, forms, IsAt, MapVertex, Arc, Item, arc_item, item_normal, dir_of, OnItem, Shaped, dot-comb, normal-is, same-plus, same-minus, amount, is-at_one, dir-at, arc-at, turn-same, at-arc, ends-of, level-same, Vertex, Edge, Complex, Corner, HasEnds, IsCorner, Shows, between-way, near_point, near-between, edge-points, ahead-back, AreAlong, self-pos, triple-dot, square-cross, nought-if, SameDirection-trans, dir-self, dot-opposite, opposite-way, direction-left, direction-right, right-turn, back-triple}
 use Rattle.law_complex.proofs.FacetArcs.{source-meets, target-meets}
 use Rattle.law_complex.proofs.links.Ties.{ahead-ahead, IsTied, tied-cell, tied-turned, tied-both, tied-ahead, tied-ray}
+use Rattle.law_near.proofs.Same.{dim-same}
 
 -- ---- the ends of an edge
 -- the svertices from which an edge goes

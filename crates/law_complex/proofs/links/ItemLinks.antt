@@ -11,7 +11,7 @@ module _ (s : Set) (C : Complex) (S : Shows s C) where
       subst (λ (a : ℕ). AreTiedItems s C (corner_of_numbers a j.item) k) (sym L.from_low)
       (subst (λ (b : ℕ). AreTiedItems s C (corner_of_numbers L.edge.low j.item) (corner_of_numbers b k.item)) (sym L.to_high) (along-tied s C S L.number L.edge L.is_edge j.item k.item L.along))
 
-  facet-link : (j k : Corner) → FacetLink C j k → AreTiedItems s C j k
+  pub facet-link : (j k : Corner) → FacetLink C j k → AreTiedItems s C j k
   facet-link j k (inl L) = along-link j k L
   facet-link j k (inr L) = across-tied s C S j k L
 

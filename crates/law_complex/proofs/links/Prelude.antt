@@ -25,8 +25,10 @@ pub use Rattle.law_complex.proofs.Edges.{edge-points, near-between, near_point, 
 pub use Rattle.law_complex.proofs.FacetEdges.{ahead-back, ahead-same}
 pub use Rattle.law_complex.proofs.FacetNames.{axis-in, facet-of, through-level}
 pub use Rattle.law_complex.proofs.FacetPoints.{IsInFacetOf, beside-vertex, facet-point, in-facet}
-pub use Rattle.law_complex.proofs.FacetWays.{dim-same, end-meets, even-by, plane-ahead}
-pub use Rattle.law_complex.proofs.Ways.{between-outer, between-start, between-way, same-itself}
+pub use Rattle.law_complex.proofs.FacetWays.{end-meets, even-by, plane-ahead}
+pub use Rattle.law_complex.proofs.Ways.{between-outer, between-start, between-way}
 pub use Rattle.law_complex.specs.Rays.{HasSideLabel, IsAbove, VertexSide}
 pub use Rattle.law_complex.specs.links.Components.{IsAtItem, IsAtSide, IsEvenAfter, IsUpright, ItemsHavePoints, ItemsJoined, SidesHavePoints, SidesJoined}
 pub use Rattle.law_complex.specs.links.Links.{AreAlong, AreSidesAlong, FacetLink, IsSideOf, LinkAcross, LinkAcrossFacet, LinkAlong, LinkAlongEdge, LinkDown, LinkInSface, LinkOutside, VolumeLink, around_ends, neg_arcs, pos_arcs}
+pub use Rattle.nef_space.proofs.Elementary.{same-itself}
+pub use Rattle.law_near.proofs.Same.{dim-same}

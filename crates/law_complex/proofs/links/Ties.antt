@@ -1,9 +1,11 @@
 -- Points that lie close to a point toward a direction, and what joins such points: one cell, an even segment, and even segments with what lies beside them.
-use Rattle.law_complex.proofs.links.Prelude.{◌≡◌, ℕ, ◌+◌, ◌*◌, ◌<◌, ◌≤◌, ℤ, pos, ◌+ℤ◌, ◌-ℤ◌, ◌*ℤ◌, arith, refl, ap, sym, ◌∙◌, ◌⊎◌, inl, inr, ⊎_elim, ◌∷◌, subst, false, [], ints, mul-pos, le-mul_of_pos_right, Sign, minus, nought, plus, sign, Lies, ring, at, num, ◌⊕◌, ◌⊖◌, ◌⊗◌, nought-is, sign-scaled, Germ, Flat, FlatDim, IsEven, Joined, SpacePoint, Form, form_at, slope, Within, toward, IsBetween, Set, Vector, blend, IsDirection, SameDirection, Label, sign_at, carriers, SameSigns, SameSlopes, slide, NearGerm, FlatCone, IsSettled, SameGerms, same-sym, reach-some, keeps-all, is_nought, Cells, Germ-unique, FlatCone-from_flat, slope-slide, signs-same, slope-same, same-point_sym, steep, steep-one, sign-large, ahead, near-ahead, germ_of, germs-by_cell, FlatDim-by_germs, flat_dim-of, mixed-of, ray-cell, start-close, flat-way, joined-turned, joined-both, joined-itself, of_point, form-sum, form-step, step-within, reach_all, sign-level, toward-point, factor-same, between-outer, same-itself, near_point, near-between, way-near, dim-same, even-by, IsEvenAfter, zero-decided, vector-same, SameDirection-turned, direction-left}
+use Rattle.law_complex.proofs.links.Prelude.{◌≡◌, ℕ, ◌+◌, ◌*◌, ◌<◌, ◌≤◌, ℤ, pos, ◌+ℤ◌, ◌-ℤ◌, ◌*ℤ◌, arith, refl, ap, sym, ◌∙◌, ◌⊎◌, inl, inr, ⊎_elim, ◌∷◌, subst, false, [], ints, mul-pos, le-mul_of_pos_right, Sign, minus, nought, plus, sign, Lies, ring, at, num, ◌⊕◌, ◌⊖◌, ◌⊗◌, nought-is, sign-scaled, Germ, Flat, FlatDim, IsEven, Joined, SpacePoint, Form, form_at, slope, Within, toward, IsBetween, Set, Vector, blend, IsDirection, SameDirection, Label, sign_at, carriers, SameSigns, SameSlopes, slide, NearGerm, FlatCone, IsSettled, SameGerms, same-sym, reach-some, keeps-all, is_nought, Cells, Germ-unique, FlatCone-from_flat, slope-slide, signs-same, slope-same, same-point_sym, steep, steep-one, sign-large, ahead, near-ahead, germ_of, germs-by_cell, FlatDim-by_germs, flat_dim-of, mixed-of, ray-cell, start-close, flat-way, joined-turned, joined-both, joined-itself, of_point, form-sum, form-step, step-within, reach_all, sign-level, toward-point, factor-same, between-outer, near_point, near-between, way-near, even-by, IsEvenAfter, zero-decided, vector-same, SameDirection-turned, direction-left}
 use Rattle.law_near.proofs.Germs.{sample, sample-short, sign-along}
 use Rattle.law_near.proofs.Flats.{sign-toward}
 use Rattle.law_near.proofs.FirstChange.{settled-along}
 use Rattle.law_near.proofs.Crossings.{opposite_signs, joint, sign-mixed}
+use Rattle.law_near.proofs.Same.{dim-same}
+use Rattle.nef_space.proofs.Elementary.{same-itself}
 
 -- ---- points beside a point
 -- q lies on the sides of the carriers on which the points just off p toward d lie
@@ -68,15 +70,15 @@ pub ahead-way : (s : Set) (p : SpacePoint) (d e : Vector) → SameDirection d e 
 ahead-way s p d e w = beside-cell s p e (ahead s p d) (ahead s p e) (beside-way s p d e (ahead s p d) (λ h l. slope-same h d e w) (beside-ahead s p d)) (beside-ahead s p e)
 
 -- ---- even segments
+pub joint-itself : (s : Sign) → (opposite_signs s s ≡ false) × (joint s s ≡ s)
+joint-itself minus = (refl, refl)
+joint-itself nought = (refl, refl)
+joint-itself plus = (refl, refl)
+
 pub same-between : (h : Form) (p q r : SpacePoint) → IsBetween p r q → sign_at h q ≡ sign_at h p → sign_at h r ≡ sign_at h q
 same-between h p q r b e =
-    let o = subst (λ (t : Sign). (opposite_signs (sign_at h p) t ≡ false) × (joint (sign_at h p) t ≡ t)) (sym e) (one (sign_at h p)) in
+    let o = subst (λ (t : Sign). (opposite_signs (sign_at h p) t ≡ false) × (joint (sign_at h p) t ≡ t)) (sym e) (joint-itself (sign_at h p)) in
     sign-mixed h (of_point p) (of_point r) (of_point q) (mixed-of p r q b) o.0 ∙ o.1
-  where
-    one : (s : Sign) → (opposite_signs s s ≡ false) × (joint s s ≡ s)
-    one minus = (refl, refl)
-    one nought = (refl, refl)
-    one plus = (refl, refl)
 
 pub dim-cell : (s : Set) (p q : SpacePoint) (k : ℕ) → SameSigns (carriers s) p q → FlatDim s p k → FlatDim s q k
 dim-cell s p q k same = FlatDim-by_germs s s p q (germs-by_cell s p q same) k

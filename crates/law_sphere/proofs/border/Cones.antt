@@ -1,12 +1,12 @@
 -- What has the labels that a map of a set gets is a map of the node over the set.
-use Rattle.law_sphere.proofs.border.Prelude.{◌≡◌, ℕ, ◌+◌, ◌≤◌, arith, ◌⊎◌, inl, inr, ⊎_elim, subst, SpacePoint, InFrame, Vector, IsDirection, blend, Set, HasLabel, Germ, Label, Out, Not, In, NearGerm, label-one, Germ-unique, germ_of, Map, MapLabel, NearLabel, forms, Cone, Full, amount, axes-forms, label-direction, label-unique, far_directed-by, Topology, interior, closure, boundary, complement, set_by, IsInside, IsInBy, ByTopology, TopologyLabel, MarkLabel, TopologyCone, RegularCone, zero-decided}
+use Rattle.law_sphere.proofs.border.Prelude.{◌≡◌, ℕ, ◌+◌, ◌≤◌, arith, ◌⊎◌, inl, inr, ⊎_elim, subst, SpacePoint, InFrame, Vector, IsDirection, blend, Set, HasLabel, Germ, Label, Out, Not, In, NearGerm, label-one, Germ-unique, germ_of, Map, MapLabel, NearLabel, forms, Cone, Full, amount, axes-forms, label-direction, label-unique, far_directed-by, Topology, interior, closure, boundary, complement, set_by, IsInside, IsInBy, ByTopology, TopologyLabel, MarkLabel, TopologyCone, RegularCone}
 use Rattle.law_near.proofs.Decided.{label_of, InFrame-decided}
-use Rattle.law_near.proofs.Rays.{Germ-zero}
 use Rattle.law_near.proofs.Frames.{no-germ_out}
 use Rattle.law_near.proofs.Combine.{not-label}
 use Rattle.law_near.proofs.Decisions.{ahead, near-ahead, all-germs}
 use Rattle.law_near.proofs.Topology.{inside-at, closed-at, border-at, regular-label, label-ahead}
 use Rattle.law_sphere.proofs.border.Made.{by-carried}
+use Rattle.law_sphere.proofs.Dimensions.{full-germ, germ-full}
 
 -- ---- at a point
 module _ (s : Set) (p : SpacePoint) where
@@ -94,20 +94,11 @@ module _ (M : Map) (s : Set) (p : SpacePoint) (C : Cone M s p) where
       sooner : (n k : ℕ) → n + amount (forms M) e ≤ k → n ≤ k
       sooner n k i = omega arith
 
-  full-germ : (e : Vector) (l : Label) → Full M e l → Germ s p e l
-  full-germ e l (inl z) = (Germ-zero s p e l z.0).1 (subst (HasLabel s p) z.1 C.mark)
-  full-germ e l (inr a) = map-germ e l a
-
-  germ-full : (e : Vector) (l : Label) → Germ s p e l → Full M e l
-  germ-full e l g = ⊎_elim
-      (λ z. inl (z, label-one s p M.mark l C.mark ((Germ-zero s p e l z).0 g)))
-      (λ h. inr (germ-map e l h g)) (zero-decided e)
-
   topology-germ : (k : Topology) (d : Vector) (l : Label) → IsDirection d → TopologyLabel k M d l → Germ (set_by k s) p d l
   topology-germ k d l h x = germ-by k s p d l (by-carried (MapLabel M d) (NearLabel M d) (Germ s p d) (NearGerm s p d) (map-germ d) (λ m. germ-map d m h) (near-map_germ d) (λ e m. near-germ_map d e m h) k l x)
 
   topology-mark : (k : Topology) (l : Label) → MarkLabel k M l → HasLabel (set_by k s) p l
-  topology-mark k l x = label-by s p k l (by-carried (λ m. M.mark ≡ m) (Full M) (HasLabel s p) (Germ s p) (λ m e. subst (HasLabel s p) e C.mark) (λ m h. label-one s p M.mark m C.mark h) full-germ germ-full k l x)
+  topology-mark k l x = label-by s p k l (by-carried (λ m. M.mark ≡ m) (Full M) (HasLabel s p) (Germ s p) (λ m e. subst (HasLabel s p) e C.mark) (λ m h. label-one s p M.mark m C.mark h) (germ-full M s p C) (full-germ M s p C) k l x)
 
 pub topology-cone : TopologyCone
 topology-cone k M N s p C V T = record {

@@ -1,8 +1,9 @@
 -- A circle of overlaid stars without an axis, on which op of two maps is straight, is the lone circle.
-use Rattle.law_sphere.proofs.building.Prelude.{◌≡◌, ℕ, pos, refl, sym, ◌∙◌, ◌⊎◌, inl, inr, ⊎_elim, ◌∷◌, ◌++◌, subst, Option, Some, None, [], ring, at, num, ◌⊕◌, ◌⊖◌, ◌⊗◌, Vector, IsDirection, cross, dot, IsZero, SameDirection, IsNormal, Label, lies-left, IsOnCircle, IsAt, MapSloop, Map, Item, sloop_item, items, item_normal, OnItem, IsFree, Valid, forms, Labelling, StraightAt, ByOp, Proper, normal-direction, PlaceOf, svertex_place, item_place, free_place, place_of, axes-forms, on-level, normals-same, at-sloop, level-same, op-labelling, planes-parallel, RawMap, Of, IsBare, IsAxis, IsLoneSloop, Raw, zero-decided, cross-turned, SameDirection-turned, SameDirection-trans, dir-self, some-some}
+use Rattle.law_sphere.proofs.building.Prelude.{◌≡◌, ℕ, pos, refl, sym, ◌∙◌, ◌⊎◌, inl, inr, ⊎_elim, ◌∷◌, ◌++◌, subst, Option, Some, None, [], ring, at, num, ◌⊕◌, ◌⊖◌, ◌⊗◌, Vector, IsDirection, cross, dot, IsZero, SameDirection, IsNormal, Label, lies-left, IsOnCircle, IsAt, MapSloop, Map, Item, sloop_item, items, item_normal, OnItem, IsFree, Valid, forms, Labelling, StraightAt, ByOp, Proper, normal-direction, PlaceOf, svertex_place, item_place, free_place, place_of, axes-forms, on-level, normals-same, at-sloop, level-same, op-labelling, planes-parallel, RawMap, Of, IsBare, IsAxis, IsLoneSloop, Raw, zero-decided, cross-turned, SameDirection-turned, SameDirection-trans, dir-self, is-at_first}
 use Rattle.law_sphere.proofs.building.SideLabels.{SidesAt, free-sides, item-sides, sides-at, joined-sides, free-joined}
 use Rattle.law_sphere.proofs.building.Merged.{is-of, straight-of, straight-two, off-second, one-plane, bare-off_axes}
 use Rattle.law_sphere.proofs.building.LoneSloops.{item-sloop, merged-sloop, no-sloop, lone-normal}
+use Rattle.std.proofs.lemmas.Option.{same_Some}
 
 -- the direction in which two planes meet
 meet-level : (n m : Vector) → (dot n (cross n m) ≡ pos 0) × (dot m (cross n m) ≡ pos 0)
@@ -33,8 +34,8 @@ module _ (A B : Map) (op : Label → Label → Label) (R : RawMap) (L : Vector �
       own e = subst (λ (r : MapSloop). IsZero (cross l.normal r.normal)) e (let w = dir-self l.normal (normal-direction l.normal (lone-normal A B op R L V W raw labels l p)) in w.parallel)
 
       by : (A.sloop ≡ Some l) ⊎ (B.sloop ≡ Some l) → (A.sloop ≡ Some c) ⊎ (B.sloop ≡ Some c) → IsZero (cross l.normal c.normal)
-      by (inl e) (inl f) = own (some-some l c (sym e ∙ f))
-      by (inr e) (inr f) = own (some-some l c (sym e ∙ f))
+      by (inl e) (inl f) = own (same_Some l c (sym e ∙ f))
+      by (inr e) (inr f) = own (same_Some l c (sym e ∙ f))
       by (inl e) (inr f) = lone-across l c p e f
       by (inr e) (inl f) = cross-turned c.normal l.normal (lone-across c l q f e)
 

@@ -1,5 +1,5 @@
 -- Where a builder makes neither svertex nor sloop, all directions have one label.
-use Rattle.law_sphere.proofs.building.Prelude.{◌≡◌, ℕ, ◌<◌, pos, arith, refl, ap, sym, ◌∙◌, inl, inr, ⊎_elim, List, map, subst, Option, Some, None, [], ints, Sign, sign, mul_pos, Vector, IsDirection, cross, dot, IsOpposite, blend, opposite, Label, Decided, IsAt, MapVertex, MapSloop, Map, by_side, Near, Plain, StraightAt, IsSmooth, plain, straight, Proper, Star, normal-direction, dot-comb, even-side, IsOpposite-decided, circle-point, Beside, same_way, other_way, beside, flipped, RawMap, Of, svertex_at, IsRawLabel, dot-comm, zero-decided, dot-zero, self-pos, in-span, some-some, is-at_none}
+use Rattle.law_sphere.proofs.building.Prelude.{◌≡◌, ℕ, ◌<◌, pos, arith, refl, ap, sym, ◌∙◌, inl, inr, ⊎_elim, List, map, subst, Some, None, [], ints, Sign, sign, mul_pos, Vector, IsDirection, cross, dot, IsOpposite, blend, opposite, Label, Decided, IsAt, MapVertex, MapSloop, Map, by_side, Near, Plain, StraightAt, IsSmooth, plain, straight, Proper, Star, normal-direction, dot-comb, even-side, IsOpposite-decided, circle-point, Beside, same_way, other_way, beside, flipped, RawMap, Of, svertex_at, IsRawLabel, dot-comm, zero-decided, dot-zero, self-pos, in-span, is-at_first, is-at_none}
 use Rattle.law_sphere.proofs.Walk.{between-direction, carried}
 use Rattle.law_sphere.proofs.Builder.{normal-either}
 use Rattle.law_sphere.proofs.building.BuiltLabels.{with_axes, labelling}
@@ -7,6 +7,7 @@ use Rattle.law_sphere.proofs.building.BuiltAxes.{IsMadeOfStars, map-empty, smoot
 use Rattle.law_sphere.proofs.building.BuiltSloops.{sloop-all}
 use Rattle.law_near.proofs.Decisions.{same-label_or}
 use Rattle.law_sphere.proofs.building.RawGround.{not-both}
+use Rattle.std.proofs.lemmas.Option.{same_Some}
 
 module _ (gs : List Vector) (L : Vector → Label) (R : RawMap) (M : Map) (C : IsMadeOfStars gs L R M) where
   abbrev F : Vector → Label → Type 0
@@ -80,7 +81,7 @@ module _ (gs : List Vector) (L : Vector → Label) (R : RawMap) (M : Map) (C : I
 
   -- ---- the one face
   pub ground-label : (m : Label) (d : Vector) → M.ground ≡ Some m → IsDirection d → F d m
-  ground-label m d e hd = by (subst (IsRawLabel R) (some-some g.0 m (sym g.1 ∙ e)) g.2)
+  ground-label m d e hd = by (subst (IsRawLabel R) (same_Some g.0 m (sym g.1 ∙ e)) g.2)
     where
       n : (kept ≡ []) × (M.sloop ≡ None)
       n = C.built.ground_not m e

@@ -1,5 +1,5 @@
 -- A star that is kept stands at a direction that is neither plain nor straight.
-use Rattle.law_sphere.proofs.building.Prelude.{◌≡◌, ℕ, zero, ◌+◌, arith, refl, ap, sym, ◌∙◌, inl, inr, ⊎_elim, ◌↔◌, List, ◌∷◌, subst, length, [], sign, Vector, IsDirection, cross, dot, blend, Label, IsAt, MapVertex, Map, MapLabel, NearLabel, Valid, by_side, NearPlain, NearStraight, Least, Ordered, Near, PlainAt, StraightAt, IsSmooth, plain, straight, NoneSmooth, Star, in_only_sector, IsPlain, IsSimplified, StarShows, amount, circle-point, far_directed-by, built-valid, built-labels, plain-no_ray, straight-rays, RawMap, Of, IsLabelling, sector_count, ShowsLabels, IsRawOf, AreSimplified, IsBuiltFrom, square-cross, nought-if, level_cross_second, none-empty}
+use Rattle.law_sphere.proofs.building.Prelude.{◌≡◌, ℕ, zero, ◌+◌, arith, refl, ap, sym, ◌∙◌, inl, inr, ⊎_elim, ◌↔◌, List, ◌∷◌, subst, length, [], sign, Vector, IsDirection, cross, dot, blend, Label, IsAt, MapVertex, Map, MapLabel, NearLabel, Valid, by_side, NearPlain, NearStraight, Least, Ordered, Near, PlainAt, StraightAt, IsSmooth, plain, straight, NoneSmooth, Star, in_only_sector, IsPlain, IsSimplified, StarShows, amount, circle-point, far_directed-by, built-valid, built-labels, plain-no_ray, straight-rays, RawMap, Of, IsLabelling, sector_count, ShowsLabels, IsRawOf, AreSimplified, IsBuiltFrom, square-cross, nought-if, level_cross_second, is-at_nowhere}
 use Rattle.law_sphere.proofs.building.BuiltLabels.{with_axes, labelling, axial, labels-build}
 use Rattle.law_sphere.proofs.building.RayStraight.{off-axis}
 use Rattle.law_sphere.proofs.building.StarRays.{two-straight, rays-apart}
@@ -57,7 +57,7 @@ module _ (gs : List Vector) (L : Vector → Label) (R : RawMap) (M : Map) (C : I
         let axis = S.star.axis in
         let e = circle-point t.axis axis in
         let P : NearPlain M t.axis = record { label = m; at_d = (labels t.axis m axis).1 p.at_d; near = λ v f. near-map t.axis v m axis (p.near v) } in
-        let none = none-empty t.rays (plain-no_ray t M valid (star-shows t S) (kept-simple gs L R M C k t h) P) in
+        let none = is-at_nowhere t.rays (plain-no_ray t M valid (star-shows t S) (kept-simple gs L R M C k t h) P) in
         C.built.kept_needed k t h (inl (no-ray-plain t L S none e.0 (off-axis t.axis e.0 axis e.1.direction e.1.level) (subst (Near F t.axis e.0) (sym p.at_d ∙ S.mark) (p.near e.0))))
 
     kept-not_straight : (n : Vector) (a m b : Label) → IsDirection n → StraightAt F n a m b t.axis → ⊥

@@ -14,7 +14,7 @@ pub use Rattle.law_sphere.proofs.Forms.{PlaceOf, axes-forms, free_place, item_pl
 pub use Rattle.law_sphere.proofs.Generic.{amount, far-keeps, far-level}
 pub use Rattle.law_sphere.proofs.Labellings.{op-labelling}
 pub use Rattle.law_sphere.proofs.Labels.{label-by_signs, label-direction, label-exists, label-unique}
-pub use Rattle.law_sphere.proofs.Lists.{Found, none-at, none-empty, search_list, some-some}
+pub use Rattle.law_sphere.proofs.Lists.{Found, none-at, search_list}
 pub use Rattle.law_sphere.proofs.Parallel.{arc-point, circle-point, past_source}
 pub use Rattle.law_sphere.proofs.Places.{IsOpposite-decided, IsStrictlyOn-stays, SameDirection-decided, parallel-back}
 pub use Rattle.law_sphere.proofs.Shot.{arc-at, dir-at}
@@ -30,4 +30,4 @@ pub use Rattle.law_sphere.specs.Raw.{IsBare, IsLabelling, IsRawOf, IsWellFormed,
 pub use Rattle.law_sphere.specs.building.From.{AreSimplified, IsArcFrom, IsBuiltFrom, IsKeptRaw, IsKeptStar, IsRawLabel, IsSloopFrom, around_of, raw_sloop, sloop_at, straight_sloop, svertex_at}
 pub use Rattle.law_sphere.specs.building.Laws.{MapLabelling, OpLabelling, RawShowsOp}
 pub use Rattle.law_sphere.specs.building.Overlays.{HasSvertexOrSloop, IsAxis, IsLoneSloop, IsMergedGround, IsMergedSloop, NearByOp, OnSvertex, Raw}
-pub use Rattle.nef_space.proofs.Lists.{is-at_one}
+pub use Rattle.nef_space.proofs.Lists.{is-at_one, is-at_nowhere}

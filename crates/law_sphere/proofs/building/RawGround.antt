@@ -1,8 +1,9 @@
 -- The one face of overlaid maps without items, and what overlaid stars show.
-use Rattle.law_sphere.proofs.building.Prelude.{◌≡◌, ℕ, zero, refl, ap, sym, ◌∙◌, ◌⊎◌, inl, inr, ⊎_elim, List, ◌∷◌, subst, Option, Some, None, [], MatchOption, IsSome, Vector, IsDirection, Label, IsAt, MapVertex, MapSloop, Map, Item, arc_item, sloop_item, items, Side, around_svertex, pos_item, neg_item, whole, HasSide, MapLabel, at_svertex, on_item, seen, Shaped, Valid, Star, ByOp, arc-at, sloop-at, ends-of, RawMap, OnSvertex, IsAxis, IsMergedGround, HasSvertexOrSloop, Raw, RawShowsOp, dir-self, some-some, none-at}
+use Rattle.law_sphere.proofs.building.Prelude.{◌≡◌, ℕ, zero, refl, ap, sym, ◌∙◌, ◌⊎◌, inl, inr, ⊎_elim, List, ◌∷◌, subst, Option, Some, None, [], MatchOption, IsSome, Vector, IsDirection, Label, IsAt, MapVertex, MapSloop, Map, Item, arc_item, sloop_item, items, Side, around_svertex, pos_item, neg_item, whole, HasSide, MapLabel, at_svertex, on_item, seen, Shaped, Valid, Star, ByOp, arc-at, sloop-at, ends-of, RawMap, OnSvertex, IsAxis, IsMergedGround, HasSvertexOrSloop, Raw, RawShowsOp, dir-self, is-at_first, none-at}
 use Rattle.law_sphere.proofs.building.Merged.{no-axis, raw-smooth, raw-shows}
 use Rattle.law_sphere.proofs.building.LoneSloops.{merged-sloop, no-sloop, raw-sloop_normal, raw-sloop_bare, raw-sloop_labels}
 use Rattle.law_sphere.proofs.building.AllSloops.{raw-sloop_all}
+use Rattle.std.proofs.lemmas.Option.{same_Some}
 
 pub not-both : {A : Type 0} (o : Option A) (x : A) → o ≡ None → o ≡ Some x → ⊥
 not-both o x e f = cc
@@ -25,7 +26,7 @@ module _ (M : Map) (V : Shaped M) (no_svertex : M.svertices ≡ []) (no_sloop : 
       by (around_svertex i) (v, a, q) = absurd (none-at M.svertices i v no_svertex a)
       by (pos_item i) (x, a, q) = absurd (no-item i x a)
       by (neg_item i) (x, a, q) = absurd (no-item i x a)
-      by whole q = some-some m k (sym q ∙ e)
+      by whole q = same_Some m k (sym q ∙ e)
 
 -- a map with a svertex has one
 first-svertex : (M : Map) → (M.svertices ≡ [] → ⊥) → (v : MapVertex) × IsAt M.svertices zero v

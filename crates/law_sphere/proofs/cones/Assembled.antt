@@ -1,5 +1,5 @@
 -- The map of a labelling, put together from its svertices, arcs and sloop.
-use Rattle.law_sphere.proofs.cones.Prelude.{◌≡◌, ℕ, pos, refl, sym, ◌∙◌, ◌⊎◌, inl, inr, ⊎_elim, List, ◌++◌, subst, Option, Some, None, [], none-some, same_Some, lies-left, lies-right, Vector, IsDirection, cross, dot, SameDirection, IsNormal, Label, Decided, IsStrictlyOn, IsPrimitive, IsAt, MapVertex, Arc, MapSloop, Map, Item, arc_item, sloop_item, items, item_normal, dir_of, OnItem, ArcBetween, HasArc, axes, Ordered, Labelling, Near, StraightAfter, IsBuilt, NoneSmooth, lowest-same, sloop-at, Axial, labelling-more, SameDirection-turned, none-at, none-empty}
+use Rattle.law_sphere.proofs.cones.Prelude.{◌≡◌, ℕ, pos, refl, sym, ◌∙◌, ◌⊎◌, inl, inr, ⊎_elim, List, ◌++◌, subst, Option, Some, None, [], none-some, same_Some, lies-left, lies-right, Vector, IsDirection, cross, dot, SameDirection, IsNormal, Label, Decided, IsStrictlyOn, IsPrimitive, IsAt, MapVertex, Arc, MapSloop, Map, Item, arc_item, sloop_item, items, item_normal, dir_of, OnItem, ArcBetween, HasArc, axes, Ordered, Labelling, Near, StraightAfter, IsBuilt, NoneSmooth, lowest-same, sloop-at, Axial, labelling-more, SameDirection-turned, none-at, is-at_nowhere}
 use Rattle.law_sphere.proofs.Shot.{dir-at, arc-at}
 use Rattle.law_sphere.proofs.Unique.{HasArc-decided, beside-d}
 use Rattle.law_sphere.proofs.cones.Listing.{Mapped, map-list}
@@ -151,8 +151,8 @@ module _ (gs : List Vector) (F : Vector → Label → Type 0) (L : Labelling gs 
     around_lone = around-lone;
     around_not = around-not;
     around_near = around-near;
-    ground_alone = λ e o. K.alone (none-empty W.list (λ k w h. let r = at-dir k w h in none-at svertices.list k r.0 e r.1)) o;
-    ground_not = λ m q. let r = K.only m q in (none-empty svertices.list (λ k v a. none-at W.list k v.dir r.0 (listed k v a)), r.1);
+    ground_alone = λ e o. K.alone (is-at_nowhere W.list (λ k w h. let r = at-dir k w h in none-at svertices.list k r.0 e r.1)) o;
+    ground_not = λ m q. let r = K.only m q in (is-at_nowhere svertices.list (λ k v a. none-at W.list k v.dir r.0 (listed k v a)), r.1);
     ground_label = λ m d q h. K.everywhere m d q h;
   }
     where

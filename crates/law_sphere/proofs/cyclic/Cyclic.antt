@@ -174,10 +174,10 @@ holds_at_four test t n a b c d g =
 abc : (n a b c d : Vector) → AboutFour n a b c d → AboutThree n a b c
 abc n a b c d g = record { axis = g.axis; first = g.first; second = g.second; third = g.third }
 
-abd : (n a b c d : Vector) → AboutFour n a b c d → AboutThree n a b d
+pub abd : (n a b c d : Vector) → AboutFour n a b c d → AboutThree n a b d
 abd n a b c d g = record { axis = g.axis; first = g.first; second = g.second; third = g.fourth }
 
-acd : (n a b c d : Vector) → AboutFour n a b c d → AboutThree n a c d
+pub acd : (n a b c d : Vector) → AboutFour n a b c d → AboutThree n a c d
 acd n a b c d g = record { axis = g.axis; first = g.first; second = g.third; third = g.fourth }
 
 bcd : (n a b c d : Vector) → AboutFour n a b c d → AboutThree n b c d

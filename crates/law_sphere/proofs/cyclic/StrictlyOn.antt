@@ -1,5 +1,5 @@
 -- The rule of the eight classes of five signs is that the direction is strictly on the arc.
-use Rattle.law_sphere.proofs.cyclic.Prelude.{ℤ, ◌<ℤ◌, Bool, sym, subst, ◌↔◌, between_signs, Vector, dot, triple, IsDirection, SameDirection, IsOnCircle, IsStrictlyOn, self-pos, SameDirection-turned}
+use Rattle.law_sphere.proofs.cyclic.Prelude.{ℤ, Bool, sym, subst, ◌↔◌, between_signs, Vector, dot, triple, IsDirection, SameDirection, IsOnCircle, IsStrictlyOn, self-pos, SameDirection-turned}
 use lib.Dec.{T}
 use Rattle.law_sphere.proofs.cyclic.Signs.{sgn, is_zero, is_plus, is_not, both, rule, cases_from_test, test_from_cases, plus_is, is_plus_if, zero_is, is_zero_if, both_left, both_right, both_of, not_of, not_is, Related, between_is_rule}
 use Rattle.law_sphere.proofs.cyclic.Planar.{turn_law, along_law, parallel_from_turn, turn_from_parallel, turn_or_dot}
@@ -69,9 +69,6 @@ rule_from_strict n s t d g h =
       more = h.more_than_half;
       half = λ e k. h.just_half (record { parallel = parallel_from_turn n s t (self-pos n g.normal) g.source.level g.target.level e; backward = k });
     })))
-
-pub strictly_on_is_rule : (n s t d : Vector) → Setting n s t d → T (passes_test n s d t) ↔ IsStrictlyOn n s t d
-strictly_on_is_rule n s t d g = (strict_from_rule n s t d g, rule_from_strict n s t d g)
 
 pub strictly_on_is : (n s t d : Vector) → Setting n s t d →
     T (between_signs (sgn (triple n s t)) (sgn (dot s t)) (sgn (triple n s d)) (sgn (dot s d)) (sgn (triple n d t))) ↔ IsStrictlyOn n s t d

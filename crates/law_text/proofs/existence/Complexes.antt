@@ -1,9 +1,10 @@
 -- Every set whose carriers are planes has a complex that shows it: its vertices are finitely many, each point has a least map, and so there are all edges.
-use Rattle.law_text.proofs.existence.Prelude.{◌≡◌, ℕ, ℤ, ◌*ℤ◌, refl, sym, List, ◌∷◌, subst, map, [], ring, at, ◌⊗◌, Lies, SpacePoint, Form, normal_of, SamePoint, IsPointBelow, Set, IsVertex, IsDirection, carriers, point_below-trans, same-point_sym, all-vertices, InOrder, Least, Ordered, Cone, IsAt, Mapped, map-list, Sorted, sort, chain-order, same-itself, same-point_trans, Vertex, Edge, Edges, SamePlane, Carriers, Shows, AreVertices, EverySetHasVertices, VerticesHaveEdges, HasPlanes, EverySetIsShown, lies-at, at-lies}
+use Rattle.law_text.proofs.existence.Prelude.{◌≡◌, ℕ, refl, sym, List, subst, map, at, Lies, SpacePoint, Form, normal_of, SamePoint, IsPointBelow, Set, IsVertex, IsDirection, carriers, point_below-trans, same-point_sym, all-vertices, InOrder, Least, Ordered, Cone, IsAt, Mapped, map-list, Sorted, sort, chain-order, same-point_trans, Vertex, Edge, Edges, SamePlane, Carriers, Shows, AreVertices, EverySetHasVertices, VerticesHaveEdges, HasPlanes, EverySetIsShown, lies-at, at-lies}
 use Rattle.law_sphere.proofs.cones.Cones.{point-map}
 use Rattle.nef_edges.proofs.Existing.{edges-exist}
-use Rattle.law_text.proofs.existence.Orders.{FormBelow, form-trans, form-either}
-use Rattle.law_turns.proofs.ListsExist.{place-either}
+use Rattle.law_text.proofs.existence.Orders.{form-trans}
+use Rattle.law_turns.proofs.ListsExist.{place-either, form-either, FormBelow}
+use Rattle.nef_space.proofs.Elementary.{times-comm, same-itself}
 
 -- ---- vertices
 pub record IsVertexAt (s : Set) (p : SpacePoint) (v : Vertex) : Type 0 where
@@ -70,10 +71,7 @@ vertex_edges s vs V = edges-exist vs V.ordered (λ k v a. (V.cones k v a).valid.
 
 -- ---- carriers
 plane-itself : (f : Form) → IsDirection (normal_of f) → SamePlane f f
-plane-itself f i = record { is_plane = i; is_other_plane = i; ab = turned f.a f.b; ac = turned f.a f.c; ad = turned f.a f.d; bc = turned f.b f.c; bd = turned f.b f.d; cd = turned f.c f.d }
-  where
-    turned : (a b : ℤ) → a *ℤ b ≡ b *ℤ a
-    turned a b = ring (a ∷ b ∷ []) (at 0 ⊗ at 1) (at 1 ⊗ at 0) tt
+plane-itself f i = record { is_plane = i; is_other_plane = i; ab = times-comm f.a f.b; ac = times-comm f.a f.c; ad = times-comm f.a f.d; bc = times-comm f.b f.c; bd = times-comm f.b f.d; cd = times-comm f.c f.d }
 
 pub carriers-exist : (s : Set) → HasPlanes s → (hs : List Form) × Carriers s hs
 carriers-exist s planes = by (sort FormBelow (λ g h. g ≡ h) form-trans (λ g. refl) form-either (carriers s))

@@ -7,6 +7,7 @@ use Rattle.law_near.proofs.FlatDecided.{flat_dim-decided}
 use Rattle.law_near.proofs.Points.{settled-segment_points}
 use Rattle.law_near.proofs.Representatives.{representative_points, representative_point}
 use Rattle.law_text.proofs.existence.Classes.{decided-classes}
+use Rattle.law_complex.proofs.links.Ties.{joint-itself}
 
 -- ---- signs
 sign-decided : (a b : Sign) → Decided (a ≡ b)
@@ -44,14 +45,9 @@ module _ (s : Set) where
       sym (sign-mixed h (of_point p) (of_point r) (of_point q) (mixed-of p r q b) o.0 ∙ o.1))
       (λ n.
       let e = keep h l n in
-      let o = subst (λ (t : Sign). (opposite_signs (sign_at h p) t ≡ false) × (joint (sign_at h p) t ≡ t)) (sym e) (alike (sign_at h p)) in
+      let o = subst (λ (t : Sign). (opposite_signs (sign_at h p) t ≡ false) × (joint (sign_at h p) t ≡ t)) (sym e) (joint-itself (sign_at h p)) in
       sym (sign-mixed h (of_point p) (of_point r) (of_point q) (mixed-of p r q b) o.0 ∙ o.1))
       (is_nought (sign_at h p))
-    where
-      alike : (t : Sign) → (opposite_signs t t ≡ false) × (joint t t ≡ t)
-      alike minus = (refl, refl)
-      alike nought = (refl, refl)
-      alike plus = (refl, refl)
 
   adjacent-joined : (k : ℕ) (p q : SpacePoint) → Adjacent k p q → Joined s p q
   adjacent-joined k p q (f, g, keep) = joined-even s k p q (even-by s k p q f (λ r b. dim-cell s q r k (between-signs p q r keep b) g) g)

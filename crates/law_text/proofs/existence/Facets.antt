@@ -1,11 +1,12 @@
 -- The items of a complex that shows a set have facet numbers: items whose points are joined have one.
-use Rattle.law_text.proofs.existence.Prelude.{◌≡◌, ℕ, ◌<◌, ◌≤◌, refl, inr, ◌↔◌, List, subst, IsAt, Chained, FlatDim, SpacePoint, Set, Item, items, Vertex, Complex, Corner, IsCorner, Shows, same-itself, FacetLink, IsAtItem, joined-items_linked, is-at_within, is-at_some, count_items, IsFacetOf, FacetNumbers}
+use Rattle.law_text.proofs.existence.Prelude.{◌≡◌, ℕ, ◌<◌, ◌≤◌, refl, inr, ◌↔◌, List, subst, IsAt, Chained, FlatDim, SpacePoint, Set, Item, items, Vertex, Complex, Corner, IsCorner, Shows, FacetLink, IsAtItem, joined-items_linked, is-at_within, is-at_some, count_items, IsFacetOf, FacetNumbers}
 use Rattle.law_complex.proofs.links.ItemLinks.{items-joined}
 use Rattle.law_complex.proofs.links.ItemPoints.{items-have_points}
 use Rattle.law_text.proofs.existence.Connected.{class-number, class-same}
 use Rattle.law_text.proofs.existence.Elements.{Elements, elements}
 use Rattle.law_text.proofs.existence.Numbering.{Numbered, number-all, NumberTable, Placed, PairBelow, table, placed, has-place}
-use Rattle.nef_conn.proofs.OneNamed.{corners-same}
+use Rattle.law_complex.proofs.Equal.{corners-equal}
+use Rattle.nef_space.proofs.Elementary.{same-itself}
 
 pub record ItemAt (C : Complex) : Type 0 where
   pub corner : Corner
@@ -72,7 +73,7 @@ module _ (s : Set) (C : Complex) (S : Shows s C) where
               put : (k : Corner) (n : ℕ) → IsFacetOf T.rows k n → (p : ℕ) × (x : ItemAt C) × IsAt E.list p x × (x.corner ≡ k) × IsAt N.list p n
               put k n h =
                   let (p, x, a, e, f, c) = placed (row-of C) (col-of C) E.list E.ordered C.vertices count_items E.complete (item-sound C E.list) N.list N.as_many k.vertex k.item n h in
-                  (p, x, a, corners-same x.corner k e f, c)
+                  (p, x, a, corners-equal x.corner k e f, c)
 
               by-class : (j k : Corner) (m n : ℕ) → IsFacetOf T.rows j m → IsFacetOf T.rows k n → (m ≡ n) ↔ Chained (FacetLink C) j k
               by-class j k m n g h =

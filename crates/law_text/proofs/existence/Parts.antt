@@ -1,5 +1,5 @@
 -- Every complex of the program that shows a set has parts.
-use Rattle.law_text.proofs.existence.Prelude.{◌≡◌, ℕ, zero, suc, ◌<◌, ◌≤◌, pos, arith, refl, sym, ap, ◌⊎◌, inl, inr, ⊎_elim, List, length, subst, cases_order, IsAt, IsInTable, Form, form_at, normal_of, Set, IsNormal, SameDirection, Label, Out, form_of, Plane, Item, items, item_normal, item_mark, item_pos, item_neg, Vertex, Corner, Complex as PlainComplex, VertexSide, HasSideLabel, Shows, IsUpright, is-at_one, is-at_within, is-at_some, AreSfaces, is-at_map, vertex_of, complex_of, corner_of, Cycles, IsSideNumber, cycle_corners, IsFacetOf, IsVolumeOf, FacetNumbers, VolumeNumbers, pos_of, neg_of, shell_sides, IsParts, SfaceNumbers, Shells, Cycle, Facet, Parts, Shell, carried, HasItem, AreCorners, IsPlaneAt, IsMarkAt, AreFirsts, IsFacetParts, AreVolumeLabels, HasVolumesBeside, AreFacetsOf, HasLeastMaps, upright-by_maps, chain-label, numbered-side, neg}
+use Rattle.law_text.proofs.existence.Prelude.{◌≡◌, ℕ, suc, ◌<◌, ◌≤◌, pos, arith, refl, sym, ap, ◌⊎◌, inl, inr, ⊎_elim, List, length, subst, cases_order, IsAt, IsInTable, Form, form_at, normal_of, Set, IsNormal, SameDirection, Label, Out, form_of, Plane, Item, items, item_normal, item_mark, item_pos, item_neg, Vertex, Corner, Complex as PlainComplex, VertexSide, HasSideLabel, Shows, IsUpright, is-at_one, is-at_within, is-at_some, AreSfaces, is-at_map, vertex_of, complex_of, corner_of, Cycles, IsSideNumber, cycle_corners, IsFacetOf, IsVolumeOf, FacetNumbers, VolumeNumbers, pos_of, neg_of, shell_sides, IsParts, SfaceNumbers, Shells, Cycle, Facet, Parts, Shell, carried, HasItem, AreCorners, IsPlaneAt, IsMarkAt, AreFirsts, IsFacetParts, AreVolumeLabels, HasVolumesBeside, AreFacetsOf, HasLeastMaps, upright-by_maps, chain-label, numbered-side, neg}
 use Rattle.nef_complex.specs.declared.complex.Corner.{Corner as ProgramCorner}
 use Rattle.nef_complex.specs.declared.complex.Complex.{Complex}
 use Rattle.nef_facets.specs.Carriers.{IsPlaneThrough}
@@ -14,6 +14,8 @@ use Rattle.law_text.proofs.existence.Sfaces.{sfaces-exist}
 use Rattle.law_text.proofs.existence.Shells.{shells-are}
 use Rattle.law_text.proofs.existence.Shown.{shown-maps}
 use Rattle.law_text.proofs.existence.Volumes.{SideAt, side-row, side-col, volume-numbers, all-sides, side-make, number-label}
+use Rattle.std.proofs.Math.Nat.{eq-zero-or-pos}
+use Rattle.nef_volumes.proofs.Components.{volume-side}
 
 -- ---- facets
 module _ (s : Set) (c : Complex) (S : Shows s (complex_of c)) where
@@ -83,9 +85,6 @@ module _ (s : Set) (C : PlainComplex) (S : Shows s C) (U : IsUpright C) (out : (
       by : ((v : Vertex) × IsAt C.vertices i v) → (x : VertexSide) × (l : Label) × IsVolumeOf C rows x n × HasSideLabel C x l
       by (v, c) = made (side-make C i k v c (let l = is-at_within row k n b in let f = (N.shape).row i v row c a in omega (arith, l, f)))
 
-  of-volume : (x : VertexSide) (n : ℕ) → IsVolumeOf C rows x n → (l : Label) × HasSideLabel C x l
-  of-volume x n (j, J, h) = (J.label, number-label C x j J)
-
   pub labels-exist : (ls : List Label) × AreVolumeLabels C rows ls
   labels-exist = by (most-in rows)
     where
@@ -107,21 +106,17 @@ module _ (s : Set) (C : PlainComplex) (S : Shows s C) (U : IsUpright C) (out : (
           volume : (n : ℕ) → n < suc m → (l : Label) × HasVolume n l
           volume n l = ⊎_elim (λ e. subst (λ j. (l : Label) × HasVolume j l) (sym e) outside)
               (λ o. ⊎_elim (λ e. subst (λ j. (l : Label) × HasVolume j l) (sym e) (last got)) (λ o. ⊎_elim (λ less. before n less) (λ h. absurd (omega (arith, h, l))) o) (cases_order n m))
-              (zero-or n)
+              (eq-zero-or-pos n)
             where
-              zero-or : (n : ℕ) → (n ≡ 0) ⊎ (1 ≤ n)
-              zero-or zero = inl refl
-              zero-or (suc n) = inr (omega arith)
-
               before : (n : ℕ) → n < m → (l : Label) × HasVolume n l
               before n less =
                   ⊎_elim (λ e. subst (λ j. (l : Label) × HasVolume j l) (sym e) outside)
                   (λ low.
                   let (l, (x, a, b)) = last got in
                   let (y, d, f) = N.numbered.by_appearance x n m a low less in
-                  let (k, g) = of-volume y n f in
+                  let (k, g) = volume-side C rows y n f in
                   (k, (y, f, g)))
-                  (zero-or n)
+                  (eq-zero-or-pos n)
 
           then : Made (suc m) HasVolume → (ls : List Label) × AreVolumeLabels C rows ls
           then M = (

@@ -1,10 +1,12 @@
 -- A set whose carriers are planes of the program has a sorted list of these; its vertices are points of the program.
-use Rattle.law_text.proofs.existence.Prelude.{◌≡◌, ℕ, pos, negsuc, refl, sym, ap, ◌∙◌, ◌⊎◌, inl, inr, ⊎_elim, List, ◌∷◌, map, subst, [], nought-is, each, lies-each, at, num, ◌⊖◌, ◌⊗◌, follows, given, none, nought, Lies, SpacePoint, Form, form_at, normal_of, SamePoint, Set, IsVertex, Vector, cross, triple, IsZero, IsDirection, sign_at, carriers, IsMeet, signs-same, same-point_sym, FlatDim-by_germs, germs-by_cell, all-vertices, IsAt, InOrder, Mapped, map-list, Sorted, sort, chain-order, SamePlane, Carriers, plane-turned, plane-point, same-point_trans, form_of, point_of, Plane, Point, is-at_map, map-is_at, AreCarried, triple-cycle, cross-turned, dot-comm, in-span, lies-at, at-lies}
+use Rattle.law_text.proofs.existence.Prelude.{◌≡◌, ℕ, pos, negsuc, refl, sym, ap, ◌∙◌, ◌⊎◌, inl, inr, ⊎_elim, List, ◌∷◌, map, subst, [], nought-is, each, lies-each, at, num, ◌⊖◌, ◌⊗◌, follows, given, none, nought, Lies, SpacePoint, Form, form_at, normal_of, SamePoint, Set, IsVertex, Vector, cross, triple, IsZero, IsDirection, sign_at, carriers, IsMeet, same-point_sym, all-vertices, IsAt, InOrder, Mapped, map-list, Sorted, sort, chain-order, SamePlane, Carriers, plane-turned, plane-point, same-point_trans, form_of, point_of, Plane, Point, is-at_map, map-is_at, AreCarried, triple-cycle, cross-turned, dot-comm, in-span, lies-at, at-lies}
 use Rattle.law_near.proofs.Meets.{vertex-meets}
 use Rattle.nef_geo.proofs.Unique.{plane_equal}
-use Rattle.law_text.proofs.existence.Orders.{FormBelow, form-trans, form-either}
+use Rattle.law_text.proofs.existence.Orders.{form-trans}
 use Rattle.law_text.proofs.existence.Complexes.{AreAllVertices, Complete}
 use Rattle.law_text.proofs.existence.Points.{meet-point}
+use Rattle.law_near.proofs.Same.{IsVertex-same}
+use Rattle.law_turns.proofs.ListsExist.{form-either, FormBelow}
 
 -- what lies in an image is the image of an element
 pub lies-image : {A B : Type 0} (f : A → B) (xs : List A) (y : B) → Lies (each f xs) y → (x : A) × Lies xs x × (f x ≡ y)
@@ -116,9 +118,6 @@ module _ (s : Set) (hs : List Plane) (C : AreCarried s hs) where
     pub sound : AreAllVertices s (each point_of list)
     pub complete : Complete s (each point_of list)
 
-  vertex-same : (p q : SpacePoint) → SamePoint p q → IsVertex s p → IsVertex s q
-  vertex-same p q e h = FlatDim-by_germs s s p q (germs-by_cell s p q (signs-same (carriers s) p q e)) 0 h
-
   pub points : PointList
   points = by (all-vertices s)
     where
@@ -128,7 +127,7 @@ module _ (s : Set) (hs : List Plane) (C : AreCarried s hs) where
           then : Mapped ps (λ k p q. IsVertex s p × SamePoint p (point_of q)) → PointList
           then m = record {
             list = m.list;
-            sound = λ q l. let x = lies-image point_of m.list q l in let k = lies-at m.list x.0 x.1 in let p = m.sound k.0 x.0 k.1 in subst (IsVertex s) x.2 (vertex-same p.0 (point_of x.0) p.2.1 p.2.0);
+            sound = λ q l. let x = lies-image point_of m.list q l in let k = lies-at m.list x.0 x.1 in let p = m.sound k.0 x.0 k.1 in subst (IsVertex s) x.2 (IsVertex-same s p.0 (point_of x.0) p.2.1 p.2.0);
             complete = λ p h.
                 let f = all p h in
                 let k = lies-at ps f.0 f.1 in

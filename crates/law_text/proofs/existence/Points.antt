@@ -1,7 +1,8 @@
 -- A point at which three planes of the program with independent normals meet is one of the program's points.
-use Rattle.law_text.proofs.existence.Prelude.{◌≡◌, ℕ, ◌*◌, ◌≤◌, ℤ, pos, negsuc, neg_ℤ, ◌*ℤ◌, ◌<ℤ◌, nat_abs, arith, ◌∷◌, of_z, [], ints, by_order, at, num, neg, ◌⊗◌, follows, given, none, normal_limit, offset_limit, point_limit, weight_limit, SpacePoint, Form, form_at, normal_of, SamePoint, vector, cross, IsAtMost, IsReduced, IsSameRatios, point_of, form_of, Plane, Point, part_small, part_positive, dot_size, cross_size, normal_within}
+use Rattle.law_text.proofs.existence.Prelude.{◌≡◌, ◌*◌, ◌≤◌, ℤ, pos, negsuc, neg_ℤ, ◌*ℤ◌, ◌<ℤ◌, nat_abs, arith, ◌∷◌, of_z, [], ints, by_order, at, num, neg, ◌⊗◌, follows, given, none, normal_limit, offset_limit, point_limit, weight_limit, SpacePoint, Form, form_at, normal_of, SamePoint, vector, cross, IsAtMost, IsReduced, IsSameRatios, point_of, form_of, Plane, Point, part_small, part_positive, dot_size, cross_size, normal_within}
 use Rattle.nef_geo.proofs.Cramer.{constants, meet_x, meet_y, meet_z, meet_w, IsOnlyCommon-from_ratios}
 use Rattle.law_text.proofs.existence.Reduced.{reduce}
+use Rattle.nef_space.proofs.Elementary.{size-opposite_within}
 
 -- the point with these numbers, reduced
 pub point-with : (x y z w : ℤ) → nat_abs x ≤ point_limit → nat_abs y ≤ point_limit → nat_abs z ≤ point_limit → nat_abs w ≤ weight_limit → pos 0 <ℤ w → (q : Point) × IsReduced x y z w q.x q.y q.z q.w
@@ -57,9 +58,6 @@ module _ (f g h : Plane) where
   w-small : nat_abs (meet_w F G H) ≤ weight_limit
   w-small = dot_size normal_limit (2 * (normal_limit * normal_limit)) (normal_of F) (cross (normal_of G) (normal_of H)) (normal_within f) gh
 
-  turned-size : (n : ℕ) (x : ℤ) → nat_abs x ≤ n → nat_abs (neg_ℤ x) ≤ n
-  turned-size n x l = omega (arith, ints, l)
-
   -- the ratio -m : w by the reduced one of -m : w, or of m : -w
   ratio : (m w k x w' : ℤ) → neg_ℤ m ≡ k *ℤ x → w ≡ k *ℤ w' → neg_ℤ m *ℤ w' ≡ x *ℤ w
   ratio m w k x w' e q = follows (m ∷ w ∷ k ∷ x ∷ w' ∷ []) (neg (at 0) ⊗ at 4) (at 3 ⊗ at 1) (given (at 4) (neg (at 0)) (at 2 ⊗ at 3) e (given (num (negsuc 0) ⊗ at 3) (at 1) (at 2 ⊗ at 4) q none)) tt
@@ -73,7 +71,7 @@ module _ (f g h : Plane) where
   with-ratios : (meet_w F G H ≡ pos 0 → ⊥) → (q : Point) × Ratios q
   with-ratios some = by_order (meet_w F G H) (pos 0)
       (λ l.
-      let (q, R) = point-with (meet_x F G H) (meet_y F G H) (meet_z F G H) (neg_ℤ (meet_w F G H)) x-small y-small z-small (turned-size weight_limit (meet_w F G H) w-small) (omega (arith, ints, l)) in (
+      let (q, R) = point-with (meet_x F G H) (meet_y F G H) (meet_z F G H) (neg_ℤ (meet_w F G H)) x-small y-small z-small (size-opposite_within weight_limit (meet_w F G H) w-small) (omega (arith, ints, l)) in (
         q,
         record {
           along_x = ratio-turned (meet_x F G H) (meet_w F G H) R.factor q.x q.w R.x_is R.w_is;
@@ -84,7 +82,7 @@ module _ (f g h : Plane) where
       (λ e. absurd (some e))
       (λ l.
       let (q, R) = point-with (neg_ℤ (meet_x F G H)) (neg_ℤ (meet_y F G H)) (neg_ℤ (meet_z F G H)) (meet_w F G H)
-      (turned-size point_limit (meet_x F G H) x-small) (turned-size point_limit (meet_y F G H) y-small) (turned-size point_limit (meet_z F G H) z-small) w-small l in (
+      (size-opposite_within point_limit (meet_x F G H) x-small) (size-opposite_within point_limit (meet_y F G H) y-small) (size-opposite_within point_limit (meet_z F G H) z-small) w-small l in (
         q,
         record {
           along_x = ratio (meet_x F G H) (meet_w F G H) R.factor q.x q.w R.x_is R.w_is;

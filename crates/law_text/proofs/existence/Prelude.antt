@@ -9,7 +9,7 @@ pub use Rattle.nef_conn.proofs.Prelude.{Arc, Beside, Decided, FlatDim-by_germs, 
 pub use Rattle.nef_smap.proofs.Prelude.{AreArounds, AreEach, AreGrounds, AreJoins, AreSloops, Dir, FirstNear, IsAtMost, IsFirst, IsFirstOf, IsLowest, IsOver, IsPrimitive, JoinsArc, JoinsBelow, Least, MapSloop, Ordered, arc_of, cases_lt, chain-keeps, cross-direction_turned, direction_limit, direction_numbers, dot_size, item_mark, lit≤, meridians, met_number, normal_limit, of_z, option_map, over_forms, rise, sloop_of, svertex_limit, vector_of, whole, ◌^◌, ◌∣◌}
 pub use Rattle.nef_complex.proofs.Prelude.{Point, plane-point, plane-slope, plane-turned}
 pub use Rattle.nef_facets.proofs.Prelude.{AreAlong, AreCorners, AreCornersOf, AreCycleRows, AreFirsts, AreNext, AreNumberedOrbits, AreOrbits, HasItem, IsCycleOf, IsMarkAt, IsPlaneAt, IsStep, Leads, NextCorner, SArc, corner_from, corners_at, form_of, replicate}
-pub use Rattle.nef_volumes.proofs.Prelude.{AreClasses, AreFacetsOf, AreLinked, AreSfaces, AreSidesAlong, AreVolumeLabels, Bool, Chained, Complex, Corner, Cycle, Cycles, Edge, Facet, FacetLink, FacetNumbers, FlatDim, FlatDim-one, Form, HasComponents, HasLabel, HasSide, HasSideLabel, HasVolumesBeside, InOneSface, InOrder, IsAt, IsAtItem, IsAtSide, IsBelow, IsBetween, IsChain, IsCorner, IsDirection, IsFacetOf, IsFacetParts, IsInTable, IsNameBelow, IsParts, IsShell, IsShellBelow, IsSideBelow, IsSideListed, IsSideNamed, IsSideNumber, IsSphereMap, IsUpright, IsVertex, IsVolumeOf, IsZero, Item, Joined, Label, LabelledSide, Link, LinkAcrossFacet, LinkInSface, LinksAreBelow, List, Map, MapVertex, None, OnItem, Option, Out, Parts, Plane, SVertex, SameDirection, SameDirection-trans, SameDirection-turned, SamePoint, Set, SfaceNumbers, Shell, ShellLink, Shells, Shows, Side, Some, SpacePoint, SphereMap, Vector, Vertex, VertexSide, VolumeLink, VolumeNumbers, [], ap, arc_item, arith, around_ends, around_svertex, at, at-arc, is-at_map, by_order, cases_order, chain-here, chain-link, chain-map, chain-trans, chain-turned, complex_of, corner_of, count_items, count_sides, cross, cycle_corners, dir-self, dir_of, dot, edge_of, false, form_at, get_or, inl, inr, ints, is-at_one, is-at_some, is-at_within, item_neg, item_normal, item_pos, items, joined-both, joined-turned, length, length-append, length-map, map, map-across, map-ahead, map-is_at, map_of, nat_abs, neg, neg_arcs, neg_item, neg_of, neg_ℤ, negsuc, normal_of, num, opposite, point_of, pos, pos_arcs, pos_item, pos_of, refl, ring, same-itself, same-point_sym, same-point_trans, set, shell_sides, side-has, side-number, side_number, sides-joined, sides_of, subst, suc, svertex_of, sym, take, take_all, true, up, vector, vertex_of, zero, ℕ, ℤ, ⊎_elim, ◌*ℤ◌, ◌*◌, ◌++◌, ◌+ℤ◌, ◌+◌, ◌-◌, ◌<ℤ◌, ◌<◌, ◌↔◌, ◌∙◌, ◌∷◌, ◌≡◌, ◌≢◌, ◌≤◌, ◌⊎◌, ◌⊕◌, ◌⊖◌, ◌⊗◌}
+pub use Rattle.nef_volumes.proofs.Prelude.{AreClasses, AreFacetsOf, AreLinked, AreSfaces, AreSidesAlong, AreVolumeLabels, Bool, Chained, Complex, Corner, Cycle, Cycles, Edge, Facet, FacetLink, FacetNumbers, FlatDim, FlatDim-one, Form, HasComponents, HasLabel, HasSide, HasSideLabel, HasVolumesBeside, InOneSface, InOrder, IsAt, IsAtItem, IsAtSide, IsBelow, IsBetween, IsChain, IsCorner, IsDirection, IsFacetOf, IsFacetParts, IsInTable, IsNameBelow, IsParts, IsShell, IsShellBelow, IsSideBelow, IsSideListed, IsSideNamed, IsSideNumber, IsSphereMap, IsUpright, IsVertex, IsVolumeOf, IsZero, Item, Joined, Label, LabelledSide, Link, LinkAcrossFacet, LinkInSface, LinksAreBelow, List, Map, MapVertex, None, OnItem, Option, Out, Parts, Plane, SVertex, SameDirection, SameDirection-trans, SameDirection-turned, SamePoint, Set, SfaceNumbers, Shell, ShellLink, Shells, Shows, Side, Some, SpacePoint, SphereMap, Vector, Vertex, VertexSide, VolumeLink, VolumeNumbers, [], ap, arc_item, arith, around_ends, around_svertex, at, at-arc, is-at_map, by_order, cases_order, chain-here, chain-link, chain-map, chain-trans, chain-turned, complex_of, corner_of, count_items, count_sides, cross, cycle_corners, dir-self, dir_of, dot, edge_of, false, form_at, get_or, inl, inr, ints, is-at_one, is-at_some, is-at_within, item_neg, item_normal, item_pos, items, joined-both, joined-turned, length, length-append, length-map, map, map-across, map-ahead, map-is_at, map_of, nat_abs, neg, neg_arcs, neg_item, neg_of, neg_ℤ, negsuc, normal_of, num, opposite, point_of, pos, pos_arcs, pos_item, pos_of, refl, ring, same-point_sym, same-point_trans, set, shell_sides, side-has, side-number, side_number, sides-joined, sides_of, subst, suc, svertex_of, sym, take, take_all, true, up, vector, vertex_of, zero, ℕ, ℤ, ⊎_elim, ◌*ℤ◌, ◌*◌, ◌++◌, ◌+ℤ◌, ◌+◌, ◌-◌, ◌<ℤ◌, ◌<◌, ◌↔◌, ◌∙◌, ◌∷◌, ◌≡◌, ◌≢◌, ◌≤◌, ◌⊎◌, ◌⊕◌, ◌⊖◌, ◌⊗◌}
 pub use Rattle.std.proofs.lemmas.List.{length-set}
 pub use Rattle.nef_geo.proofs.Divisors.{IsGcdOfFour-from_steps, IsReduced-from_parts, divides_all, part_positive, part_small, quot_exact}
 pub use Rattle.nef_geo.proofs.Products.{cross_size, normal_within}

@@ -1,7 +1,8 @@
 -- A form whose numbers are within the limits, and whose normal isn't zero, is that of a plane of the program.
-use Rattle.law_text.proofs.existence.Prelude.{◌≡◌, ℕ, ◌<◌, ◌≤◌, ℤ, pos, neg_ℤ, ◌<ℤ◌, ◌*ℤ◌, nat_abs, arith, refl, sym, ap, ◌∙◌, ◌⊎◌, inl, inr, ⊎_elim, ◌∷◌, Bool, true, false, [], ◌∣◌, ints, cases_order, ring, at, num, neg, ◌⊗◌, normal_limit, offset_limit, DividesAll, IsLowest, Form, form, form_numbers, normal_of, Vector, IsDirection, IsNormal, form_of, Plane, part_small, SamePlane, negated_if, signed, signed_form, normal-choice, lowest_form-turned, IsSmallForm}
+use Rattle.law_text.proofs.existence.Prelude.{◌≡◌, ℕ, ◌<◌, ◌≤◌, ℤ, pos, neg_ℤ, ◌<ℤ◌, ◌*ℤ◌, nat_abs, arith, sym, ap, ◌∙◌, ◌⊎◌, inl, inr, ⊎_elim, ◌∷◌, Bool, true, false, [], ◌∣◌, ints, cases_order, ring, at, neg, ◌⊗◌, normal_limit, offset_limit, DividesAll, IsLowest, Form, form, form_numbers, normal_of, Vector, IsDirection, IsNormal, form_of, Plane, part_small, SamePlane, negated_if, signed, signed_form, normal-choice, lowest_form-turned, IsSmallForm}
 use native.Mathlib.Nat.{pos_of_dvd_of_pos}
 use Rattle.law_text.proofs.existence.Reduced.{Reduced, reduce-by}
+use Rattle.nef_space.proofs.Elementary.{whole-nought}
 
 module _ (f : Form) (S : IsSmallForm f) where
   positive : (h : ℕ) → DividesAll h (form_numbers f) → 0 < h
@@ -24,10 +25,7 @@ module _ (f : Form) (S : IsSmallForm f) where
   some : (r : Reduced f.a f.b f.c f.d) → IsDirection (normal_of (low r))
   some r z =
       let R = r.reduced in
-      S.normal (nought R.factor f.a r.x' R.x_is z.0, nought R.factor f.b r.y' R.y_is z.1, nought R.factor f.c r.z' R.z_is z.2)
-    where
-      nought : (k x y : ℤ) → x ≡ k *ℤ y → y ≡ pos 0 → x ≡ pos 0
-      nought k x y e g = e ∙ ap (λ n. k *ℤ n) g ∙ ring (k ∷ []) (at 0 ⊗ num (pos 0)) (num (pos 0)) tt
+      S.normal (whole-nought R.factor f.a r.x' R.x_is z.0, whole-nought R.factor f.b r.y' R.y_is z.1, whole-nought R.factor f.c r.z' R.z_is z.2)
 
   small : (n : ℕ) (k x y : ℤ) (b : Bool) → pos 0 <ℤ k → x ≡ k *ℤ y → nat_abs x ≤ n → nat_abs (negated_if b y) ≤ n
   small n k x y true p e l = let h = part_small n k x y p e l in omega (arith, ints, h)

@@ -11,6 +11,7 @@ use Rattle.nef_smap.proofs.Stands.{stand, stands}
 use Rattle.law_text.proofs.existence.Classes.{decided-classes}
 use Rattle.law_text.proofs.existence.Numbering.{row-of, numbered-exist}
 use Rattle.nef_conn.proofs.Good.{less-decided}
+use Rattle.nef_space.proofs.Vectors.{self-not_nought}
 
 -- ---- what is met first
 module _ (M : Map) (ahead : (k : ℕ) (x : Item) → IsAt (items M) k x → pos 0 <ℤ dot (item_normal x) up) where
@@ -74,16 +75,13 @@ module _ (M : Map) (V : Shaped M) (ahead : (k : ℕ) (x : Item) → IsAt (items 
   near : (a b c : Vector) → (r : Option ℕ) × FirstNear M up a b c r
   near = first-near M ahead
 
-  self-off : (v : Vector) → IsDirection v → dot v v ≡ pos 0 → ⊥
-  self-off v h e = let p = self-pos v h in omega (arith, ints, e, p)
-
   joins-below : (k : ℕ) → k < length M.svertices → (l : Link) × JoinsBelow M k l
   joins-below k h =
       let v = is-at_some M.svertices k h in
       let c = cross up v.0.dir in
       let f = near v.0.dir (opposite up) c in
       let g = near v.0.dir (opposite up) (opposite c) in
-      (record { first = met_number M f.0; second = met_number M g.0 }, (v.0, v.1, (record { aside = c; off = self-off c (across k v.0 v.1); left = f.0; right = g.0; left_first = f.1; right_first = g.1 }, refl, refl)))
+      (record { first = met_number M f.0; second = met_number M g.0 }, (v.0, v.1, (record { aside = c; off = self-not_nought c (across k v.0 v.1); left = f.0; right = g.0; left_first = f.1; right_first = g.1 }, refl, refl)))
 
   arounds-to : (n : ℕ) → n ≤ length M.svertices → (ls : List Link) × AreArounds M n ls
   arounds-to zero l = ([], arounds-none M)
@@ -101,7 +99,7 @@ module _ (M : Map) (V : Shaped M) (ahead : (k : ℕ) (x : Item) → IsAt (items 
               let c = cross up v.dir in
               let f = near v.dir (opposite up) c in
               let k : Link = record { first = side_number M (around_svertex n); second = met_number M f.0 } in
-              (ls ++ k ∷ [], subst (λ m. AreArounds M m (ls ++ k ∷ [])) next (arounds-more M n ls k (v, l, a, e, (record { aside = c; off = self-off c (across n v a); first = f.0; is_first = f.1 }, refl, refl)) A))
+              (ls ++ k ∷ [], subst (λ m. AreArounds M m (ls ++ k ∷ [])) next (arounds-more M n ls k (v, l, a, e, (record { aside = c; off = self-not_nought c (across n v a); first = f.0; is_first = f.1 }, refl, refl)) A))
 
   joins-arc : (k : ℕ) → k < length M.arcs → (l : Link) × JoinsArc M k l
   joins-arc k h =
@@ -131,7 +129,7 @@ module _ (M : Map) (V : Shaped M) (ahead : (k : ℕ) (x : Item) → IsAt (items 
       let c = cross up p.0 in
       let f = near p.0 up c in
       let k : Link = record { first = side_number M (pos_item a.0); second = met_number M f.0 } in
-      (k ∷ [], sloops-some M a.0 k (l, a.1, (record { point = p.0; on = p.1; aside = c; off = self-off c hc; first = f.0; is_first = f.1 }, refl, refl)))
+      (k ∷ [], sloops-some M a.0 k (l, a.1, (record { point = p.0; on = p.1; aside = c; off = self-not_nought c hc; first = f.0; is_first = f.1 }, refl, refl)))
 
   ground-list : (o : Option Label) → M.ground ≡ o → (ls : List Link) × AreGrounds M ls
   ground-list None e = ([], record { only = λ i l a. absurd (let w = is-at_within [] i l a in omega (arith, w)); each = λ m q. absurd (let f : None ≡ Some m = sym e ∙ q in cc) })

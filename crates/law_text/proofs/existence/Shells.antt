@@ -2,12 +2,12 @@
 use Rattle.law_text.proofs.existence.Prelude.{◌≡◌, ℕ, refl, sym, ap, ◌∙◌, inl, inr, ⊎_elim, List, ◌∷◌, map, subst, [], length-map, Chained, Set, Lies, Label, Decided, IsAt, InOrder, chain-order, Vertex, Complex, Shows, VertexSide, HasSideLabel, VolumeLink, LinkAcrossFacet, chain-here, chain-link, chain-trans, chain-turned, chain-map, sides_of, AreSfaces, side_number, side-number, is-at_map, map-is_at, is-at_within, count_sides, IsVolumeOf, VolumeNumbers, shell_sides, ShellLink, IsSideNamed, IsNameBelow, IsSideListed, IsShell, IsShellBelow, Shells, IsSideNumber, Shell, numbered-side, lies-at, at-lies, eq-decided}
 use Rattle.nef_complex.specs.declared.parts.Side.{Side}
 use Rattle.nef_volumes.proofs.AllTies.{shell-volume}
-use Rattle.nef_volumes.proofs.ShellParts.{side-number_one}
 use Rattle.law_text.proofs.existence.Elements.{Elements}
 use Rattle.law_text.proofs.existence.Groups.{chained-decided, Part, class, leads, leaders, leader-of, order-chain}
 use Rattle.law_text.proofs.existence.Numbering.{PairBelow, pair-trans, pair-either, pair-itself, one-place}
 use Rattle.law_text.proofs.existence.ShellLinks.{shell-link_decided}
 use Rattle.law_text.proofs.existence.Volumes.{SideAt, side-row, side-col, side-same, side-make, side-sound, number-label}
+use Rattle.nef_volumes.proofs.RowNumbers.{side-number_one}
 
 -- ---- the ends of a link are sides
 module _ (C : Complex) where

@@ -1,9 +1,10 @@
 -- The sides of a complex of the program that shows a set have volume numbers: sides whose points are joined have one, and those that are outside have 0.
-use Rattle.law_text.proofs.existence.Prelude.{◌≡◌, ℕ, suc, ◌<◌, ◌≤◌, arith, refl, sym, ap, ◌∙◌, inr, ◌↔◌, List, subst, IsAt, Chained, FlatDim, HasLabel, SpacePoint, Set, Label, Out, Not, In, Side as MapSide, Vertex, Complex, Shows, VertexSide, HasSideLabel, same-itself, VolumeLink, IsAtSide, IsUpright, sides-joined, is-at_one, chain-here, chain-link, joined-items_linked, sides_of, LabelledSide, is-at_within, is-at_some, side-has, IsSideNumber, count_sides, IsVolumeOf, IsSideBelow, VolumeNumbers, side-point, chain-label}
+use Rattle.law_text.proofs.existence.Prelude.{◌≡◌, ℕ, suc, ◌<◌, ◌≤◌, arith, refl, sym, ap, ◌∙◌, inr, ◌↔◌, List, subst, IsAt, Chained, FlatDim, HasLabel, SpacePoint, Set, Label, Out, Not, In, Side as MapSide, Vertex, Complex, Shows, VertexSide, HasSideLabel, VolumeLink, IsAtSide, IsUpright, sides-joined, is-at_one, chain-here, chain-link, joined-items_linked, sides_of, LabelledSide, is-at_within, is-at_some, side-has, IsSideNumber, count_sides, IsVolumeOf, IsSideBelow, VolumeNumbers, side-point, chain-label}
 use Rattle.nef_conn.proofs.SidesName.{converse-for_all}
 use Rattle.law_text.proofs.existence.Connected.{class-number, class-same}
 use Rattle.law_text.proofs.existence.Elements.{Elements, elements}
 use Rattle.law_text.proofs.existence.Numbering.{NumberedAfter, number-after, NumberTable, Placed, table, placed, has-place}
+use Rattle.nef_space.proofs.Elementary.{same-itself}
 
 pub record SideAt (C : Complex) : Type 0 where
   pub side : VertexSide

@@ -1,7 +1,7 @@
 use Rattle.example_bracket.proofs.Prelude.{Decides-at, In, point_of, label-decides}
-use Rattle.nef_ray.proofs.Along.{frame-closed}
 use Rattle.example_bracket.proofs.Answering.{label-inside}
 use Rattle.example_bracket.proofs.asked.is_inside.Goals as goal
+use Rattle.nef_space.proofs.Elementary.{frame-closed}
 
 pub locate-place-requires : goal.locate-place-requires
 locate-place-requires c = record { shows = c.requires.shows; framed = frame-closed (point_of c.args.p.now) c.requires.framed }

@@ -1,4 +1,4 @@
-use Rattle.nef_cand.proofs.Prelude.{refl, sym, subst, point_of, form_of, hit_point, same-point_sym, is-at_some, level-same, IsHeldCutOf}
+use Rattle.nef_cand.proofs.Prelude.{refl, sym, subst, point_of, form_of, hit_point, same-point_sym, is-at_some, level-same_point, IsHeldCutOf}
 use Rattle.nef_cand.proofs.NearCuts.{never-held, nothing-held, held-named}
 use Rattle.nef_cand.proofs.listing.held_cut.Goals as goal
 
@@ -7,7 +7,7 @@ place_on-requires-clause-on c =
     let e = is-at_some c.args.c.now.edges c.args.number c.requires.within in
     let p = point_of c.in_ok-point.point in let q = hit_point c.hit_at.result in
     let (u, v, a, b, o) = (c.in_ok-point.ensures.crossing e.0 e.1).0 in
-    level-same (form_of c.args.carrier.now.plane) p q (same-point_sym q p c.hit_at.ensures.same) o.on
+    level-same_point (form_of c.args.carrier.now.plane) p q (same-point_sym q p c.hit_at.ensures.same) o.on
 
 pub returns-in_err-point : goal.returns-in_err-point
 returns-in_err-point c =

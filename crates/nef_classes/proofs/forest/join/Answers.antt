@@ -1,7 +1,7 @@
 use Rattle.nef_classes.proofs.Prelude.{inl, inr, ⊎_elim, arith}
-use Rattle.nef_classes.proofs.Places.{less-or-not}
 use Rattle.nef_classes.proofs.Trees.{AreRootsOf, same-trans, made-one}
 use Rattle.nef_classes.proofs.forest.join.Goals as goal
+use Rattle.std.proofs.lemmas.Bool.{cases_lt}
 
 pub returns : goal.returns
 returns c =
@@ -17,7 +17,7 @@ returns c =
       second = S.reached;
       r_root = S.same.roots r F.root;
       w_root = S.root;
-      ends = ⊎_elim (λ h. inl (omega arith, omega arith)) (λ h. inr (omega arith, omega arith)) (less-or-not r w);
+      ends = ⊎_elim (λ h. inl (omega arith, omega arith)) (λ h. inr (omega arith, omega arith)) (cases_lt r w);
       low_first = omega arith;
     } in record {
       joined = made-one link c.args.parents.now os (same-trans c.args.parents.now qs os F.same S.same) r w c.min-lower.result c.max-upper.result roots;

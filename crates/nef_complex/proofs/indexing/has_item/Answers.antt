@@ -1,6 +1,7 @@
-use Rattle.nef_complex.proofs.Prelude.{◌≡◌, ℕ, true, false, is_some, rules, length, get_or, arith, refl, sym, ◌∙◌, subst, ⊎_elim, slice_get_read, not_true, IsAt, form_of, vector_of, map_of, less-or-last, is-at_get, is-at_one, is-at_within, Vertex, HasNormal}
+use Rattle.nef_complex.proofs.Prelude.{◌≡◌, ℕ, true, false, is_some, rules, length, get_or, arith, refl, sym, ◌∙◌, subst, ⊎_elim, slice_get_read, not_true, IsAt, form_of, vector_of, map_of, is-at_get, is-at_one, is-at_within, Vertex, HasNormal}
 use Rattle.nef_complex.proofs.IndexSteps.{with-normal, without-normal, item-in, no-item}
 use Rattle.nef_complex.proofs.indexing.has_item.Goals as goal
+use Rattle.nef_space.proofs.Elementary.{less-or-last}
 
 pub returns-then-is_some : goal.returns-then-is_some
 returns-then-is_some c =

@@ -1,6 +1,7 @@
 use Rattle.nef_geo.proofs.Prelude.{w64, of_z, normal_limit, svertex_limit, Code, wrap, exact_of, fits_of, size_of, triple_vector}
-use Rattle.nef_geo.proofs.Products.{bounds, numbers, limited, factor, minor, same_vector}
+use Rattle.nef_geo.proofs.Products.{bounds, numbers, limited, factor, minor}
 use Rattle.nef_geo.proofs.sign.cross_narrow.Goals as goal
+use Rattle.nef_space.proofs.Vectors.{same-vector}
 
 pub overflow_mul-result : goal.overflow_mul-result
 overflow_mul-result c =
@@ -52,7 +53,7 @@ returns-clause-cross c =
     let a = triple_vector c.args.a.now in let b = triple_vector c.args.b.now in
     let l = limited normal_limit normal_limit a b c.requires.left c.requires.right in
     let exact = λ (e : Code). exact_of (bounds normal_limit normal_limit) (numbers a b) e l in
-    same_vector _ _ _ _ _ _ (exact (wrap w64 (minor w64 1 5 2 4)) tt) (exact (wrap w64 (minor w64 2 3 0 5)) tt) (exact (wrap w64 (minor w64 0 4 1 3)) tt)
+    same-vector _ _ _ _ _ _ (exact (wrap w64 (minor w64 1 5 2 4)) tt) (exact (wrap w64 (minor w64 2 3 0 5)) tt) (exact (wrap w64 (minor w64 0 4 1 3)) tt)
 
 pub returns-clause-small : goal.returns-clause-small
 returns-clause-small c =

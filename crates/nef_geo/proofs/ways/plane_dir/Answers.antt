@@ -1,8 +1,9 @@
 use Rattle.nef_geo.proofs.Prelude.{◌≡◌, ◌≤◌, ℤ, pos, ◌+ℤ◌, ◌*ℤ◌, nat_abs, [], ◌∷◌, arith, subst, sym, ap, ◌∙◌, FitsSigned, to_z, of_z, w64, ints, normal_limit, direction_limit, axis_factor, normal_of, Vector, vector, plane_axis, plane_dir, IsAtMost, IsDirection, load, const, wrap, ◌⊞◌, ◌⊠◌, exact_of, fits_of, IsStretched, form_of, vector_of, triple_vector, second_beside, plane_dir_limit, Plane}
 use Rattle.nef_geo.proofs.Directions.{SameDirection-stretched}
 use Rattle.nef_geo.proofs.InPlane.{pair_small, dir-direction, dir-in_plane, dir-alone, dir-size, slope-part, slope-whole, size-part}
-use Rattle.nef_geo.proofs.Products.{same_vector, IsAtMost-weaken}
+use Rattle.nef_geo.proofs.Products.{IsAtMost-weaken}
 use Rattle.nef_geo.proofs.ways.plane_dir.Goals as goal
+use Rattle.nef_space.proofs.Vectors.{same-vector}
 
 -- one number, as the machine computes it
 abbrev computed : ℤ → ℤ → ℤ
@@ -21,7 +22,7 @@ made : (h : Plane) (e f : Vector) → e ≡ plane_axis (normal_of (form_of h)) �
 made h e f ee ef =
     let s : IsAtMost normal_limit e = subst (IsAtMost normal_limit) (sym ee) (pair_small h).axis in
     let t : IsAtMost normal_limit f = subst (IsAtMost normal_limit) (sym ef) (pair_small h).beside in
-    same_vector _ _ _ _ _ _ (entry e.x f.x s.of_x t.of_x) (entry e.y f.y s.of_y t.of_y) (entry e.z f.z s.of_z t.of_z)
+    same-vector _ _ _ _ _ _ (entry e.x f.x s.of_x t.of_x) (entry e.y f.y s.of_y t.of_y) (entry e.z f.z s.of_z t.of_z)
     ∙ ap (λ (v : Vector). vector (pos axis_factor *ℤ v.x +ℤ pos 1 *ℤ f.x) (pos axis_factor *ℤ v.y +ℤ pos 1 *ℤ f.y) (pos axis_factor *ℤ v.z +ℤ pos 1 *ℤ f.z)) ee
     ∙ ap (λ (v : Vector). let a = plane_axis (normal_of (form_of h)) in vector (pos axis_factor *ℤ a.x +ℤ pos 1 *ℤ v.x) (pos axis_factor *ℤ a.y +ℤ pos 1 *ℤ v.y) (pos axis_factor *ℤ a.z +ℤ pos 1 *ℤ v.z)) ef
 

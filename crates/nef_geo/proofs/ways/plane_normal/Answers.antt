@@ -1,11 +1,12 @@
 use Rattle.nef_geo.proofs.Prelude.{◌≡◌, pos, ◌<ℤ◌, arith, sym, subst, to_z, of_z, w64, lit≤, ints, normal_limit, direction_limit, normal_of, Vector, vector, IsAtMost, IsDirection, IsNormal, SameDirection, IsStretched, form_of, vector_of, Plane}
 use Rattle.nef_geo.proofs.Normals.{IsNormal-parts}
-use Rattle.nef_geo.proofs.Products.{kept, same_vector, normal_within, IsAtMost-weaken}
+use Rattle.nef_geo.proofs.Products.{kept, normal_within, IsAtMost-weaken}
 use Rattle.nef_geo.proofs.ways.plane_normal.Goals as goal
+use Rattle.nef_space.proofs.Vectors.{same-vector}
 
 -- the numbers of a normal that pass through the machine's type
 passed : (h : Plane) → vector (to_z w64 (of_z w64 h.a)) (to_z w64 (of_z w64 h.b)) (to_z w64 (of_z w64 h.c)) ≡ normal_of (form_of h)
-passed h = let s = normal_within h in same_vector _ _ _ _ _ _ (kept h.a (omega (arith, s.of_x))) (kept h.b (omega (arith, s.of_y))) (kept h.c (omega (arith, s.of_z)))
+passed h = let s = normal_within h in same-vector _ _ _ _ _ _ (kept h.a (omega (arith, s.of_x))) (kept h.b (omega (arith, s.of_y))) (kept h.c (omega (arith, s.of_z)))
 
 direction : (n : Vector) → IsNormal n → IsDirection n
 direction n h z = let l : pos 0 <ℤ n.z = h.third z.0 z.1 in let e : n.z ≡ pos 0 = z.2 in omega (arith, ints)

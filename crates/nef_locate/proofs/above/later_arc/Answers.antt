@@ -1,9 +1,10 @@
 use Rattle.nef_locate.proofs.Prelude.{◌≡◌, ◌≢◌, sym, ◌∙◌, rules, subst, triple, up, vector_of, Plus, dir_of, map_of, arc_of, end_of, IsLast, sign_of-positive}
 use Rattle.nef_locate.proofs.LastArcs.{last-skip, last-first, last-kept, last-taken}
 use Rattle.nef_locate.proofs.Marks.{image-read}
-use Rattle.nef_locate.proofs.UpwardSides.{some-svertex, arc-upward, turn-read, plus-turn}
+use Rattle.nef_locate.proofs.UpwardSides.{some-svertex, arc-upward, turn-read}
 use Rattle.nef_locate.proofs.above.later_arc.Goals as goal
 use Rattle.nef_smap.proofs.Lists.{map-within}
+use Rattle.nef_geo.proofs.Signs.{plus-above}
 
 pub returns-then-arc_end-svertex : goal.returns-then-arc_end-svertex
 returns-then-arc_end-svertex c =
@@ -41,7 +42,7 @@ returns-then-eq c =
     let plus : c.triple-turn.result ≡ Plus = search rules in
     record {
       last = last-taken (map_of m) V.shaped s v.0 v.1 up (arc-upward m c.requires.map) c.args.begins c.args.number (arc_of a) (image-read arc_of m.arcs c.args.number a c.at-arc.ensures.element) on c.in-Some.before L
-          (plus-turn (triple (dir_of (map_of m).svertices s) L.arc.normal (vector_of a.normal)) (sym plus ∙ read));
+          (plus-above (triple (dir_of (map_of m).svertices s) L.arc.normal (vector_of a.normal)) (sym plus ∙ read));
     }
 
 pub returns-else-eq : goal.returns-else-eq

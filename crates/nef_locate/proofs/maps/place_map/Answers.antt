@@ -1,9 +1,10 @@
 use Rattle.nef_locate.proofs.Prelude.{◌≡◌, sym, subst, IfOk-weaker, Cone, is-at_one, SphereMap, map_of, IsLeastMap, Vertex as PlainVertex, vertex_of, complex_of, IsPlaceIn, IsPlaceAt}
 use Rattle.nef_locate.proofs.Marks.{image-read}
 use Rattle.nef_locate.proofs.VolumeLabels.{volume-flat}
-use Rattle.nef_locate.proofs.Cones.{cone-same, cone-flat}
+use Rattle.nef_locate.proofs.Cones.{cone-flat}
 use Rattle.nef_locate.proofs.maps.place_map.Goals as goal
 use Rattle.nef_smap.proofs.Lists.{map-within}
+use Rattle.law_sphere.proofs.Dimensions.{cone-same}
 
 pub at-requires : goal.at-requires
 at-requires c =

@@ -1,7 +1,8 @@
-use Rattle.nef_ops.proofs.Prelude.{subst, IsAt, is-at_one, Edge as PlainEdge, same-itself, vertex_of, edge_of, complex_of, IsPlaceIn, IsPlaceAt, map-within, image-read, volume-flat}
+use Rattle.nef_ops.proofs.Prelude.{subst, IsAt, is-at_one, Edge as PlainEdge, vertex_of, edge_of, complex_of, IsPlaceIn, IsPlaceAt, map-within, image-read, volume-flat}
 use Rattle.nef_locate.proofs.EdgeFound.{low-within}
 use Rattle.nef_ops.proofs.PlaceShares.{edge-share, flat-share}
 use Rattle.nef_ops.proofs.share.share_at.Goals as goal
+use Rattle.nef_space.proofs.Elementary.{same-itself}
 
 pub vertex_share-requires : goal.vertex_share-requires
 vertex_share-requires c =

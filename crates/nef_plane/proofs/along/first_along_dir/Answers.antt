@@ -1,10 +1,11 @@
-use Rattle.nef_plane.proofs.Prelude.{inl, rules, sym, subst, SpacePoint, IsAhead, form_of, point_of, vector_of, map-is_at, Meets, IsFirstInPlane, same-itself, complex_of, meet_of, vertex_of, AreItems, IsNearest, near_met_of}
+use Rattle.nef_plane.proofs.Prelude.{inl, rules, sym, subst, SpacePoint, IsAhead, form_of, point_of, vector_of, map-is_at, Meets, IsFirstInPlane, complex_of, meet_of, vertex_of, AreItems, IsNearest, near_met_of}
 use Rattle.law_complex.specs.Skeleton.{PlaneMeet as PlainMeet}
 use Rattle.nef_plane.proofs.Choosing.{some-at}
 use Rattle.nef_plane.proofs.Found.{MeetsAny, from-vertex, first-some, first-none}
 use Rattle.nef_plane.proofs.Passed.{excluding-course}
 use Rattle.nef_plane.proofs.along.first_along_dir.Goals.{in-Some, in_default}
 use Rattle.nef_plane.proofs.along.first_along_dir.Goals as goal
+use Rattle.nef_space.proofs.Elementary.{same-itself}
 
 pub of-course-requires-clause-holds : goal.of-course-requires-clause-holds
 of-course-requires-clause-holds c = c.is_held-held.ensures.holds.0 c.if-held.true

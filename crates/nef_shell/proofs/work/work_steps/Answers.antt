@@ -1,8 +1,9 @@
-use Rattle.nef_shell.proofs.Prelude.{Err, List, ◌≡◌, ◌<◌, ◌≤◌, ◌+◌, ◌++◌, [], ◌∷◌, ◌∙◌, ℕ, ap, sym, refl, subst, arith, length, inl, inr, get_or, Some, take_all, slice_get_cases, err_from_is_err_and, Step, asked_values, IsOutput}
+use Rattle.nef_shell.proofs.Prelude.{Err, List, ◌≡◌, ◌<◌, ◌+◌, ◌++◌, [], ◌∷◌, ◌∙◌, ℕ, ap, sym, refl, subst, arith, length, inl, inr, get_or, Some, take_all, slice_get_cases, err_from_is_err_and, Step, asked_values, IsOutput}
 use Rattle.std.proofs.Common.{slice_get}
-use Rattle.nef_shell.proofs.Outputs.{ends-before, output-next, grows-none, grows-more, front-at}
+use Rattle.nef_shell.proofs.Outputs.{ends-before, output-next, grows-none, front-at}
 use Rattle.nef_shell.proofs.Uses.{lean-more, ready-more}
 use Rattle.nef_shell.proofs.work.work_steps.Goals as goal
+use Rattle.nef_io.proofs.Told.{Grows-trans}
 
 -- the step with this number
 step-at : (steps : List Step) (i : ℕ) → i < length steps → (s : Step) × (slice_get steps i ≡ Some s) × (s ≡ get_or steps i s)
@@ -75,7 +76,7 @@ loop-now-preserved g c =
           let done = (stepped.ends nodes item asked at).done in (
             before.0 ++ done.0,
             output-next version nodes steps now item before.0 done.0 (omega arith) is before.1 done.1,
-            grows-more _ _ _ _ _ before.2 done.2,
+            Grows-trans _ _ _ _ _ before.2 done.2,
           );
       stand = stepped.stand;
       lean = stepped.lean;

@@ -1,8 +1,8 @@
 use Rattle.nef_sover.proofs.Prelude.{vector_of, items, op_label, IsStar, IsCombined, map_of, is-at_within, IsMergedAt}
 use Rattle.nef_sover.proofs.CrossedStars.{crossed-at, item-line, line-at, lines-apart, crossed-ok}
-use Rattle.nef_sover.proofs.Places.{if-ok}
 use Rattle.nef_sover.proofs.StarsMerged.{merged-at}
 use Rattle.nef_sover.proofs.overlaid.merged_star.Goals as goal
+use Rattle.nef_space.proofs.Elementary.{if-ok_both}
 
 pub line-x-requires : goal.line-x-requires
 line-x-requires c =
@@ -48,6 +48,6 @@ returns c =
     let A = map_of c.args.a.now in let B = map_of c.args.b.now in let op = c.args.op in let d = c.args.axis.now.dir in
     let p = c.in_ok-first.first in let q = c.in_ok-second.second in let u = c.in_ok-first.ensures in let v = c.in_ok-second.ensures in
     record {
-      merged = if-ok IsStar (IsCombined op p q) (IsMergedAt A B (op_label op) d) c.merge.result
+      merged = if-ok_both IsStar (IsCombined op p q) (IsMergedAt A B (op_label op) d) c.merge.result
           (λ t T m. merged-at A B op d p q t (record { first = u.star; second = v.star; first_axis = u.axis; second_axis = v.axis; shows_first = u.shows; shows_second = v.shows }) T m) c.merge.ensures.star c.merge.ensures.combined;
     }

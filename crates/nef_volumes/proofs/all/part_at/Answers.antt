@@ -1,6 +1,7 @@
 use Rattle.nef_volumes.proofs.Prelude.{point_of, complex_of, corner_of}
-use Rattle.nef_volumes.proofs.PartNumbers.{frame-closed, item-facet, side-volume, volume-part}
+use Rattle.nef_volumes.proofs.PartNumbers.{item-facet, side-volume, volume-part}
 use Rattle.nef_volumes.proofs.all.part_at.Goals as goal
+use Rattle.nef_space.proofs.Elementary.{frame-closed}
 
 pub locate-requires-clause-framed : goal.locate-requires-clause-framed
 locate-requires-clause-framed c = frame-closed (point_of c.args.p.now) c.requires.framed

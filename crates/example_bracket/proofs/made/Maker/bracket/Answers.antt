@@ -1,6 +1,6 @@
 use Rattle.example_bracket.proofs.Prelude.{arith, turned_set, leg}
-use Rattle.example_bracket.proofs.Answering.{if-ok}
 use Rattle.example_bracket.proofs.made.Maker.bracket.Goals as goal
+use Rattle.nef_space.proofs.Elementary.{if-ok}
 
 pub turn_complex-requires : goal.turn_complex-requires
 turn_complex-requires g c = record { turn = omega arith; shows = (leg, c.in_ok-flat.ensures.shows) }
@@ -14,4 +14,4 @@ combined-requires-clause-second g c = λ _ _. (turned_set 40 leg, c.in_ok-uprigh
 pub returns : goal.returns
 returns g c =
     let L = c.in_ok-flat.ensures.shows in
-    record { shows = if-ok c.combined.result (λ x f. f leg (turned_set 40 leg) L (c.in_ok-upright.ensures.shows leg L)) c.combined.ensures.shows }
+    record { shows = if-ok _ _ c.combined.result (λ x f. f leg (turned_set 40 leg) L (c.in_ok-upright.ensures.shows leg L)) c.combined.ensures.shows }

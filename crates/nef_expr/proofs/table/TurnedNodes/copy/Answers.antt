@@ -1,8 +1,9 @@
 -- The copy of a node whose operands' copies are there.
 use Rattle.nef_expr.proofs.Prelude.{◌≡◌, ℕ, ◌<◌, ◌++◌, [], ◌∷◌, length, Some, refl, ap, sym, subst, ◌∙◌, arith, slice_get, slice_index_or, slice_get_read, Node, Origin, NamesBelow, TurnOf, NodeTable, IsTable, IsOfOrigin, HasOrigin, IsCopyOf, origin}
-use Rattle.nef_expr.proofs.Places.{slice_get-left, slice_get-seam, both_ok}
+use Rattle.nef_expr.proofs.Places.{slice_get-left, slice_get-seam}
 use Rattle.nef_expr.proofs.Tables.{new-names, new-image, copy-there, copy-is, copy-image}
 use Rattle.nef_expr.proofs.table.TurnedNodes.copy.Goals as goal
+use Rattle.nef_space.proofs.Elementary.{if-ok_both}
 
 -- the origin, and the node, that are read
 origin-at : (T : NodeTable) (k : ℕ) (o : Origin) (os : _) → os ≡ T.origins → length T.origins ≡ length T.nodes → k < length T.nodes → o ≡ slice_index_or os k o → HasOrigin T.origins k o
@@ -85,7 +86,7 @@ returns-in-None-clause-turned c =
     let m = c.turned_node-node.result in
     let new = c.add-in-None.new.self in
     let turn = new-image now.nodes t c.args.copies.now m k n is (c.requires.operands n is) c.turned_node-node.ensures.turned in
-    both_ok (λ (l : ℕ). l ≡ length now.nodes) (λ (l : ℕ). new.nodes ≡ now.nodes ++ m ∷ []) (λ (l : ℕ). TurnOf new.nodes t k l) c.add-in-None.result
+    if-ok_both (λ (l : ℕ). l ≡ length now.nodes) (λ (l : ℕ). new.nodes ≡ now.nodes ++ m ∷ []) (λ (l : ℕ). TurnOf new.nodes t k l) c.add-in-None.result
     (λ l at added. subst (λ xs. TurnOf xs t k l) (sym added) (subst (λ (j : ℕ). TurnOf (now.nodes ++ m ∷ []) t k j) (sym at) turn))
     c.add-in-None.ensures.number c.add-in-None.ensures.added
 
@@ -99,7 +100,7 @@ returns-in-None-clause-copy c =
     let i = c.turn_compose.result in
     let o = origin of.base i in
     let new = c.add-in-None.new.self in
-    both_ok (λ (l : ℕ). l ≡ length now.nodes) (λ (l : ℕ). new.origins ≡ now.origins ++ o ∷ []) (λ (l : ℕ). IsCopyOf new.origins c.args.t k l) c.add-in-None.result
+    if-ok_both (λ (l : ℕ). l ≡ length now.nodes) (λ (l : ℕ). new.origins ≡ now.origins ++ o ∷ []) (λ (l : ℕ). IsCopyOf new.origins c.args.t k l) c.add-in-None.result
     (λ l at added. subst (λ xs. IsCopyOf xs c.args.t k l) (sym added)
     (copy-is now.nodes now.origins now.bases O k c.args.t i of of_is c.turn_compose.ensures.composed (now.origins ++ o ∷ []) l (slice_get-left now.origins (o ∷ []) k of of_is)
     (subst (λ (j : ℕ). HasOrigin (now.origins ++ o ∷ []) j o) (O.count ∙ sym at) (slice_get-seam now.origins o []))))

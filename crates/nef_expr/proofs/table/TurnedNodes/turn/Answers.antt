@@ -1,9 +1,9 @@
 -- The copies of all nodes that are needed, one after the other.
 use Rattle.nef_expr.proofs.Prelude.{◌≡◌, ℕ, ◌+◌, List, false, length, ap, sym, subst, ◌∙◌, arith, false≢true, get_or_read, Node, NodeTable, IsTable, TurnOf, Stays, AreWithOperands, IsMarked, OperandsTurned}
-use Rattle.nef_expr.proofs.Places.{one_ok}
 use Rattle.nef_expr.proofs.Tables.{IsCopying, copying-start, copying-length, copying-operands, copying-more, stays-same, stays-twice}
 use Rattle.nef_expr.proofs.table.TurnedNodes.turn.Goals as goal
 use Rattle.nef_expr.proofs.table.TurnedNodes.turn.Goals.{then-index+in_ok-copy, else-index}
+use Rattle.nef_space.proofs.Elementary.{if-ok}
 
 pub loop-i-init : goal.loop-i-init
 loop-i-init c = copying-start c.args.self.now c.args.t c.in_ok-needed.needed.items c.new-copies.result.items c.new-copies.ensures.items
@@ -75,4 +75,4 @@ copy-requires-2-clause-operands c =
 pub returns-clause-stay : goal.returns-clause-stay
 returns-clause-stay c =
     let C = c.loop-i.invariant in
-    one_ok (λ (n : ℕ). Stays c.loop-i.self c.copy-2.new.self) (λ (n : ℕ). Stays c.args.self.now c.copy-2.new.self) c.copy-2.result (λ n s. stays-twice _ _ _ C.stays s) c.copy-2.ensures.stay
+    if-ok (λ (n : ℕ). Stays c.loop-i.self c.copy-2.new.self) (λ (n : ℕ). Stays c.args.self.now c.copy-2.new.self) c.copy-2.result (λ n s. stays-twice _ _ _ C.stays s) c.copy-2.ensures.stay

@@ -1,7 +1,7 @@
 use Rattle.nef_geo.proofs.Prelude.{direction_limit}
-use Rattle.nef_geo.proofs.Products.{same_vector}
 use Rattle.nef_geo.proofs.Directions.{negated, small-neg, IsDirection-opposite, IsLowest-opposite}
 use Rattle.nef_geo.proofs.dir.Dir.back.Goals as goal
+use Rattle.nef_space.proofs.Vectors.{same-vector}
 
 pub invariant_of-result : goal.invariant_of-result
 invariant_of-result c =
@@ -16,4 +16,4 @@ invariant_of-result c =
     }
 
 pub returns : goal.returns
-returns c = let d = c.args.self.now in record { back = same_vector _ _ _ _ _ _ (negated d.x d.x_small) (negated d.y d.y_small) (negated d.z d.z_small) }
+returns c = let d = c.args.self.now in record { back = same-vector _ _ _ _ _ _ (negated d.x d.x_small) (negated d.y d.y_small) (negated d.z d.z_small) }

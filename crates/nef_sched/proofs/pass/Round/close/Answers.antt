@@ -1,6 +1,7 @@
 use Rattle.nef_sched.proofs.Prelude.{ap, sym, ◌∙◌, ◌||◌, arith, Some, All-pop, IsPassOf, RoundPass, times, IsPassInRound, taken, ended, any_ended, total_parts, times_taken, numbers_of}
-use Rattle.nef_sched.proofs.Steps.{parts_snoc, times_snoc, numbers_snoc, times_joined, dealt_as, none_took, ended_snoc, none_ended, or_none, or_move}
+use Rattle.nef_sched.proofs.Steps.{parts_snoc, times_snoc, numbers_snoc, times_joined, dealt_as, none_took, ended_snoc, none_ended, or_none}
 use Rattle.nef_sched.proofs.pass.Round.close.Goals as goal
+use Rattle.std.proofs.Math.Bool.{or_assoc}
 
 pub loop-other-init : goal.loop-other-init
 loop-other-init g c =
@@ -46,7 +47,7 @@ loop-other-preserved g c =
       ended =
           i.ended
           ∙ ap (λ b. ended c.loop-other.whole || b) (ap any_ended last ∙ ended_snoc c.pop-in-loop-other.new.self.items c.in-Some-pop.other)
-          ∙ sym (or_move (ended c.loop-other.whole) (ended c.in-Some-pop.other) (any_ended c.pop-in-loop-other.new.self.items))
+          ∙ sym (or_assoc (ended c.loop-other.whole) (ended c.in-Some-pop.other) (any_ended c.pop-in-loop-other.new.self.items))
           ∙ ap (λ b. b || any_ended c.pop-in-loop-other.new.self.items) (sym j.ended);
     }
 

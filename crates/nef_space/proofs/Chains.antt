@@ -1,5 +1,6 @@
--- Chains of links.
-use Rattle.nef_classes.proofs.Prelude.{◌≡◌, refl, ap, sym, ◌∙◌, inl, inr, ⊎_elim, List, [], ◌∷◌, ◌++◌, subst, IsChain, Chained}
+-- Chains of links, whatever is linked: they are joined end to end, led back, and carried over.
+use Rattle.nef_space.proofs.Prelude.{◌≡◌, refl, ap, sym, ◌∙◌, inl, inr, ◌⊎◌, ⊎_elim, List, [], ◌∷◌, ◌++◌, subst}
+use Rattle.nef_space.specs.Lists.{IsChain, Chained}
 
 module _ {X : Type 0} (Link : X → X → Type 0) where
   pub chain-here : (x : X) → Chained Link x x
@@ -7,6 +8,9 @@ module _ {X : Type 0} (Link : X → X → Type 0) where
 
   pub chain-link : (x y : X) → Link x y → Chained Link x y
   chain-link x y l = (y ∷ [], (inl l, refl))
+
+  pub chain-before : (x y z : X) → Link x y ⊎ Link y x → Chained Link y z → Chained Link x z
+  chain-before x y z l (as', c) = (y ∷ as', (l, c))
 
   append : (x y z : X) (as' bs : List X) → IsChain Link x as' y → IsChain Link y bs z → IsChain Link x (as' ++ bs) z
   append x y z [] bs e c = subst (λ (r : X). IsChain Link r bs z) (sym e) c
