@@ -178,6 +178,10 @@ edge-points s C k e v w y S a H b =
     subst (λ (x : Vertex). IsAlongEdge s e x y) f (edge-points_of s C S e E y
     (subst (λ (x : Vertex). IsBetween E.low_vertex.point y x.point) (sym g) (subst (λ (x : Vertex). IsBetween x.point y w.point) (sym f) b)))
 
+-- what lies between the ends of an edge is edge
+pub inner-dim : (s : Set) (C : Complex) (k : ℕ) (e : Edge) (v w : Vertex) → Shows s C → IsAt C.edges k e → HasEnds C e v w → (y : SpacePoint) → IsBetween v.point y w.point → FlatDim s y 1
+inner-dim s C k e v w S a H y b = (edge-points s C k e v w y S a H b).0
+
 -- the edge runs along its lower svertex
 pub edge-way : (s : Set) (C : Complex) (k : ℕ) (e : Edge) (v w : Vertex) → Shows s C → IsAt C.edges k e → HasEnds C e v w → IsZero (cross (dir_of v.map.svertices e.low_svertex) (toward v.point w.point))
 edge-way s C k e v w S a H =

@@ -1,5 +1,6 @@
 -- An arc that is met close to a svertex ends there, on the side on which it is met; and each arc that ends there is met close to it on its side.
-use Rattle.law_complex.proofs.Prelude.{◌≡◌, ℕ, ◌≤◌, ℤ, pos, ◌<ℤ◌, arith, refl, ap, sym, ◌∙◌, inl, inr, ⊎_elim, ◌∷◌, subst, [], ints, sign, ring, at, num, ◌⊕◌, ◌⊖◌, ◌⊗◌, by_order, Vector, blend, dot, cross, triple, IsDirection, SameDirection, IsOnCircle, IsStrictlyOn, same-nought, Keeps, arc_forms, forms, IsAt, MapVertex, Arc, Map, arc_item, items, dir_of, Shaped, normal-is, same-plus, same-minus, amount, far-keeps, kept-plus, kept-minus, SameDirection-decided, item-forms, dir-at, arc-at, opposite-triple, turn-plus, Beside, same_way, other_way, beside, IsStrictlyOn-back, direction-around, svertex-around, after-target, Ends, ends-of, dot-comm, dot-zero, self-pos, triple-dot, cross-turned, triple-middle, triple-turned, SameDirection-turned, SameDirection-trans, dir-signs, parallel-in_plane, direction-left}
+use Rattle.law_complex.proofs.Prelude.{◌≡◌, ℕ, ◌≤◌, ℤ, pos, ◌<ℤ◌, arith, refl, ap, sym, ◌∙◌, inl, inr, ⊎_elim, ◌∷◌, subst, [], ints, sign, ring, at, num, ◌⊕◌, ◌⊖◌, ◌⊗◌, by_order, Vector, blend, dot, cross, triple, IsDirection, SameDirection, IsOnCircle, IsStrictlyOn, same-nought, Keeps, arc_forms, forms, IsAt, MapVertex, Arc, Map, arc_item, items, dir_of, Shaped, normal-is, same-plus, same-minus, amount, far-keeps, kept-plus, kept-minus, SameDirection-decided, item-forms, dir-at, arc-at, opposite-triple, turn-plus, Beside, same_way, other_way, beside, IsStrictlyOn-back, direction-around, svertex-around, after-target, Ends, ends-of, dot-comm, dot-zero, self-pos, triple-dot, cross-turned, triple-middle, triple-turned, SameDirection-turned, SameDirection-trans, dir-signs, parallel-in_plane}
+use Rattle.law_sphere.proofs.Turn.{turn-middle}
 
 -- ---- close before its source an arc isn't met, unless it ends there too
 module _ (n s t y : Vector) (hs : IsDirection s) (ht : IsDirection t) (ls : dot n s ≡ pos 0) (lt : dot n t ≡ pos 0) (hn : IsDirection n)
@@ -79,9 +80,6 @@ module _ (M : Map) (V : Shaped M) (j : ℕ) (u : MapVertex) (b : IsAt M.svertice
 
     turn-at : (e : Vector) → SameDirection e w → sign (triple n e c) ≡ sign (triple n w f)
     turn-at e q = turn-middle n c w e (SameDirection-turned e w q) ∙ ap sign (turn n)
-      where
-        turn-middle : (n a b c : Vector) → SameDirection b c → sign (triple n c a) ≡ sign (triple n b a)
-        turn-middle n a b c w = ap sign (triple-middle n c a) ∙ dir-signs b c (cross a n) (direction-left b c w) w ∙ ap sign (sym (triple-middle n b a))
 
     -- where the arc is met close to w, it ends there, on this side
     module _ (o : IsStrictlyOn n s t c) where

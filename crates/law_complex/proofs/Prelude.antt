@@ -3,7 +3,7 @@ pub use Rattle.law_near.proofs.Prelude.{Drop, EdgeSupport, FacetSupport, Holds, 
 pub use Rattle.law_sphere.proofs.Prelude.{Arc, Bool, Cone, Decided, Flat, Flat-from_cone, FlatCone-from_flat, FlatDim, Form, Germ, Germ-by_signs, Germ-unique, HasFlat, HasLabel, IsAt, IsDirection, IsNormal, IsOnCircle, IsOpposite, IsOpposite-same, IsStrictlyOn, IsZero, Item, Keeps, Label, Least, Lies, List, Map, MapLabel, MapVertex, NearLabel, NearPlain, NearStraight, OnItem, Poly, SameDirection, SameDirection-trans, SameDirection-turned, SameSigns, Set, Shaped, SpacePoint, Valid, Vector, [], ap, apart, arc_forms, arc_item, arith, at, at_svertex, blend, by_order, by_side, carriers, cond, cross, cross-turned, decided-both, dir-self, dir-signs, dir_of, direction-left, direction-opposite, direction-right, dot, dot-comm, dot-opposite, dot-zero, false, follows, follows_times, forms, germ_of, given, in-span, inl, inr, ints, is-at_first, is-at_none, item_mark, item_neg, item_normal, item_pos, items, label-one, level-way, level_cross_second, mul-pos, mul_le_right, mul_neg, mul_nonneg, mul_pos, nat_abs, neg, neg_ℤ, negsuc, none, normal_of, nought-if, nought-is, nought-or, num, of_direction, opposite, opposite-dot, parallel-in_plane, pos, refl, ring, same-nought, same-off, self-pos, sign-minus, sign-plus, sign-scaled, sloop_item, square-cross, square_pos, subst, suc, sym, triple, triple-dot, triple-middle, triple-turned, true, vector, vector-same, zero, zero-decided, ℕ, ℤ, ⊎_elim, ◌*ℤ◌, ◌*◌, ◌+ℤ◌, ◌+◌, ◌-ℤ◌, ◌<ℤ◌, ◌<◌, ◌↔◌, ◌∙◌, ◌∷◌, ◌≡◌, ◌≤ℤ◌, ◌≤◌, ◌⊎◌, ◌⊕◌, ◌⊖◌, ◌⊗◌}
 pub use Rattle.std.proofs.Common.{Decides, ◌&&◌}
 pub use Rattle.nef_space.proofs.Order.{cancel_le, minus-of, nonneg-of, plus-of}
-pub use Rattle.nef_space.proofs.Vectors.{opposite-same}
+pub use Rattle.nef_space.proofs.Vectors.{opposite-same, normal-direction}
 pub use Rattle.nef_space.specs.Points.{IsAhead, plane_through}
 pub use Rattle.nef_space.specs.Signs.{Sign, minus, nought, plus, sign}
 pub use Rattle.nef_space.specs.Vectors.{beside_x, beside_y, plane_axis, up}
@@ -33,7 +33,7 @@ pub use Rattle.law_sphere.proofs.Places.{SameDirection-decided, kept-minus, kept
 pub use Rattle.law_sphere.proofs.Shot.{arc-at, dir-at, product-off}
 pub use Rattle.law_sphere.proofs.Turn.{after-target, turn-last, turn-same}
 pub use Rattle.law_sphere.proofs.Unique.{neither-svertex, svertex-neither}
-pub use Rattle.law_sphere.proofs.Vectors.{dot-comb, normal-direction, normal-is, positive-or, same-minus, same-plus}
+pub use Rattle.law_sphere.proofs.Vectors.{dot-comb, normal-is, positive-or, same-minus, same-plus}
 pub use Rattle.law_complex.specs.Complexes.{Complex, Corner, Edge, HasEnds, IsCorner, IsEdge, Vertex}
 pub use Rattle.law_complex.specs.Laws.{IsFlatIn, IsNearCut, IsSkeletonIn, IsVertexOfBoth}
 pub use Rattle.law_complex.specs.Shows.{SamePlane, Shows}

@@ -1,5 +1,5 @@
 -- Along a segment: what is settled is the same at both ends; the first change of a decided predicate, and the first point of a closed one.
-use Rattle.law_near.proofs.Prelude.{ℕ, ◌+◌, ◌*◌, ◌<◌, arith, ◌⊎◌, inl, inr, ⊎_elim, List, SpacePoint, Form, Within, SamePoint, toward, IsBetween, of_point, OnPoints, IsSettled, FirstChange, FirstPoint, direction-left}
+use Rattle.law_near.proofs.Prelude.{ℕ, ◌+◌, ◌*◌, ◌<◌, arith, ◌⊎◌, inl, inr, ⊎_elim, List, SpacePoint, Form, Within, SamePoint, toward, IsBetween, of_point, IsOnSegment, IsSettled, FirstChange, FirstPoint, direction-left}
 use Rattle.law_near.proofs.Sums.{same-sym, mixed-mix, mixed-inner, on-past, on-after}
 use Rattle.law_near.proofs.Mixed.{between-is, between-same, factor-point, points-on, point-toward, end-zero}
 use Rattle.law_near.proofs.Points.{mix_point, mix-close, far, settled-segment_points, PointChange, first-change_or_points}
@@ -13,7 +13,7 @@ pub settled-along : (hs : List Form) (P : SpacePoint → Type 0) → Cells hs P 
 settled-along hs P C p q S h = settled-segment_points hs P p q (λ r s a b same. C r s same) S h
 
 -- before the end, a point z after x leaves room for one between x and z
-module _ (p q x z : SpacePoint) (on : OnPoints p z q) (after : OnPoints p x z) (apart : SamePoint x z → ⊥) where
+module _ (p q x z : SpacePoint) (on : IsOnSegment p z q) (after : IsOnSegment p x z) (apart : SamePoint x z → ⊥) where
   abbrev next : SpacePoint
   next = mix_point 1 x z
 
@@ -35,7 +35,7 @@ module _ (hs : List Form) (P : SpacePoint → Type 0) (C : Cells hs P) (D : (r :
   pub first-change : (p q : SpacePoint) → P p → ((r : SpacePoint) → IsBetween p r q → P r) ⊎ FirstChange P p q
   first-change p q h = ⊎_elim (λ f. inl f) (λ c. by c c.on) (first-change_or_points hs P p q (λ r s a b same. C r s same) (λ r a. D r) h)
     where
-      by : (c : PointChange P p q) → OnPoints p c.place q → ((r : SpacePoint) → IsBetween p r q → P r) ⊎ FirstChange P p q
+      by : (c : PointChange P p q) → IsOnSegment p c.place q → ((r : SpacePoint) → IsBetween p r q → P r) ⊎ FirstChange P p q
       by c (inl s) = inr (record {
         at_place = c.place;
         on_segment = inl s;

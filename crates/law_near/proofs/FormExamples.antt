@@ -1,5 +1,5 @@
 -- Worked uses of this crate's lemmas.
-use Rattle.law_near.proofs.Prelude.{◌≡◌, pos, ◌<ℤ◌, arith, refl, sym, ◌∙◌, inl, inr, List, ◌∷◌, [], ints, nought-is, plus-is, sign-plus, Vector, vector, dot, blend, SpacePoint, Form, form_at, OnPoints, sign_at}
+use Rattle.law_near.proofs.Prelude.{◌≡◌, pos, ◌<ℤ◌, arith, refl, sym, ◌∙◌, inl, inr, List, ◌∷◌, [], ints, nought-is, plus-is, sign-plus, Vector, vector, dot, blend, SpacePoint, Form, form_at, IsOnSegment, sign_at}
 use Rattle.law_near.proofs.Near.{keeps, reach}
 use Rattle.law_near.proofs.Points.{settled-segment_points}
 use Rattle.law_near.specs.Examples.{x_axis}
@@ -7,7 +7,7 @@ use Rattle.law_near.specs.Examples.{y_axis}
 use Rattle.law_near.proofs.Generic.{generic_direction, direction-avoids, direction_bound, direction-near}
 
 -- ---- along a segment: a form that is nought at no point of it has one sign
-module _ (h : Form) (p q : SpacePoint) (off : (r : SpacePoint) → OnPoints p r q → form_at h r ≡ pos 0 → ⊥) where
+module _ (h : Form) (p q : SpacePoint) (off : (r : SpacePoint) → IsOnSegment p r q → form_at h r ≡ pos 0 → ⊥) where
   -- the property that is carried along
   abbrev AsAtStart : SpacePoint → Type 0
   AsAtStart r = sign_at h r ≡ sign_at h p

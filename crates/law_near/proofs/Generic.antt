@@ -2,7 +2,7 @@
 use Rattle.law_near.proofs.Prelude.{◌≡◌, ℕ, ◌+◌, ◌*◌, ◌<◌, ◌≤◌, ℤ, pos, ◌+ℤ◌, ◌-ℤ◌, ◌*ℤ◌, ◌<ℤ◌, nat_abs, arith, refl, ap, sym, ◌∙◌, ◌⊎◌, inl, inr, ⊎_elim, List, ◌∷◌, subst, [], ints, le-mul_of_pos_right, mul-le-mul_left, ring, at, num, ◌⊕◌, ◌⊖◌, ◌⊗◌, follows, given, none, sign, sign-plus, plus-is, square_nonneg, nought-or, square_pos, abs-pos, Vector, vector, dot, blend, IsDirection, SpacePoint, Form, form, form_at, NearNumber, Within, of_point, of_direction, direction_form, IsZeroForm, Avoids, homogeneous}
 use Rattle.nef_space.proofs.Order.{Lies}
 use Rattle.nef_space.proofs.Samples.{each, lies-each}
-use Rattle.law_near.proofs.Sums.{Homogeneous, form_on, mix}
+use Rattle.law_near.proofs.Sums.{Homogeneous, form_on, mix, form-direction}
 use Rattle.law_near.proofs.Far.{form_amount, KeepsFormSigns, far-keeps, far-level, same-off}
 
 -- the form's own numbers as a vector
@@ -60,9 +60,6 @@ generic-near hs e v k f l = (
 )
 
 -- ---- directions
-pub dot-form : (n : Vector) (v : Homogeneous) → form_on (direction_form n) v ≡ dot n (vector v.x v.y v.z)
-dot-form n v = ring (n.x ∷ n.y ∷ n.z ∷ v.x ∷ v.y ∷ v.z ∷ v.w ∷ []) (at 0 ⊗ at 3 ⊕ at 1 ⊗ at 4 ⊕ at 2 ⊗ at 5 ⊕ num (pos 0) ⊗ at 6) (at 0 ⊗ at 3 ⊕ at 1 ⊗ at 4 ⊕ at 2 ⊗ at 5) tt
-
 abbrev pub direction_forms : List Vector → List Form
 direction_forms ns = each direction_form ns
 
@@ -78,7 +75,7 @@ module _ (ns : List Vector) where
 
   pub direction-avoids : (n : Vector) → Lies ns n → IsDirection n → dot n (generic_direction ns) ≡ pos 0 → ⊥
   unfolding generic_direction
-  direction-avoids n l f z = (generic (direction_forms ns)).1 (direction_form n) (lies-each direction_form ns n l) (nonzero n f) (dot-form n chosen ∙ z)
+  direction-avoids n l f z = (generic (direction_forms ns)).1 (direction_form n) (lies-each direction_form ns n l) (nonzero n f) (form-direction n chosen ∙ z)
 
   pub direction_bound : ℕ
   direction_bound = form_amount (direction_forms ns) chosen
@@ -90,8 +87,8 @@ module _ (ns : List Vector) where
       let g = generic-near (direction_forms ns) chosen (of_direction d) k (generic (direction_forms ns)).1 b in
       let m = lies-each direction_form ns n l in
       let v = mix k (of_direction d) 1 chosen in
-      let e = dot-form n v in
-      let i = dot-form n (of_direction d) in (
+      let e = form-direction n v in
+      let i = form-direction n (of_direction d) in (
         λ f. ap sign (sym e) ∙ g.0 (direction_form n) m (λ z. f (sym i ∙ z)) ∙ ap sign i,
         λ f z. g.1 (direction_form n) m (nonzero n f) (e ∙ z),
       )

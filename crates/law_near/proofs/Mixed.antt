@@ -1,6 +1,6 @@
 -- Points that are the same, and points strictly between two others, as sums of homogeneous vectors.
 use Rattle.law_near.proofs.Prelude.{◌≡◌, ◌+◌, ◌*◌, ℤ, pos, ◌+ℤ◌, ◌-ℤ◌, ◌*ℤ◌, arith, ◌⊎◌, inl, inr, ⊎_elim, List, ◌∷◌, ◌↔◌, [], ints, mul-pos, ring, at, num, ◌⊕◌, ◌⊖◌, ◌⊗◌, follows, follows_times, given, none, IsZero, SpacePoint, SamePoint, toward, IsBetween, zero-decided, zero-dot}
-pub use Rattle.law_near.specs.Homogeneous.{of_point, of_direction, OnPoints}
+pub use Rattle.law_near.specs.Homogeneous.{of_point, of_direction, IsOnSegment}
 use Rattle.law_near.proofs.Sums.{SameUpToFactor, IsMixed, OnSegment, same-sym, same-refl, same-trans, mixed-same, mixed-itself, on-cases, on-same, on-start, on-end, on-mixed}
 use Rattle.law_near.proofs.Directions.{same-factor, factor-same}
 use Rattle.nef_space.proofs.Elementary.{counted-positive}
@@ -140,12 +140,12 @@ between-same p r q p' r' q' a c b m =
     )
 
 -- ---- the closed segment between two points
-pub points-on : (p r q : SpacePoint) → OnPoints p r q → OnSegment (of_point p) (of_point r) (of_point q)
+pub points-on : (p r q : SpacePoint) → IsOnSegment p r q → OnSegment (of_point p) (of_point r) (of_point q)
 points-on p r q (inl s) = on-same (of_point p) (of_point p) (of_point q) (of_point r) (point-factor r p s) (on-start (of_point p) (of_point q))
 points-on p r q (inr (inl b)) = on-mixed (of_point p) (of_point r) (of_point q) ((between-is p r q).0 b).0
 points-on p r q (inr (inr s)) = on-same (of_point p) (of_point q) (of_point q) (of_point r) (point-factor r q s) (on-end (of_point p) (of_point q))
 
-pub on-points : (p r q : SpacePoint) → OnSegment (of_point p) (of_point r) (of_point q) → OnPoints p r q
+pub on-points : (p r q : SpacePoint) → OnSegment (of_point p) (of_point r) (of_point q) → IsOnSegment p r q
 on-points p r q m = ⊎_elim (λ s. inl (factor-point r p s)) (λ t. ⊎_elim (λ s. inr (inr (factor-point r q s))) (λ b. ⊎_elim
     (λ s. inl (factor-point r p (mixed-itself (of_point p) (of_point r) (mixed-same (of_point p) (of_point r) (of_point q) (of_point p) (of_point r) (of_point p) (same-refl (of_point p)) (same-refl (of_point r)) (same-sym (of_point p) (of_point q) (point-factor p q s)) b))))
     (λ f. inr (inl ((between-is p r q).1 (b, f)))) (point-decided p q)) t) (on-cases (of_point p) (of_point r) (of_point q) m)

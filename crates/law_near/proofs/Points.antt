@@ -1,7 +1,7 @@
 -- Segments of points and of directions: what is settled along them, and the first change.
-use Rattle.law_near.proofs.Prelude.{◌≡◌, ℕ, zero, suc, ◌+◌, ◌*◌, ◌<◌, ◌≤◌, ℤ, pos, ◌+ℤ◌, ◌-ℤ◌, ◌*ℤ◌, ◌<ℤ◌, nat_abs, arith, refl, ap, sym, ◌∙◌, ◌⊎◌, inl, inr, ⊎_elim, ◌↔◌, List, ◌∷◌, subst, [], ints, mul-pos, le-mul_of_pos_right, ring, at, num, ◌⊕◌, ◌⊖◌, ◌⊗◌, follows, given, none, sign, cancel_lt, cancel_eq, abs-pos, each, lies-each, Vector, vector, dot, blend, SpacePoint, Form, NearNumber, Within, SamePoint, IsBetween, of_point, of_direction, direction_form, homogeneous, OnPoints, OnWay, IsPassed, sign_at}
+use Rattle.law_near.proofs.Prelude.{◌≡◌, ℕ, zero, suc, ◌+◌, ◌*◌, ◌<◌, ◌≤◌, ℤ, pos, ◌+ℤ◌, ◌-ℤ◌, ◌*ℤ◌, ◌<ℤ◌, nat_abs, arith, refl, ap, sym, ◌∙◌, ◌⊎◌, inl, inr, ⊎_elim, ◌↔◌, List, ◌∷◌, subst, [], ints, mul-pos, le-mul_of_pos_right, ring, at, num, ◌⊕◌, ◌⊖◌, ◌⊗◌, follows, given, none, sign, cancel_lt, cancel_eq, abs-pos, each, lies-each, Vector, vector, dot, blend, SpacePoint, Form, NearNumber, Within, SamePoint, IsBetween, of_point, of_direction, direction_form, homogeneous, IsOnSegment, OnWay, IsPassed, sign_at}
 use Rattle.nef_space.proofs.Order.{Lies}
-use Rattle.law_near.proofs.Sums.{Homogeneous, form_on, SameUpToFactor, IsMixed, OnSegment, same-refl, same-sym, sign-same, mixed-same, on-same, on-start, on-mixed, on-convex}
+use Rattle.law_near.proofs.Sums.{Homogeneous, SameUpToFactor, IsMixed, OnSegment, same-refl, same-sym, sign-same, mixed-same, on-same, on-start, on-mixed, on-convex, form-direction}
 use Rattle.law_near.proofs.Mixed.{between-is, point-factor, factor-point, on-points}
 use Rattle.law_near.proofs.Segment.{SettledToward, Cells, Settled, settled-segment}
 use Rattle.law_near.proofs.FirstVector.{Change, ChangeAt, change-at, DecidedOnSegment, first-change_or, first-change}
@@ -61,14 +61,14 @@ mix-close n m p q h = record { along_x = mix-close-one n m p.w p.x q.x q.w p.pro
 module _ (hs : List Form) (P : SpacePoint → Type 0) (p q : SpacePoint) where
   -- points of the segment with the same signs agree on P
   abbrev pub PointCells : Type 0
-  PointCells = (r s : SpacePoint) → OnPoints p r q → OnPoints p s q → ((h : Form) → Lies hs h → sign_at h r ≡ sign_at h s) → P r → P s
+  PointCells = (r s : SpacePoint) → IsOnSegment p r q → IsOnSegment p s q → ((h : Form) → Lies hs h → sign_at h r ≡ sign_at h s) → P r → P s
 
   -- each point of the segment agrees on P with the points of the segment near it
   abbrev pub PointSettled : Type 0
-  PointSettled = (r : SpacePoint) → OnPoints p r q → (n : ℕ) × (0 < n) × ((s : SpacePoint) → OnPoints p s q → Within n r s → P r ↔ P s)
+  PointSettled = (r : SpacePoint) → IsOnSegment p r q → (n : ℕ) × (0 < n) × ((s : SpacePoint) → IsOnSegment p s q → Within n r s → P r ↔ P s)
 
   abbrev pub PointDecided : Type 0
-  PointDecided = (r : SpacePoint) → OnPoints p r q → P r ⊎ (P r → ⊥)
+  PointDecided = (r : SpacePoint) → IsOnSegment p r q → P r ⊎ (P r → ⊥)
 
   -- all points that the vector is have P
   abbrev Q : Homogeneous → Type 0
@@ -77,7 +77,7 @@ module _ (hs : List Form) (P : SpacePoint → Type 0) (p q : SpacePoint) where
   abbrev On : Homogeneous → Type 0
   On x = OnSegment (of_point p) x (of_point q)
 
-  place-on : (r : SpacePoint) (x : Homogeneous) → On x → SameUpToFactor (of_point r) x → OnPoints p r q
+  place-on : (r : SpacePoint) (x : Homogeneous) → On x → SameUpToFactor (of_point r) x → IsOnSegment p r q
   place-on r x m s = on-points p r q (on-same (of_point p) x (of_point q) (of_point r) s m)
 
   module _ (C : PointCells) where
@@ -134,16 +134,16 @@ module _ (hs : List Form) (P : SpacePoint → Type 0) (p q : SpacePoint) where
 -- P holds at all points strictly between p and the point, and changes there: it fails, or holds and fails strictly between it and a later point
 pub record PointChange (P : SpacePoint → Type 0) (p q : SpacePoint) : Type 0 where
   pub place : SpacePoint
-  pub on : OnPoints p place q
+  pub on : IsOnSegment p place q
   pub before : (r : SpacePoint) → IsBetween p r place → P r
-  pub change : (P place → ⊥) ⊎ (P place × ((z : SpacePoint) × OnPoints p z q × OnPoints p place z × (SamePoint place z → ⊥) × ((r : SpacePoint) → IsBetween place r z → P r → ⊥)))
+  pub change : (P place → ⊥) ⊎ (P place × ((z : SpacePoint) × IsOnSegment p z q × IsOnSegment p place z × (SamePoint place z → ⊥) × ((r : SpacePoint) → IsBetween place r z → P r → ⊥)))
 
 module _ (hs : List Form) (P : SpacePoint → Type 0) (p q : SpacePoint) (C : PointCells hs P p q) (D : PointDecided hs P p q) where
   abbrev R : Homogeneous → Type 0
   R = Q hs P p q
 
   abbrev Later : SpacePoint → Type 0
-  Later r = (z : SpacePoint) × OnPoints p z q × OnPoints p r z × (SamePoint r z → ⊥) × ((s : SpacePoint) → IsBetween r s z → P s → ⊥)
+  Later r = (z : SpacePoint) × IsOnSegment p z q × IsOnSegment p r z × (SamePoint r z → ⊥) × ((s : SpacePoint) → IsBetween r s z → P s → ⊥)
 
   twice : (r : Homogeneous) → IsMixed r r r
   twice r = record { k = 2; i = 1; j = 1; some_k = omega arith; some_i = omega arith; some_j = omega arith; sum = record { is_x = omega (arith, ints); is_y = omega (arith, ints); is_z = omega (arith, ints); is_w = omega (arith, ints) } }
@@ -196,9 +196,6 @@ module _ (hs : List Form) (P : SpacePoint → Type 0) (p q : SpacePoint) (C : Po
 -- ---- predicates on directions: the segment from d to e is the way along the great circle, i d + j e
 abbrev pub direction_part : Homogeneous → Vector
 direction_part v = vector v.x v.y v.z
-
-pub form-direction : (n : Vector) (v : Homogeneous) → form_on (direction_form n) v ≡ dot n (direction_part v)
-form-direction n v = ring (n.x ∷ n.y ∷ n.z ∷ v.x ∷ v.y ∷ v.z ∷ v.w ∷ []) (at 0 ⊗ at 3 ⊕ at 1 ⊗ at 4 ⊕ at 2 ⊗ at 5 ⊕ num (pos 0) ⊗ at 6) (at 0 ⊗ at 3 ⊕ at 1 ⊗ at 4 ⊕ at 2 ⊗ at 5) tt
 
 module _ (ns : List Vector) (P : Vector → Type 0) (d e : Vector) where
   -- directions of the way with the same signs agree on P

@@ -17,6 +17,6 @@ pub use Rattle.nef_space.specs.Vectors.{IsDirection, IsParallel, IsZero, SameDir
 pub use Rattle.nef_space.specs.declared.label.Label.{Label}
 pub use Rattle.nef_space.specs.declared.label.Label.TheVariants.{In, Not, Out}
 pub use Rattle.law_near.specs.Cells.{IsInAllAt, SameSigns, SameSlopes, SameSlopesAt, carriers, frame, side, sign_at}
-pub use Rattle.law_near.specs.Cones.{FlatCone, IsMeet, IsOnSegment, NearGerm, SameCone, SameNear, combination, label_and, label_less, label_not, label_one_of, label_or, slide}
-pub use Rattle.law_near.specs.Homogeneous.{Avoids, IsMixed, IsPassed, IsZeroForm, OnPoints, OnWay, SameUpToFactor, direction_form, form_amount, form_on, homogeneous, of_direction, of_point}
+pub use Rattle.law_near.specs.Cones.{FlatCone, IsMeet, NearGerm, SameCone, SameNear, combination, label_and, label_less, label_not, label_one_of, label_or, slide}
+pub use Rattle.law_near.specs.Homogeneous.{Avoids, IsMixed, IsPassed, IsZeroForm, IsOnSegment, OnWay, SameUpToFactor, direction_form, form_amount, form_on, homogeneous, of_direction, of_point}
 pub use Rattle.law_near.specs.Laws.{Drop, EdgeAround, EdgeSupport, FacetSupport, FirstChange, FirstPoint, IsFlatBelow, IsHeldBy, IsSettled, LabelsCombine, SameGerms, WayEnd}

@@ -1,10 +1,9 @@
 -- A cone does not tell apart equal points and equal directions; toward the zero vector the germ is the label.
 use Rattle.law_near.proofs.Prelude.{◌≡◌, ℕ, ◌+◌, ◌*◌, ◌<◌, ℤ, pos, ◌-ℤ◌, ◌*ℤ◌, nat_abs, arith, ap, sym, ◌∙◌, ⊎_elim, ◌↔◌, List, ints, mul-pos, Lies, SpacePoint, Form, normal_of, slope, Ratio, step, Within, SamePoint, Vector, IsZero, SameDirection, Set, Holds, halves, IsShort, HasLabel, Germ, Label, of_point, of_direction, direction_form, sign_at, frame, carriers, SameSigns, SameSlopesAt, lies-left, lies-right, dot-zero}
 use Rattle.nef_space.specs.Signs.{sign}
-use Rattle.law_near.proofs.Sums.{sign-same as sign-up_to_factor}
+use Rattle.law_near.proofs.Sums.{sign-same as sign-up_to_factor, form-direction}
 use Rattle.law_near.proofs.Directions.{same-factor}
 use Rattle.law_near.proofs.Mixed.{point-factor}
-use Rattle.law_near.proofs.Points.{form-direction}
 use Rattle.law_near.proofs.Near.{step-within, reach_all}
 use Rattle.law_near.proofs.Cells.{keeps-all, is_nought, Holds-cells}
 use Rattle.law_near.proofs.Germs.{Label-cells, locality, short_enough, sign-along}

@@ -3,6 +3,8 @@ use Rattle.law_near.proofs.Prelude.{◌≡◌, ℕ, zero, suc, ◌+◌, ◌-◌,
 pub use Rattle.law_near.specs.Homogeneous.{Homogeneous, homogeneous, form_on, mix, IsSum, SameUpToFactor, IsMixed, OnSegment, SameFormSigns}
 use Rattle.nef_space.proofs.Ring.{one_times}
 use Rattle.nef_space.proofs.Elementary.{counted-positive}
+use Rattle.law_near.specs.Homogeneous.{direction_form}
+use Rattle.nef_space.specs.Vectors.{Vector, vector, dot}
 
 -- ---- a form at a sum
 pub form-mix : (h : Form) (i : ℕ) (p : Homogeneous) (j : ℕ) (q : Homogeneous) → form_on h (mix i p j q) ≡ pos i *ℤ form_on h p +ℤ pos j *ℤ form_on h q
@@ -394,3 +396,7 @@ module _ (p q r s : Homogeneous) (a : IsPastStart p r q) (b : IsMixed p s q) whe
           is_w = part-right p.w q.w s.w r.w b.k b.i b.j a.k a.i a.j d.0 b.sum.is_w a.sum.is_w d.2;
         };
       }))
+
+-- ---- the form of a plane through the origin, on a direction or a point
+pub form-direction : (n : Vector) (v : Homogeneous) → form_on (direction_form n) v ≡ dot n (vector v.x v.y v.z)
+form-direction n v = ring (n.x ∷ n.y ∷ n.z ∷ v.x ∷ v.y ∷ v.z ∷ v.w ∷ []) (at 0 ⊗ at 3 ⊕ at 1 ⊗ at 4 ⊕ at 2 ⊗ at 5 ⊕ num (pos 0) ⊗ at 6) (at 0 ⊗ at 3 ⊕ at 1 ⊗ at 4 ⊕ at 2 ⊗ at 5) tt

@@ -1,6 +1,6 @@
 -- The cone of a set at a point: its label there, and its germs in all directions.
-use Rattle.std.specs.Prelude.{◌≡◌, ◌<◌, ◌≤◌, ◌+ℤ◌, ◌*ℤ◌, ◌⊎◌, ◌↔◌}
-use Rattle.nef_space.specs.Prelude.{ℕ, ℤ, pos, List, nought, Lies, HasLabel, Germ, SpacePoint, Form, normal_of, Within, SamePoint, IsBetween, Set, Vector, vector, blend, triple}
+use Rattle.std.specs.Prelude.{◌≡◌, ◌<◌, ◌≤◌, ◌+ℤ◌, ◌*ℤ◌, ◌↔◌}
+use Rattle.nef_space.specs.Prelude.{ℕ, ℤ, pos, List, nought, Lies, HasLabel, Germ, SpacePoint, Form, normal_of, Within, Set, Vector, vector, blend, triple}
 use Rattle.nef_space.specs.declared.label.Label.{Label}
 use Rattle.nef_space.specs.declared.label.Label.TheVariants.{Out, Not, In}
 use Rattle.law_near.specs.Cells.{sign_at}
@@ -42,10 +42,6 @@ pub record IsMeet (hs : List Form) (p : SpacePoint) : Type 0 where
   pub second_at : sign_at second p ≡ nought
   pub third_at : sign_at third p ≡ nought
   pub independent : triple (normal_of first) (normal_of second) (normal_of third) ≡ pos 0 → ⊥
-
--- r lies on the segment from p to q, ends included
-abbrev pub IsOnSegment : SpacePoint → SpacePoint → SpacePoint → Type 0
-IsOnSegment p r q = SamePoint r p ⊎ IsBetween p r q ⊎ SamePoint r q
 
 -- ---- the labels that the operations make of labels
 abbrev pub label_and : Label → Label → Label

@@ -2,7 +2,7 @@
 use Rattle.std.specs.Prelude.{◌≡◌, ◌<◌, ◌≤◌, ◌+ℤ◌, ◌-ℤ◌, ◌*ℤ◌, ◌<ℤ◌, ◌⊎◌, ◌↔◌}
 use Rattle.nef_space.specs.Prelude.{ℕ, pos, List, Bool, true, false, sign, Lies, Vector, dot, blend, IsDirection, SameDirection, SpacePoint, Form, form_at, slope, Ratio, step, Within, SamePoint, toward, IsBetween}
 use Rattle.nef_space.specs.Local.{IsShort}
-use Rattle.law_near.specs.Homogeneous.{Homogeneous, of_point, of_direction, form_on, mix, SameUpToFactor, IsMixed, OnSegment, OnPoints, IsPassed, OnWay, SameFormSigns, KeepsFormSigns, IsZeroForm, Avoids, form_amount}
+use Rattle.law_near.specs.Homogeneous.{Homogeneous, of_point, of_direction, form_on, mix, SameUpToFactor, IsMixed, OnSegment, IsOnSegment, IsPassed, OnWay, SameFormSigns, KeepsFormSigns, IsZeroForm, Avoids, form_amount}
 use Rattle.law_near.specs.Near.{reach, reach_all, span, unit_ratio}
 
 -- ---- vectors of one point, and of one direction, are equal up to a positive factor
@@ -28,7 +28,7 @@ BetweenIsMixed = (p r q : SpacePoint) → IsBetween p r q ↔ IsMixed (of_point 
 
 -- on the segment, ends included, lie the points i p + j q with i + j > 0, where p and q may be one
 abbrev pub ClosedIsOnSegment : Type 0
-ClosedIsOnSegment = (p r q : SpacePoint) → OnPoints p r q ↔ OnSegment (of_point p) (of_point r) (of_point q)
+ClosedIsOnSegment = (p r q : SpacePoint) → IsOnSegment p r q ↔ OnSegment (of_point p) (of_point r) (of_point q)
 
 abbrev pub MixedRespectsFactor : Type 0
 MixedRespectsFactor = (p r q p' r' q' : Homogeneous) → SameUpToFactor p p' → SameUpToFactor r r' → SameUpToFactor q q' → IsMixed p r q → IsMixed p' r' q'
@@ -107,8 +107,8 @@ SegmentLaw = (hs : List Form) (P : Homogeneous → Bool) (p q : Homogeneous)
 -- the same law for points, where each point agrees with the points of the segment within 1/n of it
 abbrev pub SegmentOfPoints : Type 0
 SegmentOfPoints = (hs : List Form) (P : SpacePoint → Bool) (p q : SpacePoint)
-    → ((r s : SpacePoint) → OnPoints p r q → OnPoints p s q → ((h : Form) → Lies hs h → sign (form_at h r) ≡ sign (form_at h s)) → P r ≡ P s)
-    → ((r : SpacePoint) → OnPoints p r q → (n : ℕ) × (0 < n) × ((s : SpacePoint) → OnPoints p s q → Within n r s → P r ≡ P s))
+    → ((r s : SpacePoint) → IsOnSegment p r q → IsOnSegment p s q → ((h : Form) → Lies hs h → sign (form_at h r) ≡ sign (form_at h s)) → P r ≡ P s)
+    → ((r : SpacePoint) → IsOnSegment p r q → (n : ℕ) × (0 < n) × ((s : SpacePoint) → IsOnSegment p s q → Within n r s → P r ≡ P s))
     → P p ≡ P q
 
 -- the same law for directions along a great circle; with opposite ends the zero vector is on the way
@@ -136,13 +136,13 @@ FirstChangeLaw = (hs : List Form) (P : Homogeneous → Bool) (p q : Homogeneous)
 -- the first change of P at points of a segment
 pub record FirstChangeOfPoints (P : SpacePoint → Bool) (p q : SpacePoint) : Type 0 where
   pub place : SpacePoint
-  pub on : OnPoints p place q
+  pub on : IsOnSegment p place q
   pub before : (r : SpacePoint) → IsBetween p r place → P r ≡ true
-  pub change : (P place ≡ false) ⊎ ((P place ≡ true) × ((z : SpacePoint) × OnPoints p z q × OnPoints p place z × (SamePoint place z → ⊥) × ((r : SpacePoint) → IsBetween place r z → P r ≡ false)))
+  pub change : (P place ≡ false) ⊎ ((P place ≡ true) × ((z : SpacePoint) × IsOnSegment p z q × IsOnSegment p place z × (SamePoint place z → ⊥) × ((r : SpacePoint) → IsBetween place r z → P r ≡ false)))
 
 abbrev pub FirstChangeAtPoints : Type 0
 FirstChangeAtPoints = (hs : List Form) (P : SpacePoint → Bool) (p q : SpacePoint)
-    → ((r s : SpacePoint) → OnPoints p r q → OnPoints p s q → ((h : Form) → Lies hs h → sign (form_at h r) ≡ sign (form_at h s)) → P r ≡ P s)
+    → ((r s : SpacePoint) → IsOnSegment p r q → IsOnSegment p s q → ((h : Form) → Lies hs h → sign (form_at h r) ≡ sign (form_at h s)) → P r ≡ P s)
     → P p ≡ true → P q ≡ false → FirstChangeOfPoints P p q
 
 -- the first change of P at directions along a great circle

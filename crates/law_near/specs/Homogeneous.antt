@@ -72,8 +72,8 @@ pub record OnSegment (p r q : Homogeneous) : Type 0 where
   pub sum : IsSum k r i p j q
 
 -- the point r is p or q or lies strictly between them
-abbrev pub OnPoints : SpacePoint → SpacePoint → SpacePoint → Type 0
-OnPoints p r q = SamePoint r p ⊎ IsBetween p r q ⊎ SamePoint r q
+abbrev pub IsOnSegment : SpacePoint → SpacePoint → SpacePoint → Type 0
+IsOnSegment p r q = SamePoint r p ⊎ IsBetween p r q ⊎ SamePoint r q
 
 -- the direction r is passed strictly on the way from d to e along a great circle; r is passed, or is an end
 abbrev pub IsPassed : Vector → Vector → Vector → Type 0

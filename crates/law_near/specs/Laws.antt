@@ -5,7 +5,8 @@ use Rattle.nef_space.specs.Local.{HasLabel, SameSet, IsShort, Germ, Flat, FlatDi
 use Rattle.nef_space.specs.declared.label.Label.{Label}
 use Rattle.nef_space.specs.declared.label.Label.TheVariants.{Out, Not, In}
 use Rattle.law_near.specs.Cells.{sign_at, carriers, SameSigns, SameSlopes, SameSlopesAt, IsInAllAt}
-use Rattle.law_near.specs.Cones.{combination, NearGerm, FlatCone, SameCone, SameNear, IsMeet, IsOnSegment, label_and, label_or, label_not, label_less, label_one_of}
+use Rattle.law_near.specs.Cones.{combination, NearGerm, FlatCone, SameCone, SameNear, IsMeet, label_and, label_or, label_not, label_less, label_one_of}
+use Rattle.law_near.specs.Homogeneous.{IsOnSegment}
 
 -- ---- cells
 -- where two points lie on the same sides of all carriers, the set holds at both or at neither

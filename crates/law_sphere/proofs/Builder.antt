@@ -1,6 +1,7 @@
 -- A map that is built of a labelling is well shaped, and agrees with it; so it is valid and has its labels.
 use Rattle.law_sphere.proofs.Prelude.{◌≡◌, ℕ, zero, suc, ◌+◌, pos, arith, refl, ap, sym, ◌∙◌, ◌⊎◌, inl, inr, ⊎_elim, List, ◌∷◌, subst, Option, Some, None, [], ints, Sign, sign, by_order, nought-or, Vector, IsDirection, cross, dot, SameDirection, IsNormal, opposite, Label, IsAt, MapVertex, Arc, MapSloop, Map, Item, arc_item, sloop_item, items, items_then, item_normal, item_pos, item_mark, item_neg, dir_of, OnItem, IsFree, Shaped, IsStrictlyOn, by_side, Labelling, Near, Plain, Agrees, StraightAt, IsSmooth, plain, straight, StraightAfter, Proper, IsBuilt, Decided, square-cross, SameDirection-turned, dir-self, dir-signs, direction-opposite, level-opposite, level-opposite-back, vector-same, is-at_none, is-at_first}
-use Rattle.law_sphere.proofs.Vectors.{normal-direction, even-side}
+use Rattle.law_sphere.proofs.Vectors.{even-side}
+use Rattle.nef_space.proofs.Vectors.{normal-direction}
 use Rattle.law_sphere.proofs.Generic.{amount}
 use Rattle.law_sphere.proofs.Lists.{Found, search_list}
 use Rattle.law_sphere.proofs.Places.{IsStrictlyOn-decided}

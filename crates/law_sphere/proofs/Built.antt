@@ -1,5 +1,5 @@
 -- A well shaped map that agrees with a labelling piece by piece is valid, and its labels are those of the labelling.
-use Rattle.law_sphere.proofs.Prelude.{◌≡◌, ◌+◌, ◌*◌, arith, ap, sym, ◌∙◌, inl, inr, List, subst, ints, mul-pos, sign-plus, sign-minus, Vector, IsDirection, cross, dot, IsZero, SameDirection, blend, Label, MapVertex, Map, items, item_normal, item_pos, item_mark, item_neg, IsFree, Side, around_svertex, pos_item, neg_item, whole, HasSide, IsClear, Reaches, Sees, directly, by_way_of, MapLabel, at_svertex, on_item, seen, InOneSface, here, link, Shaped, Valid, by_side, Labelling, Near, Agrees, Decided, dot-comm, zero-decided, cross-turned, SameDirection-turned, SameDirection-trans, dir-signs, direction-right, apart, parallel-trans, blend-turned, left-of, Plain}
+use Rattle.law_sphere.proofs.Prelude.{◌≡◌, ◌+◌, ◌*◌, arith, ap, sym, ◌∙◌, inl, inr, List, subst, ints, mul-pos, sign-plus, sign-minus, Vector, IsDirection, cross, dot, IsZero, SameDirection, blend, Label, MapVertex, Map, items, item_normal, item_pos, item_mark, item_neg, IsFree, Side, around_svertex, pos_item, neg_item, whole, HasSide, IsClear, Reaches, Sees, directly, by_way_of, MapLabel, at_svertex, on_item, seen, InOneSface, here, link, Shaped, Valid, by_side, Labelling, Near, Agrees, Decided, dot-comm, zero-decided, cross-turned, SameDirection-turned, SameDirection-trans, dir-signs, direction-right, apart, parallel-trans, blend-turned, left-of, Plain, ℕ, ℤ, pos, ◌<ℤ◌, IsAt, Item, OnItem}
 use Rattle.law_sphere.proofs.Generic.{amount}
 use Rattle.law_sphere.proofs.Forms.{on-level}
 use Rattle.law_sphere.proofs.Direct.{cross-between}
@@ -7,7 +7,7 @@ use Rattle.law_sphere.proofs.Labels.{label-exists}
 use Rattle.law_sphere.proofs.Around.{Beside, same_way, other_way, beside}
 use Rattle.law_sphere.proofs.Lone.{near-same_signs}
 use Rattle.law_sphere.proofs.Walk.{carried, between-direction, cross-direction_turned}
-use Rattle.nef_space.proofs.Lists.{is-at_one, is-at_first}
+use Rattle.nef_space.proofs.Lists.{is-at_one}
 use Rattle.std.proofs.lemmas.Option.{same_Some}
 
 -- a side of a map has one label
@@ -56,17 +56,23 @@ pub sees-direction : (M : Map) (d : Vector) (o : Side) → Sees M o d → IsDire
 sees-direction M d o (directly y c r) = c.start.direction
 sees-direction M d o (by_way_of e y b c r) = b.start.direction
 
-module _ (gs : List Vector) (F : Vector → Label → Type 0) (L : Labelling gs F) (M : Map) (S : Shaped M) (A : Agrees M F) where
-  reached : (a y : Vector) → IsClear M a y → (o : Side) (m : Label) → HasSide M o m → Reaches M o a y → F a m
-  reached a y c (pos_item k) m (x, h, e) (z, b, on, l) =
-      let q = is-at_one (items M) k z x b h in
+-- a labelling has, at each place of the map and near it, the labels that its sides are said to have
+pub record SidesTell (M : Map) (Says : Side → Label → Type 0) (F : Vector → Label → Type 0) : Type 0 where
+  pub free : (d : Vector) → IsFree M d → Plain F d
+  pub above : (k : ℕ) (x : Item) (d e : Vector) (m : Label) → IsAt (items M) k x → OnItem M x d → IsDirection (cross d e) → pos 0 <ℤ dot (item_normal x) e → Says (pos_item k) m → Near F d e m
+  pub below : (k : ℕ) (x : Item) (d e : Vector) (m : Label) → IsAt (items M) k x → OnItem M x d → IsDirection (cross d e) → dot (item_normal x) e <ℤ pos 0 → Says (neg_item k) m → Near F d e m
+  pub lone : (k : ℕ) (v : MapVertex) (e : Vector) (m : Label) → IsAt M.svertices k v → IsDirection (cross v.dir e) → Says (around_svertex k) m → Near F v.dir e m
+  pub ground : (d : Vector) (m : Label) → IsFree M d → Says whole m → F d m
+
+module _ (gs : List Vector) (F : Vector → Label → Type 0) (L : Labelling gs F) (M : Map) (Says : Side → Label → Type 0) (A : SidesTell M Says F) where
+  reached : (a y : Vector) → IsClear M a y → (o : Side) (m : Label) → Says o m → Reaches M o a y → F a m
+  reached a y c (pos_item k) m h (z, b, on, l) =
       let f = apart (item_normal z) a y (λ w. omega (arith, ints)) (on-level M z y on) c.direction in
-      from_near gs F L M A.free a y c f m (subst (Near F y a) (ap (by_side (item_pos z) (item_mark z) (item_neg z)) (sign-plus (dot (item_normal z) a) l) ∙ ap item_pos q ∙ e) (A.beside k z y a b on (cross-direction_turned a y f)))
-  reached a y c (neg_item k) m (x, h, e) (z, b, on, l) =
-      let q = is-at_one (items M) k z x b h in
+      from_near gs F L M A.free a y c f m (A.above k z y a m b on (cross-direction_turned a y f) l h)
+  reached a y c (neg_item k) m h (z, b, on, l) =
       let f = apart (item_normal z) a y (λ w. omega (arith, ints)) (on-level M z y on) c.direction in
-      from_near gs F L M A.free a y c f m (subst (Near F y a) (ap (by_side (item_pos z) (item_mark z) (item_neg z)) (sign-minus (dot (item_normal z) a) l) ∙ ap item_neg q ∙ e) (A.beside k z y a b on (cross-direction_turned a y f)))
-  reached a y c (around_svertex k) m (v, h, e) (u, b, w) = by (zero-decided (cross a y))
+      from_near gs F L M A.free a y c f m (A.below k z y a m b on (cross-direction_turned a y f) l h)
+  reached a y c (around_svertex k) m h (u, b, w) = by (zero-decided (cross a y))
     where
       by : Decided (IsZero (cross a y)) → F a m
       by (inl z) = along (beside y a c.direction c.start.direction (cross-turned a y z))
@@ -75,20 +81,29 @@ module _ (gs : List Vector) (F : Vector → Label → Type 0) (L : Labelling gs 
           along (same_way s) = absurd (c.start.off_svertices k u b (SameDirection-trans u.dir y a w s))
           along (other_way s) = absurd (c.short (record { parallel = z; backward = let p = dot-comm a y in let r = s.backward in omega (arith, ints) }))
       by (inr f) =
-          let q = is-at_one M.svertices k v u h b in
           let g = cross-direction_turned a y f in
-          let n = A.lone k u m a b (sym (ap (λ (r : MapVertex). r.around) q) ∙ e) (λ z. g (parallel-trans y u.dir a (direction-right y u.dir (SameDirection-turned u.dir y w)) (cross-turned u.dir y w.parallel) z)) in
+          let n = A.lone k u a m b (λ z. g (parallel-trans y u.dir a (direction-right y u.dir (SameDirection-turned u.dir y w)) (cross-turned u.dir y w.parallel) z)) h in
           from_near gs F L M A.free a y c f m (near-way gs F L y u.dir a w g m n)
-  reached a y c whole m h t = A.ground m a h c.start.direction
+  reached a y c whole m h t = A.ground a m c.start h
 
   -- a side that sees d has the label of d
-  pub side-label : (d : Vector) (o : Side) (m : Label) → HasSide M o m → Sees M o d → F d m
+  pub side-label : (d : Vector) (o : Side) (m : Label) → Says o m → Sees M o d → F d m
   side-label d o m h (directly y c r) = reached d y c o m h r
   side-label d o m h (by_way_of e y b c r) = clear-carried_back gs F L M A.free d e b c.start m (reached e y c o m h r)
 
+module _ (gs : List Vector) (F : Vector → Label → Type 0) (L : Labelling gs F) (M : Map) (S : Shaped M) (A : Agrees M F) where
+  sides-tell : SidesTell M (HasSide M) F
+  sides-tell = record {
+    free = A.free;
+    above = λ k z y a m b on f l h. subst (Near F y a) (ap (by_side (item_pos z) (item_mark z) (item_neg z)) (sign-plus (dot (item_normal z) a) l) ∙ ap item_pos (is-at_one (items M) k z h.0 b h.1) ∙ h.2) (A.beside k z y a b on f);
+    below = λ k z y a m b on f l h. subst (Near F y a) (ap (by_side (item_pos z) (item_mark z) (item_neg z)) (sign-minus (dot (item_normal z) a) l) ∙ ap item_neg (is-at_one (items M) k z h.0 b h.1) ∙ h.2) (A.beside k z y a b on f);
+    lone = λ k u a m b f h. A.lone k u m a b (sym (ap (λ (r : MapVertex). r.around) (is-at_one M.svertices k h.0 u h.1 b)) ∙ h.2) f;
+    ground = λ a m c h. A.ground m a h c.direction;
+  }
+
   sface-label : (o p : Side) (k l : Label) → HasSide M o k → HasSide M p l → InOneSface M o p → k ≡ l
   sface-label o p k l a b (here q) = side-one M q k l a b
-  sface-label o p k l a b (link o' q p' m c (d, x, y) r) = L.one d k m (sees-direction M d o x) (side-label d o k a x) (side-label d q m c y) ∙ sface-label q p m l c b r
+  sface-label o p k l a b (link o' q p' m c (d, x, y) r) = L.one d k m (sees-direction M d o x) (side-label gs F L M (HasSide M) sides-tell d o k a x) (side-label gs F L M (HasSide M) sides-tell d q m c y) ∙ sface-label q p m l c b r
 
   pub agrees-valid : Valid M
   agrees-valid = record { shaped = S; one_label = sface-label }
@@ -96,7 +111,7 @@ module _ (gs : List Vector) (F : Vector → Label → Type 0) (L : Labelling gs 
   pub agrees-label : (d : Vector) (m : Label) → MapLabel M d m → F d m
   agrees-label d m (at_svertex k v a w e) = subst (λ (r : Label). F d r) e (L.cells v.dir d v.mark (S.svertex_dirs k v a) (direction-right v.dir d w) (λ g l. dir-signs v.dir d g (S.svertex_dirs k v a) w) (A.svertices k v a))
   agrees-label d m (on_item k x a o e) = subst (λ (r : Label). F d r) e (A.marks k x d a o)
-  agrees-label d m (seen s) = side-label d s.side m s.has s.sees
+  agrees-label d m (seen s) = side-label gs F L M (HasSide M) sides-tell d s.side m s.has s.sees
 
   pub label-agrees : (d : Vector) (m : Label) → IsDirection d → F d m → MapLabel M d m
   label-agrees d m h f =

@@ -1,7 +1,8 @@
 -- Two least maps with the same labels have the same svertices, and items in the same places.
-use Rattle.law_sphere.proofs.Prelude.{◌≡◌, ℕ, ℤ, pos, ◌+ℤ◌, ◌-ℤ◌, ◌*ℤ◌, ◌<ℤ◌, arith, refl, ap, sym, ◌∙◌, ⊎_elim, ◌∷◌, subst, [], ints, ring, at, num, ◌⊕◌, ◌⊖◌, ◌⊗◌, Sign, minus, nought, plus, sign, sign-plus, sign-minus, by_order, nought-or, Vector, IsDirection, cross, dot, IsZero, SameDirection, IsOpposite, IsNormal, blend, opposite, Label, comb, IsAt, MapVertex, Map, Item, items, item_normal, item_pos, item_mark, item_neg, OnItem, IsFree, MapLabel, at_svertex, on_item, NearLabel, Valid, by_side, NearPlain, NearStraight, Least, SameLabels, dot-comm, zero-decided, self-pos, SameDirection-trans, scaled-coordinates, cross_of, dot-opposite, dot_of, dot_poly, numbers, vec}
+use Rattle.law_sphere.proofs.Prelude.{◌≡◌, ℕ, ℤ, pos, ◌+ℤ◌, ◌-ℤ◌, ◌*ℤ◌, ◌<ℤ◌, arith, refl, ap, sym, ◌∙◌, ⊎_elim, ◌∷◌, subst, [], ints, ring, at, num, ◌⊕◌, ◌⊖◌, ◌⊗◌, Sign, minus, nought, plus, sign, sign-plus, sign-minus, by_order, nought-or, Vector, IsDirection, cross, dot, IsZero, SameDirection, IsOpposite, IsNormal, blend, opposite, Label, combination, IsAt, MapVertex, Map, Item, items, item_normal, item_pos, item_mark, item_neg, OnItem, IsFree, MapLabel, at_svertex, on_item, NearLabel, Valid, by_side, NearPlain, NearStraight, Least, SameLabels, dot-comm, zero-decided, self-pos, SameDirection-trans, scaled-coordinates, cross_of, dot-opposite, dot_of, dot_poly, numbers, vec}
 use Rattle.law_sphere.proofs.Shot.{product-off}
-use Rattle.law_sphere.proofs.Vectors.{normal-is, normal-direction, dot-comb}
+use Rattle.law_sphere.proofs.Vectors.{normal-is, dot-comb}
+use Rattle.nef_space.proofs.Vectors.{normal-direction}
 use Rattle.law_sphere.proofs.Forms.{on-direction, PlaceOf, svertex_place, item_place, free_place, place_of}
 use Rattle.law_sphere.proofs.Labels.{label-direction, label-exists, label-unique, near-unique}
 use Rattle.law_sphere.proofs.Around.{turn-minus, beside, on_item-off_svertices, same-by}
@@ -124,7 +125,7 @@ module _ (M N : Map) (V : Valid M) (W : Valid N) (L : Least M) (K : Least N) (s 
 
     -- in the plane of m, above n
     abbrev across : Vector
-    across = comb (dot m m) n (pos 0 -ℤ dot n m) m
+    across = combination (dot m m) n (pos 0 -ℤ dot n m) m
 
     abbrev back : Vector
     back = opposite across

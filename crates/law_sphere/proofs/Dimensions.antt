@@ -1,5 +1,5 @@
 -- The kind of the least map of a set at a point is the dimension of the set's flat directions there.
-use Rattle.law_sphere.proofs.Prelude.{pos, arith, sym, ◌∙◌, inl, inr, ⊎_elim, subst, ints, SpacePoint, Vector, IsDirection, cross, vector, IsZero, Set, Label, Germ, Flat, FlatDim, HasFlat, Germ-unique, label-one, germ_of, FlatCone-from_flat, Flat-from_cone, comb, Map, MapLabel, Least, Cone, Full, FlatMap, IsInVolume, IsInFacet, IsOnEdge, dot-comm, zero-decided, dot-zero, self-pos, cross-turned, apart, parallel-trans, level_cross_second}
+use Rattle.law_sphere.proofs.Prelude.{pos, arith, sym, ◌∙◌, inl, inr, ⊎_elim, subst, ints, SpacePoint, Vector, IsDirection, cross, vector, IsZero, Set, Label, Germ, Flat, FlatDim, HasFlat, Germ-unique, label-one, germ_of, FlatCone-from_flat, Flat-from_cone, combination, Map, MapLabel, Least, Cone, Full, FlatMap, IsInVolume, IsInFacet, IsOnEdge, dot-comm, zero-decided, dot-zero, self-pos, cross-turned, apart, parallel-trans, level_cross_second}
 use Rattle.nef_space.proofs.ArithmeticExamples.{in_plane}
 use Rattle.law_near.proofs.Alike.{germs-by_cell}
 use Rattle.law_near.proofs.Germs.{Label-cells}
@@ -30,10 +30,10 @@ module _ (M : Map) (s : Set) (p : SpacePoint) (C : Cone M s p) where
   pub map-flat : (d : Vector) → Flat s p d → FlatMap M d
   map-flat d f e b a sb m =
       let c = FlatCone-from_flat s p d f e b a sb m in
-      (λ x. full-germ (comb (pos b) e a d) m (c.0 (germ-full e m x)), λ x. full-germ e m (c.1 (germ-full (comb (pos b) e a d) m x)))
+      (λ x. full-germ (combination (pos b) e a d) m (c.0 (germ-full e m x)), λ x. full-germ e m (c.1 (germ-full (combination (pos b) e a d) m x)))
 
   pub flat-map : (d : Vector) → FlatMap M d → Flat s p d
-  flat-map d F = Flat-from_cone s p d (λ e b a sb m. (λ x. germ-full (comb (pos b) e a d) m ((F e b a sb m).0 (full-germ e m x)), λ x. germ-full e m ((F e b a sb m).1 (full-germ (comb (pos b) e a d) m x))))
+  flat-map d F = Flat-from_cone s p d (λ e b a sb m. (λ x. germ-full (combination (pos b) e a d) m ((F e b a sb m).0 (full-germ e m x)), λ x. germ-full e m ((F e b a sb m).1 (full-germ (combination (pos b) e a d) m x))))
 
   pub volume-dimension : IsInVolume M → FlatDim s p 3
   volume-dimension K = (

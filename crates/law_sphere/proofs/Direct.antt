@@ -1,5 +1,5 @@
 -- A free direction that isn't in the plane of some item is seen directly by a side.
-use Rattle.law_sphere.proofs.Prelude.{◌≡◌, ℕ, ◌<◌, ℤ, pos, ◌+ℤ◌, ◌-ℤ◌, ◌*ℤ◌, ◌<ℤ◌, arith, refl, ap, sym, ◌∙◌, inl, inr, ⊎_elim, List, ◌∷◌, ◌++◌, [], ints, ring, at, num, ◌⊕◌, ◌⊖◌, ◌⊗◌, sign, by_order, sign-scaled, nought-or, square_pos, Lies, Vector, IsDirection, cross, dot, IsZero, SameDirection, blend, Label, comb, IsAt, MapVertex, Map, Item, items, item_normal, item_pos, item_neg, OnItem, IsFree, Side, pos_item, neg_item, HasSide, IsClear, Reaches, Shaped, lies-left, lies-right, apart, blend_of, cross_of, dot-comm, numbers, square-cross, vec}
+use Rattle.law_sphere.proofs.Prelude.{◌≡◌, ℕ, ◌<◌, ℤ, pos, ◌+ℤ◌, ◌-ℤ◌, ◌*ℤ◌, ◌<ℤ◌, arith, refl, ap, sym, ◌∙◌, inl, inr, ⊎_elim, List, ◌∷◌, ◌++◌, [], ints, ring, at, num, ◌⊕◌, ◌⊖◌, ◌⊗◌, sign, by_order, sign-scaled, nought-or, square_pos, Lies, Vector, IsDirection, cross, dot, IsZero, SameDirection, blend, Label, combination, IsAt, MapVertex, Map, Item, items, item_normal, item_pos, item_neg, OnItem, IsFree, Side, pos_item, neg_item, HasSide, IsClear, Reaches, Shaped, lies-left, lies-right, apart, blend_of, cross_of, dot-comm, numbers, square-cross, vec}
 use Rattle.law_sphere.proofs.Vectors.{normal-is, dot-comb, comb-dot, direction-by}
 use Rattle.law_sphere.proofs.Generic.{Keeps, Generic, generic}
 use Rattle.law_sphere.proofs.Lists.{gather, gather-has}
@@ -43,10 +43,10 @@ miss-between d v c i j sj h off f m = miss d v (blend i d j c) h (λ g. between-
 -- ---- a target in general position
 -- the form that takes on e the value that g takes on (n.d)^2 e - (n.d)(n.e) d, which lies in the plane of n
 abbrev pub slid_form : Vector → Vector → Vector → Vector
-slid_form n d g = comb (dot n d *ℤ dot n d) g (pos 0 -ℤ dot n d *ℤ dot g d) n
+slid_form n d g = combination (dot n d *ℤ dot n d) g (pos 0 -ℤ dot n d *ℤ dot g d) n
 
 abbrev pub slid : Vector → Vector → Vector → Vector
-slid n d e = comb (dot n d *ℤ dot n d) e (pos 0 -ℤ dot n d *ℤ dot n e) d
+slid n d e = combination (dot n d *ℤ dot n d) e (pos 0 -ℤ dot n d *ℤ dot n e) d
 
 pub slid-is : (n d g e : Vector) → dot g (slid n d e) ≡ dot (slid_form n d g) e
 slid-is n d g e = dot-comb g (dot n d *ℤ dot n d) e (pos 0 -ℤ dot n d *ℤ dot n e) d

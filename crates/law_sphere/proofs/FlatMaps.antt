@@ -1,5 +1,5 @@
 -- Where a least map stays the same along d, each svertex is parallel to d and each sloop holds d.
-use Rattle.law_sphere.proofs.Prelude.{◌≡◌, ℕ, ◌+◌, ◌*◌, ◌<◌, ◌≤◌, ℤ, pos, ◌+ℤ◌, ◌-ℤ◌, ◌*ℤ◌, ◌≤ℤ◌, nat_abs, arith, ap, sym, ◌∙◌, inl, inr, ⊎_elim, List, ◌∷◌, subst, neg_ℤ, [], ints, unsigned_abs-mul, mul-le, ring, at, num, ◌⊕◌, ◌⊖◌, ◌⊗◌, neg, sign, sign-plus, sign-minus, by_order, mul_le_right, sign-scaled, nought-or, Vector, IsDirection, cross, dot, IsZero, blend, opposite, Label, comb, IsAt, MapVertex, Map, MapLabel, NearLabel, Valid, SameSigns, forms, by_side, NearStraight, Least, Full, FlatMap, dot-comm, zero-decided, self-pos, vector-same, apart, direction-opposite, dot-opposite}
+use Rattle.law_sphere.proofs.Prelude.{◌≡◌, ℕ, ◌+◌, ◌*◌, ◌<◌, ◌≤◌, ℤ, pos, ◌+ℤ◌, ◌-ℤ◌, ◌*ℤ◌, ◌≤ℤ◌, nat_abs, arith, ap, sym, ◌∙◌, inl, inr, ⊎_elim, List, ◌∷◌, subst, neg_ℤ, [], ints, unsigned_abs-mul, mul-le, ring, at, num, ◌⊕◌, ◌⊖◌, ◌⊗◌, neg, sign, sign-plus, sign-minus, by_order, mul_le_right, sign-scaled, nought-or, Vector, IsDirection, cross, dot, IsZero, blend, opposite, Label, combination, IsAt, MapVertex, Map, MapLabel, NearLabel, Valid, SameSigns, forms, by_side, NearStraight, Least, Full, FlatMap, dot-comm, zero-decided, self-pos, vector-same, apart, direction-opposite, dot-opposite}
 use Rattle.law_sphere.proofs.Vectors.{dot-comb}
 use Rattle.law_sphere.proofs.Generic.{amount, amount-above, far-keeps, far-level}
 use Rattle.law_sphere.proofs.Forms.{direction-by_signs}
@@ -12,14 +12,14 @@ pub full-label : (M : Map) (e : Vector) (m : Label) → IsDirection e → Full M
 full-label M e m f (inl z) = absurd (f z.0)
 full-label M e m f (inr a) = a
 
-pub flat-onward : (M : Map) (d : Vector) → FlatMap M d → (e : Vector) (b : ℕ) (a : ℤ) → 0 < b → (m : Label) → IsDirection (comb (pos b) e a d) → MapLabel M e m → MapLabel M (comb (pos b) e a d) m
-flat-onward M d F e b a sb m h l = full-label M (comb (pos b) e a d) m h ((F e b a sb m).0 (inr l))
+pub flat-onward : (M : Map) (d : Vector) → FlatMap M d → (e : Vector) (b : ℕ) (a : ℤ) → 0 < b → (m : Label) → IsDirection (combination (pos b) e a d) → MapLabel M e m → MapLabel M (combination (pos b) e a d) m
+flat-onward M d F e b a sb m h l = full-label M (combination (pos b) e a d) m h ((F e b a sb m).0 (inr l))
 
-pub flat-back : (M : Map) (d : Vector) → FlatMap M d → (e : Vector) (b : ℕ) (a : ℤ) → 0 < b → (m : Label) → IsDirection e → MapLabel M (comb (pos b) e a d) m → MapLabel M e m
+pub flat-back : (M : Map) (d : Vector) → FlatMap M d → (e : Vector) (b : ℕ) (a : ℤ) → 0 < b → (m : Label) → IsDirection e → MapLabel M (combination (pos b) e a d) m → MapLabel M e m
 flat-back M d F e b a sb m h l = full-label M e m h ((F e b a sb m).1 (inr l))
 
 -- a positive multiple
-pub scaled-signs : (gs : List Vector) (e : Vector) (k : ℕ) → 0 < k → SameSigns gs e (comb (pos k) e (pos 0) e)
+pub scaled-signs : (gs : List Vector) (e : Vector) (k : ℕ) → 0 < k → SameSigns gs e (combination (pos k) e (pos 0) e)
 scaled-signs gs e k h g l = ap sign (dot-comb g (pos k) e (pos 0) e ∙ ring (pos k ∷ dot g e ∷ []) (at 0 ⊗ at 1 ⊕ num (pos 0) ⊗ at 1) (at 0 ⊗ at 1) tt) ∙ sign-scaled (pos k) (dot g e) (omega (arith, ints))
 
 -- a v + c f for large a has the signs of v, and where those are nought of f
@@ -111,8 +111,8 @@ module _ (M : Map) (V : Valid M) (d : Vector) (F : FlatMap M d) (v : Vector) (of
         (omega (arith, ints), omega (arith, ints))
 
     -- (n.n) (far v + e) = (total v + c f) + z d
-    moved : comb (pos size) (blend far v 1 e) (pos 0) (blend far v 1 e) ≡ comb (pos 1) (blend total v c f) (z_of e) d
-    moved = vector-same (comb (pos size) (blend far v 1 e) (pos 0) (blend far v 1 e)) (comb (pos 1) (blend total v c f) (z_of e) d)
+    moved : combination (pos size) (blend far v 1 e) (pos 0) (blend far v 1 e) ≡ combination (pos 1) (blend total v c f) (z_of e) d
+    moved = vector-same (combination (pos size) (blend far v 1 e) (pos 0) (blend far v 1 e)) (combination (pos 1) (blend total v c f) (z_of e) d)
         (one v.x e.x f.x d.x (dot n e *ℤ n.x) (p_x) split.0) (one v.y e.y f.y d.y (dot n e *ℤ n.y) (p_y) split.1) (one v.z e.z f.z d.z (dot n e *ℤ n.z) (p_z) split.2)
       where
         p_x : pos size *ℤ e.x ≡ x_of e *ℤ v.x +ℤ dot n e *ℤ n.x +ℤ z_of e *ℤ d.x
@@ -136,7 +136,7 @@ module _ (M : Map) (V : Valid M) (d : Vector) (F : FlatMap M d) (v : Vector) (of
     shifted : (m : Label) → IsDirection (blend total v c f) → NearLabel M v e m → MapLabel M (blend total v c f) m
     shifted m h a =
         let u = far-from_near M V v e far (omega arith) m a in
-        let w = label-by_signs M V (blend far v 1 e) (comb (pos size) (blend far v 1 e) (pos 0) (blend far v 1 e)) (scaled-signs (forms M) (blend far v 1 e) size size-is.1) m u in
+        let w = label-by_signs M V (blend far v 1 e) (combination (pos size) (blend far v 1 e) (pos 0) (blend far v 1 e)) (scaled-signs (forms M) (blend far v 1 e) size size-is.1) m u in
         flat-back M d F (blend total v c f) 1 (z_of e) (omega arith) m h (subst (λ (r : Vector). MapLabel M r m) moved w)
 
     near-shifted : 0 < c → IsDirection (cross v f) → (m : Label) → NearLabel M v e m → NearLabel M v f m

@@ -1,5 +1,5 @@
 -- The other side of a plane: arcs the other way round, and labels with above and below exchanged; loops.
-use Rattle.law_sphere.proofs.Prelude.{◌≡◌, ℕ, ◌+◌, ◌≤◌, ℤ, pos, ◌+ℤ◌, ◌-ℤ◌, ◌*ℤ◌, ◌<ℤ◌, arith, ap, sym, ◌∙◌, inl, inr, ⊎_elim, List, ◌∷◌, subst, neg_ℤ, [], ints, ring, at, num, ◌⊕◌, ◌⊖◌, ◌⊗◌, sign, sign-plus, sign-minus, by_order, Lies, Vector, IsDirection, cross, triple, dot, IsZero, SameDirection, IsOpposite, blend, opposite, Label, comb, IsOnCircle, IsStrictlyOn, SameSigns, axes, by_side, Labelling, Near, StraightAt, IsSmooth, same-nought, dot-comm, zero-decided, self-pos, cross-turned, nought-if, triple-turned, dir-signs, apart, parallel-trans, dot-opposite, opposite-dot, triple-opposite, level-blend}
+use Rattle.law_sphere.proofs.Prelude.{◌≡◌, ℕ, ◌+◌, ◌≤◌, ℤ, pos, ◌+ℤ◌, ◌-ℤ◌, ◌*ℤ◌, ◌<ℤ◌, arith, ap, sym, ◌∙◌, inl, inr, ⊎_elim, List, ◌∷◌, subst, neg_ℤ, [], ints, ring, at, num, ◌⊕◌, ◌⊖◌, ◌⊗◌, sign, sign-plus, sign-minus, by_order, Lies, Vector, IsDirection, cross, triple, dot, IsZero, SameDirection, IsOpposite, blend, opposite, Label, combination, IsOnCircle, IsStrictlyOn, SameSigns, axes, by_side, Labelling, Near, StraightAt, IsSmooth, same-nought, dot-comm, zero-decided, self-pos, cross-turned, nought-if, triple-turned, dir-signs, apart, parallel-trans, dot-opposite, opposite-dot, triple-opposite, level-blend}
 use Rattle.law_sphere.proofs.Vectors.{dot-comb}
 use Rattle.law_sphere.proofs.Generic.{amount, far-keeps}
 use Rattle.law_sphere.proofs.Places.{direction-stays}
@@ -71,10 +71,10 @@ module _ (gs : List Vector) (F : Vector → Label → Type 0) (L : Labelling gs 
   pub planes-parallel : (u : Vector) (c l g : Label) (d : Vector) → IsDirection d → StraightAt F n a m b d → StraightAt F u c l g d → IsZero (cross n u)
   planes-parallel u c l g d hd p q = ⊎_elim (λ z. z) (λ f. absurd (by f)) (zero-decided (cross n u))
     where
-      level : dot u (comb (dot u u) n (pos 0 -ℤ dot n u) u) ≡ pos 0
+      level : dot u (combination (dot u u) n (pos 0 -ℤ dot n u) u) ≡ pos 0
       level = dot-comb u (dot u u) n (pos 0 -ℤ dot n u) u ∙ ap (λ r. dot u u *ℤ r +ℤ (pos 0 -ℤ dot n u) *ℤ dot u u) (dot-comm u n) ∙ ring (dot u u ∷ dot n u ∷ []) (at 0 ⊗ at 1 ⊕ (num (pos 0) ⊖ at 1) ⊗ at 0) (num (pos 0)) tt
 
-      eq : dot (cross n u) (cross n u) ≡ dot n (comb (dot u u) n (pos 0 -ℤ dot n u) u)
+      eq : dot (cross n u) (cross n u) ≡ dot n (combination (dot u u) n (pos 0 -ℤ dot n u) u)
       eq = let nx = at 0 in let ny = at 1 in let nz = at 2 in let mx = at 3 in let my = at 4 in let mz = at 5 in
           ring (n.x ∷ n.y ∷ n.z ∷ u.x ∷ u.y ∷ u.z ∷ [])
           ((ny ⊗ mz ⊖ nz ⊗ my) ⊗ (ny ⊗ mz ⊖ nz ⊗ my) ⊕ (nz ⊗ mx ⊖ nx ⊗ mz) ⊗ (nz ⊗ mx ⊖ nx ⊗ mz) ⊕ (nx ⊗ my ⊖ ny ⊗ mx) ⊗ (nx ⊗ my ⊖ ny ⊗ mx))
@@ -86,7 +86,7 @@ module _ (gs : List Vector) (F : Vector → Label → Type 0) (L : Labelling gs 
 
       by : IsDirection (cross n u) → ⊥
       by f =
-          let w = comb (dot u u) n (pos 0 -ℤ dot n u) u in
+          let w = combination (dot u u) n (pos 0 -ℤ dot n u) u in
           let h = self-pos (cross n u) f in
           let e = eq in
           let z = level in

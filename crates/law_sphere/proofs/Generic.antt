@@ -1,9 +1,9 @@
 -- A vector with given signs that is nought on no form; and the signs of k d + e for large k. Both are those of the forms of the planes through the origin.
 use Rattle.law_sphere.proofs.Prelude.{◌≡◌, ℕ, ◌<◌, ◌≤◌, ℤ, pos, nat_abs, arith, ap, sym, ◌∙◌, ⊎_elim, List, subst, sign, nought-or, Lies, Vector, IsDirection, dot, blend, each, lies-each, form_on, of_direction, direction_form, form_amount as amount-on, amount-above as above-on, far-keeps as keeps-on, far-level as level-on}
 use Rattle.law_near.specs.Homogeneous.{mix}
-use Rattle.law_near.proofs.Points.{form-direction}
 use Rattle.law_near.proofs.Generic.{generic_direction, direction_bound, direction-near}
 pub use Rattle.law_sphere.specs.Forms.{SameSigns, Keeps}
+use Rattle.law_near.proofs.Sums.{form-direction}
 
 -- from this k on, the signs of k d + e on the forms stay
 abbrev pub amount : List Vector → Vector → ℕ

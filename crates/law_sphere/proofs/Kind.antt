@@ -1,5 +1,5 @@
 -- The kind of a least map says along which directions it stays the same.
-use Rattle.law_sphere.proofs.Prelude.{◌≡◌, ℕ, ◌*◌, ◌<◌, ℤ, pos, negsuc, ◌+ℤ◌, ◌*ℤ◌, nat_abs, arith, refl, ap, sym, ◌∙◌, inl, inr, ⊎_elim, ◌∷◌, subst, Some, neg_ℤ, [], ints, mul-pos, ring, at, num, ◌⊕◌, ◌⊗◌, sign, sign-plus, sign-minus, by_order, nought-or, Vector, IsDirection, cross, vector, dot, IsZero, blend, opposite, comb, IsAt, MapSloop, Map, Item, sloop_item, items, item_normal, item_pos, item_mark, item_neg, OnItem, MapLabel, on_item, NearLabel, Valid, SameSigns, forms, by_side, Least, Full, FlatMap, dot-zero, self-pos, vector-same, apart, scaled-coordinates, dot-opposite}
+use Rattle.law_sphere.proofs.Prelude.{◌≡◌, ℕ, ◌*◌, ◌<◌, ℤ, pos, negsuc, ◌+ℤ◌, ◌*ℤ◌, nat_abs, arith, refl, ap, sym, ◌∙◌, inl, inr, ⊎_elim, ◌∷◌, subst, Some, neg_ℤ, [], ints, mul-pos, ring, at, num, ◌⊕◌, ◌⊗◌, sign, sign-plus, sign-minus, by_order, nought-or, Vector, IsDirection, cross, vector, dot, IsZero, blend, opposite, combination, IsAt, MapSloop, Map, Item, sloop_item, items, item_normal, item_pos, item_mark, item_neg, OnItem, MapLabel, on_item, NearLabel, Valid, SameSigns, forms, by_side, Least, Full, FlatMap, dot-zero, self-pos, vector-same, apart, scaled-coordinates, dot-opposite}
 use Rattle.law_sphere.proofs.Vectors.{normal-is, dot-comb}
 use Rattle.law_sphere.proofs.Forms.{direction-by_signs, on-direction, on-level}
 use Rattle.law_sphere.proofs.Parallel.{circle-point}
@@ -12,9 +12,9 @@ use Rattle.law_sphere.proofs.FlatMaps.{scaled-signs, full-label, flat-onward}
 
 -- ---- items hold the flat directions
 abbrev pub away : Vector → Vector
-away d = comb (negsuc 0) d (pos 0) d
+away d = combination (negsuc 0) d (pos 0) d
 
-away-blend : (k : ℕ) (y d : Vector) → comb (pos k) y (negsuc 0) d ≡ blend k y 1 (opposite d)
+away-blend : (k : ℕ) (y d : Vector) → combination (pos k) y (negsuc 0) d ≡ blend k y 1 (opposite d)
 away-blend k y d = vector-same _ _ (one y.x d.x) (one y.y d.y) (one y.z d.z)
   where
     one : (a b : ℤ) → pos k *ℤ a +ℤ negsuc 0 *ℤ b ≡ pos k *ℤ a +ℤ pos 1 *ℤ neg_ℤ b
@@ -53,9 +53,9 @@ module _ (M : Map) (V : Valid M) (L : Least M) (d : Vector) (F : FlatMap M d) wh
   pub flat-mark : IsDirection d → MapLabel M d M.mark
   flat-mark h =
       let z : Vector = vector (pos 0) (pos 0) (pos 0) in
-      let s : SameSigns (forms M) d (comb (pos 1) z (pos 1) d) = λ g l. ap sign (dot-comb g (pos 1) z (pos 1) d ∙ ap (λ r. pos 1 *ℤ r +ℤ pos 1 *ℤ dot g d) (dot-zero g z (refl, refl, refl)) ∙ ring (dot g d ∷ []) (num (pos 1) ⊗ num (pos 0) ⊕ num (pos 1) ⊗ at 0) (at 0) tt) in
-      let f = full-label M (comb (pos 1) z (pos 1) d) M.mark (direction-by_signs M d (comb (pos 1) z (pos 1) d) s h) ((F z 1 (pos 1) (omega arith) M.mark).0 (inl ((refl, refl, refl), refl))) in
-      label-by_signs M V (comb (pos 1) z (pos 1) d) d (λ g l. sym (s g l)) M.mark f
+      let s : SameSigns (forms M) d (combination (pos 1) z (pos 1) d) = λ g l. ap sign (dot-comb g (pos 1) z (pos 1) d ∙ ap (λ r. pos 1 *ℤ r +ℤ pos 1 *ℤ dot g d) (dot-zero g z (refl, refl, refl)) ∙ ring (dot g d ∷ []) (num (pos 1) ⊗ num (pos 0) ⊕ num (pos 1) ⊗ at 0) (at 0) tt) in
+      let f = full-label M (combination (pos 1) z (pos 1) d) M.mark (direction-by_signs M d (combination (pos 1) z (pos 1) d) s h) ((F z 1 (pos 1) (omega arith) M.mark).0 (inl ((refl, refl, refl), refl))) in
+      label-by_signs M V (combination (pos 1) z (pos 1) d) d (λ g l. sym (s g l)) M.mark f
 
 -- flat along what is parallel
 pub flat-parallel : (M : Map) → Valid M → (d v : Vector) → IsDirection d → IsZero (cross d v) → FlatMap M d → FlatMap M v
@@ -65,9 +65,9 @@ flat-parallel M V d v h p F e b a sb m = (λ f. go f, λ f. come f)
     q-is = let s = self-pos d h in (omega (arith, ints), omega (arith, ints))
 
     -- (d.d)(b e + a v) = (d.d) b e + a (d.v) d
-    eq : comb (pos (nat_abs (dot d d))) (comb (pos b) e a v) (pos 0) (comb (pos b) e a v) ≡ comb (pos (nat_abs (dot d d) * b)) e (a *ℤ dot d v) d
+    eq : combination (pos (nat_abs (dot d d))) (combination (pos b) e a v) (pos 0) (combination (pos b) e a v) ≡ combination (pos (nat_abs (dot d d) * b)) e (a *ℤ dot d v) d
     eq = let s = scaled-coordinates d v p in
-        vector-same (comb (pos (nat_abs (dot d d))) (comb (pos b) e a v) (pos 0) (comb (pos b) e a v)) (comb (pos (nat_abs (dot d d) * b)) e (a *ℤ dot d v) d)
+        vector-same (combination (pos (nat_abs (dot d d))) (combination (pos b) e a v) (pos 0) (combination (pos b) e a v)) (combination (pos (nat_abs (dot d d) * b)) e (a *ℤ dot d v) d)
         (one e.x v.x d.x s.0) (one e.y v.y d.y s.1) (one e.z v.z d.z s.2)
       where
         one : (x y z : ℤ) → dot d d *ℤ y ≡ dot d v *ℤ z → pos (nat_abs (dot d d)) *ℤ (pos b *ℤ x +ℤ a *ℤ y) +ℤ pos 0 *ℤ (pos b *ℤ x +ℤ a *ℤ y) ≡ pos (nat_abs (dot d d) * b) *ℤ x +ℤ a *ℤ dot d v *ℤ z
@@ -77,22 +77,22 @@ flat-parallel M V d v h p F e b a sb m = (λ f. go f, λ f. come f)
             ∙ ring (pos (nat_abs (dot d d)) ∷ pos b ∷ x ∷ a ∷ dot d v ∷ z ∷ []) (at 0 ⊗ at 1 ⊗ at 2 ⊕ at 3 ⊗ (at 4 ⊗ at 5)) (at 0 ⊗ at 1 ⊗ at 2 ⊕ at 3 ⊗ at 4 ⊗ at 5) tt
 
     -- Full is the same at a positive multiple
-    scale : (u : Vector) (k : ℕ) → 0 < k → Full M u m → Full M (comb (pos k) u (pos 0) u) m
+    scale : (u : Vector) (k : ℕ) → 0 < k → Full M u m → Full M (combination (pos k) u (pos 0) u) m
     scale u k sk (inl (z, r)) = inl ((nil u.x z.0, nil u.y z.1, nil u.z z.2), r)
       where
         nil : (x : ℤ) → x ≡ pos 0 → pos k *ℤ x +ℤ pos 0 *ℤ x ≡ pos 0
         nil x y = ap (λ r. pos k *ℤ r +ℤ pos 0 *ℤ x) y ∙ ring (pos k ∷ x ∷ []) (at 0 ⊗ num (pos 0) ⊕ num (pos 0) ⊗ at 1) (num (pos 0)) tt
-    scale u k sk (inr l) = inr (label-by_signs M V u (comb (pos k) u (pos 0) u) (scaled-signs (forms M) u k sk) m l)
+    scale u k sk (inr l) = inr (label-by_signs M V u (combination (pos k) u (pos 0) u) (scaled-signs (forms M) u k sk) m l)
 
-    unscale : (u : Vector) (k : ℕ) → 0 < k → Full M (comb (pos k) u (pos 0) u) m → Full M u m
+    unscale : (u : Vector) (k : ℕ) → 0 < k → Full M (combination (pos k) u (pos 0) u) m → Full M u m
     unscale u k sk (inl (z, r)) = inl ((nil u.x z.0, nil u.y z.1, nil u.z z.2), r)
       where
         nil : (x : ℤ) → pos k *ℤ x +ℤ pos 0 *ℤ x ≡ pos 0 → x ≡ pos 0
         nil x y = ⊎_elim (λ z. z) (λ f. absurd (product-off (pos k) x (omega (arith, ints)) f (ring (pos k ∷ x ∷ []) (at 0 ⊗ at 1) (at 0 ⊗ at 1 ⊕ num (pos 0) ⊗ at 1) tt ∙ y))) (nought-or x)
-    unscale u k sk (inr l) = inr (label-by_signs M V (comb (pos k) u (pos 0) u) u (λ g i. sym (scaled-signs (forms M) u k sk g i)) m l)
+    unscale u k sk (inr l) = inr (label-by_signs M V (combination (pos k) u (pos 0) u) u (λ g i. sym (scaled-signs (forms M) u k sk g i)) m l)
 
-    go : Full M e m → Full M (comb (pos b) e a v) m
-    go f = unscale (comb (pos b) e a v) (nat_abs (dot d d)) q-is.1 (subst (λ (r : Vector). Full M r m) (sym eq) ((F e (nat_abs (dot d d) * b) (a *ℤ dot d v) (mul-pos q-is.1 sb) m).0 f))
+    go : Full M e m → Full M (combination (pos b) e a v) m
+    go f = unscale (combination (pos b) e a v) (nat_abs (dot d d)) q-is.1 (subst (λ (r : Vector). Full M r m) (sym eq) ((F e (nat_abs (dot d d) * b) (a *ℤ dot d v) (mul-pos q-is.1 sb) m).0 f))
 
-    come : Full M (comb (pos b) e a v) m → Full M e m
-    come f = (F e (nat_abs (dot d d) * b) (a *ℤ dot d v) (mul-pos q-is.1 sb) m).1 (subst (λ (r : Vector). Full M r m) eq (scale (comb (pos b) e a v) (nat_abs (dot d d)) q-is.1 f))
+    come : Full M (combination (pos b) e a v) m → Full M e m
+    come f = (F e (nat_abs (dot d d) * b) (a *ℤ dot d v) (mul-pos q-is.1 sb) m).1 (subst (λ (r : Vector). Full M r m) eq (scale (combination (pos b) e a v) (nat_abs (dot d d)) q-is.1 f))

@@ -1,5 +1,5 @@
 -- Maps of volume, facet and edge points stay the same along the directions that their kind names.
-use Rattle.law_sphere.proofs.Prelude.{◌≡◌, ℕ, zero, suc, ◌<◌, ℤ, pos, ◌+ℤ◌, ◌-ℤ◌, ◌*ℤ◌, ◌<ℤ◌, arith, refl, ap, sym, ◌∙◌, ◌⊎◌, inl, inr, ⊎_elim, List, ◌∷◌, subst, Some, [], ints, ring, at, num, ◌⊕◌, ◌⊖◌, ◌⊗◌, Sign, sign, sign-plus, sign-minus, by_order, mul_pos, sign-scaled, Vector, IsDirection, cross, triple, dot, IsZero, SameDirection, IsOpposite, blend, Label, comb, IsAt, MapVertex, Arc, MapSloop, Map, Item, arc_item, sloop_item, items, item_normal, dir_of, OnItem, IsFree, pos_item, neg_item, IsClear, directly, MapLabel, at_svertex, on_item, seen, Valid, IsOnCircle, by_side, Least, Full, FlatMap, IsInVolume, IsInFacet, IsOnEdge, zero-decided, dot-zero, triple-dot, cross-turned, opposites, SameDirection-turned, dir-self, in-span, apart, parallel-trans, is-at_first, is-at_none}
+use Rattle.law_sphere.proofs.Prelude.{◌≡◌, ℕ, zero, suc, ◌<◌, ℤ, pos, ◌+ℤ◌, ◌-ℤ◌, ◌*ℤ◌, ◌<ℤ◌, arith, refl, ap, sym, ◌∙◌, ◌⊎◌, inl, inr, ⊎_elim, List, ◌∷◌, subst, Some, [], ints, ring, at, num, ◌⊕◌, ◌⊖◌, ◌⊗◌, Sign, sign, sign-plus, sign-minus, by_order, mul_pos, sign-scaled, Vector, IsDirection, cross, triple, dot, IsZero, SameDirection, IsOpposite, blend, Label, combination, IsAt, MapVertex, Arc, MapSloop, Map, Item, arc_item, sloop_item, items, item_normal, dir_of, OnItem, IsFree, pos_item, neg_item, IsClear, directly, MapLabel, at_svertex, on_item, seen, Valid, IsOnCircle, by_side, Least, Full, FlatMap, IsInVolume, IsInFacet, IsOnEdge, zero-decided, dot-zero, triple-dot, cross-turned, opposites, SameDirection-turned, dir-self, in-span, apart, parallel-trans, is-at_first, is-at_none}
 use Rattle.law_sphere.proofs.Vectors.{normal-is, dot-comb, direction-by}
 use Rattle.law_sphere.proofs.Forms.{on-level}
 use Rattle.law_sphere.proofs.Parallel.{circle-point}
@@ -17,7 +17,7 @@ use Rattle.std.proofs.lemmas.Option.{same_Some}
 
 -- ---- volumes
 pub volume-flat : (M : Map) → Valid M → IsInVolume M → (d : Vector) → FlatMap M d
-volume-flat M V K d e b a sb m = (λ f. all (comb (pos b) e a d) (is_mark e f), λ f. all e (is_mark (comb (pos b) e a d) f))
+volume-flat M V K d e b a sb m = (λ f. all (combination (pos b) e a d) (is_mark e f), λ f. all e (is_mark (combination (pos b) e a d) f))
   where
     is_mark : (u : Vector) → Full M u m → M.mark ≡ m
     is_mark u (inl z) = z.1
@@ -66,7 +66,7 @@ module _ (M : Map) (V : Valid M) (l : MapSloop) (bare : M.svertices ≡ []) (has
           }
 
 pub facet-flat : (M : Map) → Valid M → (n : Vector) → IsInFacet M n → (d : Vector) → dot n d ≡ pos 0 → FlatMap M d
-facet-flat M V n K d level e b a sb m = (λ f. all (comb (pos b) e a d) (sym (is_side e f) ∙ ap side (sym same)), λ f. all e (sym (is_side (comb (pos b) e a d) f) ∙ ap side same))
+facet-flat M V n K d level e b a sb m = (λ f. all (combination (pos b) e a d) (sym (is_side e f) ∙ ap side (sym same)), λ f. all e (sym (is_side (combination (pos b) e a d) f) ∙ ap side same))
   where
     side : Sign → Label
     side s = by_side K.sloop.pos K.sloop.mark K.sloop.neg s
@@ -74,7 +74,7 @@ facet-flat M V n K d level e b a sb m = (λ f. all (comb (pos b) e a d) (sym (is
     flat : dot K.sloop.normal d ≡ pos 0
     flat = ap (λ r. dot r d) K.normal ∙ level
 
-    same : sign (dot K.sloop.normal (comb (pos b) e a d)) ≡ sign (dot K.sloop.normal e)
+    same : sign (dot K.sloop.normal (combination (pos b) e a d)) ≡ sign (dot K.sloop.normal e)
     same = ap sign (dot-comb K.sloop.normal (pos b) e a d ∙ ap (λ r. pos b *ℤ dot K.sloop.normal e +ℤ a *ℤ r) flat ∙ ring (pos b ∷ dot K.sloop.normal e ∷ a ∷ []) (at 0 ⊗ at 1 ⊕ at 2 ⊗ num (pos 0)) (at 0 ⊗ at 1) tt)
         ∙ sign-scaled (pos b) (dot K.sloop.normal e) (omega (arith, ints))
 
@@ -161,7 +161,7 @@ module _ (M : Map) (V : Valid M) (d : Vector) (K : IsOnEdge M d) where
   -- off the axis, a direction goes with all that differ by multiples of the axis
   module _ (e : Vector) (off : IsDirection (cross u e)) (b : ℕ) (a : ℤ) (sb : 0 < b) where
     abbrev moved : Vector
-    moved = comb (pos b) e a u
+    moved = combination (pos b) e a u
 
     pub off-moved : IsDirection (cross u moved)
     off-moved z = off (IsZero-times (pos b) (cross u e) (omega (arith, ints)) (one u.y u.z e.y e.z z.0) (one u.z u.x e.z e.x z.1) (one u.x u.y e.x e.y z.2))

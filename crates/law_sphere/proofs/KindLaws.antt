@@ -1,5 +1,5 @@
 -- The map of an edge point stays the same along the edge; a least map that stays the same along a direction is of one of three kinds.
-use Rattle.law_sphere.proofs.Prelude.{◌≡◌, ℕ, zero, suc, ◌+◌, ◌*◌, ◌<◌, ℤ, pos, ◌+ℤ◌, ◌-ℤ◌, ◌*ℤ◌, arith, refl, ap, sym, ◌∙◌, ◌⊎◌, inl, inr, ⊎_elim, List, ◌∷◌, subst, Option, Some, None, neg_ℤ, [], ints, ring, at, num, ◌⊕◌, ◌⊖◌, ◌⊗◌, neg, follows, given, none, sign, mul_neg, sign-scaled, Vector, IsDirection, cross, triple, dot, IsZero, SameDirection, IsOpposite, blend, opposite, Label, comb, IsAt, MapVertex, MapSloop, Map, sloop_item, item_mark, IsFree, IsClear, MapLabel, at_svertex, on_item, NearLabel, Valid, by_side, NearPlain, NearStraight, Least, Full, FlatMap, IsInVolume, IsInFacet, IsOnEdge, dot-comm, zero-decided, self-pos, vector-same, cross-turned, triple-middle, opposites, SameDirection-turned, dir-self, dir-signs, parallel-trans, direction-opposite, dot-opposite, opposite-itself, is-at_none, is-at_first}
+use Rattle.law_sphere.proofs.Prelude.{◌≡◌, ℕ, zero, suc, ◌+◌, ◌*◌, ◌<◌, ℤ, pos, ◌+ℤ◌, ◌-ℤ◌, ◌*ℤ◌, arith, refl, ap, sym, ◌∙◌, ◌⊎◌, inl, inr, ⊎_elim, List, ◌∷◌, subst, Option, Some, None, neg_ℤ, [], ints, ring, at, num, ◌⊕◌, ◌⊖◌, ◌⊗◌, neg, follows, given, none, sign, mul_neg, sign-scaled, Vector, IsDirection, cross, triple, dot, IsZero, SameDirection, IsOpposite, blend, opposite, Label, combination, IsAt, MapVertex, MapSloop, Map, sloop_item, item_mark, IsFree, IsClear, MapLabel, at_svertex, on_item, NearLabel, Valid, by_side, NearPlain, NearStraight, Least, Full, FlatMap, IsInVolume, IsInFacet, IsOnEdge, dot-comm, zero-decided, self-pos, vector-same, cross-turned, triple-middle, opposites, SameDirection-turned, dir-self, dir-signs, parallel-trans, direction-opposite, dot-opposite, opposite-itself, is-at_none, is-at_first}
 use Rattle.law_sphere.proofs.Vectors.{dot-comb, same-minus}
 use Rattle.law_sphere.proofs.Lists.{search_list}
 use Rattle.law_sphere.proofs.Forms.{PlaceOf, svertex_place, item_place, free_place, place_of, OnItem-by_signs}
@@ -25,12 +25,12 @@ full-one M V e m n (inr l) (inr k) = label-unique M V e m n l k
 full-exists : (M : Map) → Valid M → (e : Vector) → (m : Label) × Full M e m
 full-exists M V e = ⊎_elim (λ z. (M.mark, inl (z, refl))) (λ f. let l = label-exists M V e f in (l.0, inr l.1)) (zero-decided e)
 
-flat-from_onward : (M : Map) → Valid M → (d : Vector) → ((e : Vector) (b : ℕ) (a : ℤ) → 0 < b → (m : Label) → Full M e m → Full M (comb (pos b) e a d) m) → FlatMap M d
+flat-from_onward : (M : Map) → Valid M → (d : Vector) → ((e : Vector) (b : ℕ) (a : ℤ) → 0 < b → (m : Label) → Full M e m → Full M (combination (pos b) e a d) m) → FlatMap M d
 flat-from_onward M V d on e b a sb m = (
   on e b a sb m,
   λ f.
       let x = full-exists M V e in
-      subst (λ (r : Label). Full M e r) (full-one M V (comb (pos b) e a d) x.0 m (on e b a sb x.0 x.1) f) x.1,
+      subst (λ (r : Label). Full M e r) (full-one M V (combination (pos b) e a d) x.0 m (on e b a sb x.0 x.1) f) x.1,
 )
 
 -- ---- edges
@@ -39,22 +39,22 @@ module _ (M : Map) (V : Valid M) (d : Vector) (K : IsOnEdge M d) where
   u = K.first.dir
 
   module _ (e : Vector) (off : IsDirection (cross u e)) where
-    moved-free : IsFree M e → (b : ℕ) (a : ℤ) → 0 < b → IsFree M (comb (pos b) e a u)
+    moved-free : IsFree M e → (b : ℕ) (a : ℤ) → 0 < b → IsFree M (combination (pos b) e a u)
     moved-free F b a sb = record {
-      direction = cross-direction_right u (comb (pos b) e a u) (off-moved M V d K e off b a sb);
+      direction = cross-direction_right u (combination (pos b) e a u) (off-moved M V d K e off b a sb);
       off_svertices = λ k v h w. off-svertices M V d K e off b a sb k v h w;
-      off_items = λ k x h o. F.off_items k x h (OnItem-by_signs M x (comb (pos 1) (comb (pos b) e a u) (pos 0 -ℤ a) u) e (λ g l. sym (same g))
-          (arc-moved M V d K (comb (pos b) e a u) (off-moved M V d K e off b a sb) 1 (pos 0 -ℤ a) (omega arith) k x h o));
+      off_items = λ k x h o. F.off_items k x h (OnItem-by_signs M x (combination (pos 1) (combination (pos b) e a u) (pos 0 -ℤ a) u) e (λ g l. sym (same g))
+          (arc-moved M V d K (combination (pos b) e a u) (off-moved M V d K e off b a sb) 1 (pos 0 -ℤ a) (omega arith) k x h o));
     }
       where
-        same : (g : Vector) → sign (dot g (comb (pos 1) (comb (pos b) e a u) (pos 0 -ℤ a) u)) ≡ sign (dot g e)
-        same g = ap sign (dot-comb g (pos 1) (comb (pos b) e a u) (pos 0 -ℤ a) u ∙ ap (λ r. pos 1 *ℤ r +ℤ (pos 0 -ℤ a) *ℤ dot g u) (dot-comb g (pos b) e a u)
+        same : (g : Vector) → sign (dot g (combination (pos 1) (combination (pos b) e a u) (pos 0 -ℤ a) u)) ≡ sign (dot g e)
+        same g = ap sign (dot-comb g (pos 1) (combination (pos b) e a u) (pos 0 -ℤ a) u ∙ ap (λ r. pos 1 *ℤ r +ℤ (pos 0 -ℤ a) *ℤ dot g u) (dot-comb g (pos b) e a u)
             ∙ ring (pos b ∷ dot g e ∷ a ∷ dot g u ∷ []) (num (pos 1) ⊗ (at 0 ⊗ at 1 ⊕ at 2 ⊗ at 3) ⊕ (num (pos 0) ⊖ at 2) ⊗ at 3) (at 0 ⊗ at 1) tt) ∙ sign-scaled (pos b) (dot g e) (omega (arith, ints))
 
-    moved-not_opposite : (b : ℕ) (a : ℤ) → 0 < b → IsOpposite e (comb (pos b) e a u) → ⊥
+    moved-not_opposite : (b : ℕ) (a : ℤ) → 0 < b → IsOpposite e (combination (pos b) e a u) → ⊥
     moved-not_opposite b a sb o =
         let p = cross u e in
-        let w = comb (pos b) e a u in
+        let w = combination (pos b) e a u in
         let he = cross-direction_right u e off in
         let q = self-pos p off in
         let t : triple p e u ≡ pos 0 -ℤ dot p p = ring (u.x ∷ u.y ∷ u.z ∷ e.x ∷ e.y ∷ e.z ∷ [])
@@ -66,25 +66,25 @@ module _ (M : Map) (V : Valid M) (d : Vector) (K : IsOnEdge M d) where
         let y = mul_neg (pos b) (triple p e u) (omega (arith, ints)) (omega (arith, ints)) in
         omega (arith, ints)
 
-    moved-label : (b : ℕ) (a : ℤ) → 0 < b → (m : Label) → MapLabel M e m → MapLabel M (comb (pos b) e a u) m
+    moved-label : (b : ℕ) (a : ℤ) → 0 < b → (m : Label) → MapLabel M e m → MapLabel M (combination (pos b) e a u) m
     moved-label b a sb m l = by (place_of M e (cross-direction_right u e off))
       where
-        by : PlaceOf M e → MapLabel M (comb (pos b) e a u) m
+        by : PlaceOf M e → MapLabel M (combination (pos b) e a u) m
         by (svertex_place k v h w) = absurd (off (parallel-trans u v.dir e (V.shaped.svertex_dirs k v h) (svertex-parallel M V d K k v h) w.parallel))
         by (item_place k x h o) = on_item k x h (arc-moved M V d K e off b a sb k x h o) (label-unique M V e (item_mark x) m (on_item k x h o refl) l)
         by (free_place F) =
             let G = moved-free F b a sb in
-            let c : IsClear M e (comb (pos b) e a u) = record {
+            let c : IsClear M e (combination (pos b) e a u) = record {
               start = F;
               direction = G.direction;
               short = moved-not_opposite b a sb;
               between = λ i j si sj. subst (IsFree M) (eq i j) (moved-free F (i + j * b) (pos j *ℤ a) (omega arith));
             } in
-            let x = label-exists M V (comb (pos b) e a u) G.direction in
-            subst (λ (r : Label). MapLabel M (comb (pos b) e a u) r) (sym (clear-label M V e (comb (pos b) e a u) c G m x.0 l x.1)) x.1
+            let x = label-exists M V (combination (pos b) e a u) G.direction in
+            subst (λ (r : Label). MapLabel M (combination (pos b) e a u) r) (sym (clear-label M V e (combination (pos b) e a u) c G m x.0 l x.1)) x.1
           where
-            eq : (i j : ℕ) → comb (pos (i + j * b)) e (pos j *ℤ a) u ≡ blend i e j (comb (pos b) e a u)
-            eq i j = vector-same (comb (pos (i + j * b)) e (pos j *ℤ a) u) (blend i e j (comb (pos b) e a u)) (one e.x u.x) (one e.y u.y) (one e.z u.z)
+            eq : (i j : ℕ) → combination (pos (i + j * b)) e (pos j *ℤ a) u ≡ blend i e j (combination (pos b) e a u)
+            eq i j = vector-same (combination (pos (i + j * b)) e (pos j *ℤ a) u) (blend i e j (combination (pos b) e a u)) (one e.x u.x) (one e.y u.y) (one e.z u.z)
               where
                 one : (x y : ℤ) → pos (i + j * b) *ℤ x +ℤ pos j *ℤ a *ℤ y ≡ pos i *ℤ x +ℤ pos j *ℤ (pos b *ℤ x +ℤ a *ℤ y)
                 one x y = ring (pos i ∷ pos j ∷ pos b ∷ x ∷ a ∷ y ∷ []) ((at 0 ⊕ at 1 ⊗ at 2) ⊗ at 3 ⊕ at 1 ⊗ at 4 ⊗ at 5) (at 0 ⊗ at 3 ⊕ at 1 ⊗ (at 2 ⊗ at 3 ⊕ at 4 ⊗ at 5)) tt
@@ -92,9 +92,9 @@ module _ (M : Map) (V : Valid M) (d : Vector) (K : IsOnEdge M d) where
   pub first-flat : FlatMap M u
   first-flat = flat-from_onward M V u on
     where
-      on : (e : Vector) (b : ℕ) (a : ℤ) → 0 < b → (m : Label) → Full M e m → Full M (comb (pos b) e a u) m
+      on : (e : Vector) (b : ℕ) (a : ℤ) → 0 < b → (m : Label) → Full M e m → Full M (combination (pos b) e a u) m
       on e b a sb m f = ⊎_elim
-          (λ z. let q = is_mark z f in ⊎_elim (λ y. inl (y, q)) (λ g. inr (subst (λ (r : Label). MapLabel M (comb (pos b) e a u) r) q (axis-label M V d K (comb (pos b) e a u) g (parallel z)))) (zero-decided (comb (pos b) e a u)))
+          (λ z. let q = is_mark z f in ⊎_elim (λ y. inl (y, q)) (λ g. inr (subst (λ (r : Label). MapLabel M (combination (pos b) e a u) r) q (axis-label M V d K (combination (pos b) e a u) g (parallel z)))) (zero-decided (combination (pos b) e a u)))
           (λ g. inr (moved-label e g b a sb m (full-label M e m (cross-direction_right u e g) f)))
           (zero-decided (cross u e))
         where
@@ -102,7 +102,7 @@ module _ (M : Map) (V : Valid M) (d : Vector) (K : IsOnEdge M d) where
           is_mark z (inl w) = w.1
           is_mark z (inr l) = label-unique M V e M.mark m (axis-label M V d K e (label-direction M e m l) z) l
 
-          parallel : IsZero (cross u e) → IsZero (cross u (comb (pos b) e a u))
+          parallel : IsZero (cross u e) → IsZero (cross u (combination (pos b) e a u))
           parallel z = (one u.y u.z e.y e.z z.0, one u.z u.x e.z e.x z.1, one u.x u.y e.x e.y z.2)
             where
               one : (p q x y : ℤ) → p *ℤ y -ℤ q *ℤ x ≡ pos 0 → p *ℤ (pos b *ℤ y +ℤ a *ℤ q) -ℤ q *ℤ (pos b *ℤ x +ℤ a *ℤ p) ≡ pos 0
@@ -168,8 +168,8 @@ module _ (M : Map) (V : Valid M) (L : Least M) (d : Vector) (h : IsDirection d) 
     near-over : (e : Vector) → IsDirection (cross v.dir e) → (m : Label) → NearLabel M (opposite v.dir) e m → NearLabel M v.dir e m
     near-over e f m (n, g) = (n, λ i l. subst (λ (r : Vector). MapLabel M r m) (eq i) (flat-onward M v.dir Fv (blend i (opposite v.dir) 1 e) 1 (pos (2 * i)) (omega arith) m (subst IsDirection (sym (eq i)) (between-direction v.dir e i 1 (omega arith) f)) (g i l)))
       where
-        eq : (i : ℕ) → comb (pos 1) (blend i (opposite v.dir) 1 e) (pos (2 * i)) v.dir ≡ blend i v.dir 1 e
-        eq i = let w = v.dir in vector-same (comb (pos 1) (blend i (opposite w) 1 e) (pos (2 * i)) w) (blend i w 1 e) (one w.x e.x) (one w.y e.y) (one w.z e.z)
+        eq : (i : ℕ) → combination (pos 1) (blend i (opposite v.dir) 1 e) (pos (2 * i)) v.dir ≡ blend i v.dir 1 e
+        eq i = let w = v.dir in vector-same (combination (pos 1) (blend i (opposite w) 1 e) (pos (2 * i)) w) (blend i w 1 e) (one w.x e.x) (one w.y e.y) (one w.z e.z)
           where
             one : (x y : ℤ) → pos 1 *ℤ (pos i *ℤ neg_ℤ x +ℤ pos 1 *ℤ y) +ℤ pos (2 * i) *ℤ x ≡ pos i *ℤ x +ℤ pos 1 *ℤ y
             one x y = ring (pos i ∷ x ∷ y ∷ []) (num (pos 1) ⊗ (at 0 ⊗ neg (at 1) ⊕ num (pos 1) ⊗ at 2) ⊕ num (pos 2) ⊗ at 0 ⊗ at 1) (at 0 ⊗ at 1 ⊕ num (pos 1) ⊗ at 2) tt

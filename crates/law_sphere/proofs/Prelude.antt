@@ -19,4 +19,5 @@ pub use Rattle.law_sphere.specs.Least.{ArcBelow, Cone, InOrder, Least, MatchedAr
 pub use Rattle.law_sphere.specs.Maps.{Arc, HasArc, HasSide, InOneSface, IsClear, IsFree, Item, Map, MapLabel, MapSloop, MapVertex, NearLabel, OnItem, Reaches, SeenAs, Sees, Shaped, Side, Valid, arc_item, around_svertex, at_svertex, by_way_of, dir_of, directly, here, item_mark, item_neg, item_normal, item_pos, items, items_then, link, neg_item, on_item, pos_item, seen, sloop_item, whole}
 pub use Rattle.law_sphere.specs.Sectors.{ArcRay, BoundsSector, IsLastRay, IsLastSide, Unrayed, end_left, end_side, ray_left, ray_side}
 pub use Rattle.law_sphere.specs.Stars.{Follows, IsPlain, IsSimplified, IsStraight, LeavesAxis, NextRay, OnRay, Ray, Star, StarLabel, StarOf, StarShows, across, in_only_sector, in_sector, on_ray, ray_dir}
-pub use Rattle.law_sphere.specs.Vectors.{IsPrimitive, VectorBelow, comb}
+pub use Rattle.law_sphere.specs.Vectors.{IsPrimitive, VectorBelow}
+pub use Rattle.law_near.specs.Cones.{combination}

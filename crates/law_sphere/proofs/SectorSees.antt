@@ -1,5 +1,5 @@
 -- The side of a ray of a svertex sees each free direction that has a clear way to the svertex in the sector after the ray.
-use Rattle.law_sphere.proofs.Prelude.{◌≡◌, ℕ, ◌+◌, ◌<◌, ◌≤◌, pos, negsuc, ◌*ℤ◌, ◌-ℤ◌, ◌<ℤ◌, arith, ap, sym, ◌∙◌, ◌⊎◌, inl, inr, ◌∷◌, subst, [], ints, ring, at, num, ◌⊕◌, ◌⊖◌, ◌⊗◌, neg, follows, given, none, sign, by_order, mul_pos, mul_neg, sign-scaled, Vector, IsDirection, triple, cross, dot, opposite, SameDirection, blend, IsOnCircle, IsStrictlyOn, IsAt, MapVertex, Map, arc_item, items, dir_of, OnItem, IsClear, Reaches, Sees, directly, by_way_of, Shaped, ArcRay, end_left, end_side, ray_left, ray_side, Unrayed, forms, comb, dot-comm, dot-zero, zero-dot, self-pos, triple-dot, cross-turned, cross-none, opposite-dot, direction-opposite, level-opposite, square-cross, triple-turned, SameDirection-turned, dir-self, parallel-in_plane, blend_of, cross_of, dot_poly, numbers, poly_triple, triple_poly, vec}
+use Rattle.law_sphere.proofs.Prelude.{◌≡◌, ℕ, ◌+◌, ◌<◌, ◌≤◌, pos, negsuc, ◌*ℤ◌, ◌-ℤ◌, ◌<ℤ◌, arith, ap, sym, ◌∙◌, ◌⊎◌, inl, inr, ◌∷◌, subst, [], ints, ring, at, num, ◌⊕◌, ◌⊖◌, ◌⊗◌, neg, follows, given, none, sign, by_order, mul_pos, mul_neg, sign-scaled, Vector, IsDirection, triple, cross, dot, opposite, SameDirection, blend, IsOnCircle, IsStrictlyOn, IsAt, MapVertex, Map, arc_item, items, dir_of, OnItem, IsClear, Reaches, Sees, directly, by_way_of, Shaped, ArcRay, end_left, end_side, ray_left, ray_side, Unrayed, forms, combination, dot-comm, dot-zero, zero-dot, self-pos, triple-dot, cross-turned, cross-none, opposite-dot, direction-opposite, level-opposite, square-cross, triple-turned, SameDirection-turned, dir-self, parallel-in_plane, blend_of, cross_of, dot_poly, numbers, poly_triple, triple_poly, vec}
 use Rattle.law_sphere.proofs.cyclic.Directions.{way_back_passes_the_same, arcs_are_of_directions}
 use Rattle.law_sphere.proofs.Vectors.{dot-comb, normal-is, same-plus}
 use Rattle.law_sphere.proofs.Generic.{amount, far-keeps}
@@ -258,7 +258,7 @@ module _ (M : Map) (V : Shaped M) (k : ℕ) (v : MapVertex) (a : IsAt M.svertice
           ray = cross m p
 
           back : Vector
-          back = comb (negsuc 0) e (negsuc 0) ray
+          back = combination (negsuc 0) e (negsuc 0) ray
 
           ahead : pos 0 <ℤ dot m back
           ahead = let l = dot-comb m (negsuc 0) e (negsuc 0) ray in let z = square-cross m p in omega (arith, ints)

@@ -1,6 +1,7 @@
 -- A simplified star at a plain direction has no ray; at a straight direction all its rays lie in the plane.
 use Rattle.law_sphere.proofs.Prelude.{◌≡◌, ℕ, zero, suc, ◌+◌, ℤ, pos, ◌*ℤ◌, ◌<ℤ◌, arith, refl, ap, sym, ◌∙◌, ◌⊎◌, inl, inr, ⊎_elim, List, ◌∷◌, subst, length, Bool, true, false, cond, [], ints, ring, at, num, ◌⊕◌, ◌⊖◌, ◌⊗◌, follows, given, none, sign, mul_pos, nought-or, Vector, IsDirection, cross, dot, IsZero, SameDirection, opposite, Label, IsAt, Map, NearLabel, Valid, IsStrictlyOn, by_side, NearPlain, NearStraight, Ray, Star, ray_dir, across, NextRay, on_ray, in_sector, LeavesAxis, StarShows, Follows, IsSimplified, dot-comm, self-pos, nought-if, dir-self, apart, direction-opposite, opposite-dot, opposite-twice, is-at_none}
-use Rattle.law_sphere.proofs.Vectors.{normal-direction}
+use Rattle.law_sphere.specs.Raw.{IsWellFormed}
+use Rattle.nef_space.proofs.Vectors.{normal-direction}
 use Rattle.law_sphere.proofs.Generic.{amount, far-keeps}
 use Rattle.law_sphere.proofs.Parallel.{past_source, arc-point}
 use Rattle.law_sphere.proofs.Labels.{near-unique}
@@ -73,26 +74,35 @@ ray-level t axis r = by r.ahead
       λ z. normal-direction r.normal q.normal (nought-if t.axis r.normal axis z (dot-comm t.axis r.normal ∙ q.level)),
     )
 
+-- what is at right angles to a direction doesn't lie along it
+pub off-axis : (d e : Vector) → IsDirection d → IsDirection e → dot d e ≡ pos 0 → IsDirection (cross d e)
+off-axis d e hd he z = apart d d e (λ y. let p = self-pos d hd in omega (arith, ints)) z he
+
+-- all rays of a star leave at right angles to the axis: of one that is well formed, and of one that shows a map
+pub made-level : (t : Star) → IsWellFormed t → (k : ℕ) (r : Ray) → IsAt t.rays k r → (dot t.axis (ray_dir t r) ≡ pos 0) × IsDirection (ray_dir t r)
+made-level t W k r a = ray-level t W.axis r (W.rays k r a)
+
+pub shown-level : (t : Star) (M : Map) → StarShows t M → (k : ℕ) (r : Ray) → IsAt t.rays k r → (dot t.axis (ray_dir t r) ≡ pos 0) × IsDirection (ray_dir t r)
+shown-level t M S k r a = ray-level t S.axis r (S.rays k r a)
+
+-- the label on a ray
+pub ray-label : (t : Star) (M : Map) → StarShows t M → (k : ℕ) (r : Ray) → IsAt t.rays k r → NearLabel M t.axis (ray_dir t r) r.mark
+ray-label t M S k r a = let w = shown-level t M S k r a in
+    S.labels (ray_dir t r) r.mark (off-axis t.axis (ray_dir t r) S.axis w.1 w.0) (on_ray k r a (across-same t.axis (ray_dir t r) S.axis w.1 w.0) refl)
+
 module _ (t : Star) (M : Map) (V : Valid M) (S : StarShows t M) (simple : IsSimplified t) where
   abbrev d : Vector
   d = t.axis
 
-  pub way-level : (k : ℕ) (r : Ray) → IsAt t.rays k r → (dot d (ray_dir t r) ≡ pos 0) × IsDirection (ray_dir t r)
-  way-level k r a = ray-level t S.axis r (S.rays k r a)
+  way-level : (k : ℕ) (r : Ray) → IsAt t.rays k r → (dot d (ray_dir t r) ≡ pos 0) × IsDirection (ray_dir t r)
+  way-level = shown-level t M S
 
-  pub off-axis : (e : Vector) → IsDirection e → dot d e ≡ pos 0 → IsDirection (cross d e)
-  off-axis e h z = apart d d e (λ y. let p = self-pos d S.axis in omega (arith, ints)) z h
-
-  -- the label on a ray, and in a sector
-  pub ray-label : (k : ℕ) (r : Ray) → IsAt t.rays k r → NearLabel M d (ray_dir t r) r.mark
-  ray-label k r a = let w = way-level k r a in
-      S.labels (ray_dir t r) r.mark (off-axis (ray_dir t r) w.1 w.0) (on_ray k r a (across-same d (ray_dir t r) S.axis w.1 w.0) refl)
-
+  -- the label in a sector
   pub sector-label : (k : ℕ) (q r : Ray) (l : Label) → IsAt t.rays k q → NextRay t.rays k r → IsAt t.sectors k l → (e : Vector) → IsStrictlyOn d (ray_dir t q) (ray_dir t r) e → NearLabel M d e l
   sector-label k q r l a n s e o =
       let h = o.on_circle.direction in
       let z = o.on_circle.level in
-      S.labels e l (off-axis e h z) (in_sector k q r a n (IsStrictlyOn-same d d (ray_dir t q) (ray_dir t q) (ray_dir t r) (ray_dir t r) e (across d e)
+      S.labels e l (off-axis d e S.axis h z) (in_sector k q r a n (IsStrictlyOn-same d d (ray_dir t q) (ray_dir t q) (ray_dir t r) (ray_dir t r) e (across d e)
       (dir-self d S.axis) (dir-self (ray_dir t q) (let w = way-level k q a in w.1)) (dir-self (ray_dir t r) (next-direction n)) (across-same d e S.axis h z) o) s)
     where
       next-direction : NextRay t.rays k r → IsDirection (ray_dir t r)
@@ -144,21 +154,21 @@ module _ (t : Star) (M : Map) (V : Valid M) (S : StarShows t M) (simple : IsSimp
       let g = before-ray u k r a f y.1 y.0 y.2 in
       let o = e.1 in
       let q = g.1 in
-      let mark = near-unique M V d (ray_dir t r) r.mark m (ray-label k r a) n in
-      let one = near-unique M V d e.0 s.0 m (sector-label k r x.0 s.0 a x.3 s.1 e.0 o) (all e.0 (off-axis e.0 o.on_circle.direction o.on_circle.level) e.2) in
-      let two = near-unique M V d g.0 p.0 m (sector-label y.0 y.1 r p.0 y.2 y.4 p.1 g.0 q) (all g.0 (off-axis g.0 q.on_circle.direction q.on_circle.level) g.2) in
+      let mark = near-unique M V d (ray_dir t r) r.mark m (ray-label t M S k r a) n in
+      let one = near-unique M V d e.0 s.0 m (sector-label k r x.0 s.0 a x.3 s.1 e.0 o) (all e.0 (off-axis d e.0 S.axis o.on_circle.direction o.on_circle.level) e.2) in
+      let two = near-unique M V d g.0 p.0 m (sector-label y.0 y.1 r p.0 y.2 y.4 p.1 g.0 q) (all g.0 (off-axis d g.0 S.axis q.on_circle.direction q.on_circle.level) g.2) in
       simple y.0 k y.1 r p.0 s.0 y.2 a y.3 p.1 s.1 (mark ∙ sym two) (mark ∙ sym one)
 
   -- at a plain direction there is no ray
   pub plain-no_ray : NearPlain M d → (k : ℕ) (r : Ray) → IsAt t.rays k r → ⊥
   plain-no_ray P k r a =
       let w = way-level k r a in
-      not-even k r a (ray_dir t r) (λ z. let p = self-pos (ray_dir t r) w.1 in omega (arith, ints)) P.label (P.near (ray_dir t r) (off-axis (ray_dir t r) w.1 w.0)) (λ e f g. P.near e f)
+      not-even k r a (ray_dir t r) (λ z. let p = self-pos (ray_dir t r) w.1 in omega (arith, ints)) P.label (P.near (ray_dir t r) (off-axis d (ray_dir t r) S.axis w.1 w.0)) (λ e f g. P.near e f)
 
   -- at a straight direction each ray lies in the plane
   pub straight-level : (P : NearStraight M d) → (k : ℕ) (r : Ray) → IsAt t.rays k r → dot P.normal (ray_dir t r) ≡ pos 0
   straight-level P k r a = ⊎_elim (λ z. z) (λ f. absurd (
       let w = way-level k r a in
       let side = by_side P.pos P.label P.neg in
-      not-even k r a P.normal f (side (sign (dot P.normal (ray_dir t r)))) (P.near (ray_dir t r) (off-axis (ray_dir t r) w.1 w.0))
+      not-even k r a P.normal f (side (sign (dot P.normal (ray_dir t r)))) (P.near (ray_dir t r) (off-axis d (ray_dir t r) S.axis w.1 w.0))
       (λ e g s. subst (NearLabel M d e) (ap side s) (P.near e g)))) (nought-or (dot P.normal (ray_dir t r)))

@@ -1,6 +1,6 @@
 -- A plain star says that the direction is plain, a straight star that it is straight.
 use Rattle.law_sphere.proofs.Prelude.{◌≡◌, ℕ, zero, suc, pos, ◌-ℤ◌, ◌*ℤ◌, ◌<ℤ◌, arith, refl, ap, sym, ◌∙◌, ◌⊎◌, inl, inr, ⊎_elim, List, ◌∷◌, subst, length, cond, [], ints, num, ◌⊖◌, ◌⊗◌, neg, follows, given, none, minus, nought, plus, sign, sign-plus, sign-minus, sign-scaled, Vector, IsDirection, cross, triple, dot, SameDirection, IsOpposite, IsNormal, Label, IsAt, Map, IsStrictlyOn, by_side, NearPlain, Ray, Star, ray_dir, across, OnRay, NextRay, StarLabel, on_ray, in_sector, in_only_sector, LeavesAxis, StarOf, IsPlain, IsStraight, dot-comm, self-pos, cross-turned, dir-signs, direction-left, cross_of, dir-self, dot_poly, from-opposite, level_cross_second, nought-if, numbers, opposite-cross, square-cross, poly_triple, vec, is-at_none, is-at_first}
-use Rattle.law_sphere.proofs.Vectors.{normal-direction}
+use Rattle.nef_space.proofs.Vectors.{normal-direction}
 use Rattle.law_sphere.proofs.Lists.{none-at}
 
 -- a plain direction has a plain star

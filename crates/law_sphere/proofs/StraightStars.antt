@@ -4,7 +4,7 @@ use Rattle.law_sphere.proofs.Vectors.{same-minus}
 use Rattle.law_sphere.proofs.Labels.{near-unique, label-unique}
 use Rattle.law_sphere.proofs.Around.{Beside, same_way, other_way, beside}
 use Rattle.law_sphere.proofs.Turn.{whole-passes}
-use Rattle.law_sphere.proofs.Simplified.{way-level, off-axis, ray-label, sector-label, straight-level}
+use Rattle.law_sphere.proofs.Simplified.{shown-level, off-axis, ray-label, sector-label, straight-level}
 
 -- no two rays go the same way
 abbrev pub RaysApart : Star → Type 0
@@ -37,14 +37,14 @@ module _ (t : Star) (M : Map) (V : Valid M) (S : StarShows t M) (simple : IsSimp
   -- each ray goes along n x d or its opposite
   along-plane : (k : ℕ) (r : Ray) → IsAt t.rays k r → Beside w0 (ray_dir t r)
   along-plane k r a =
-      let x = way-level t M V S simple k r a in
+      let x = shown-level t M S k r a in
       beside w0 (ray_dir t r) w0-direction x.1 (crossed n d (ray_dir t r) (straight-level t M V S simple P k r a) x.0)
 
   ray-mark : (k : ℕ) (r : Ray) → IsAt t.rays k r → r.mark ≡ P.label
   ray-mark k r a =
-      let x = way-level t M V S simple k r a in
-      near-unique M V d (ray_dir t r) r.mark P.label (ray-label t M V S simple k r a)
-      (subst (NearLabel M d (ray_dir t r)) (ap side (ap sign (straight-level t M V S simple P k r a))) (P.near (ray_dir t r) (off-axis t M V S simple (ray_dir t r) x.1 x.0)))
+      let x = shown-level t M S k r a in
+      near-unique M V d (ray_dir t r) r.mark P.label (ray-label t M S k r a)
+      (subst (NearLabel M d (ray_dir t r)) (ap side (ap sign (straight-level t M V S simple P k r a))) (P.near (ray_dir t r) (off-axis d (ray_dir t r) S.axis x.1 x.0)))
 
   star-mark : P.label ≡ t.mark
   star-mark = label-unique M V d P.label t.mark P.at_d S.mark
@@ -55,7 +55,7 @@ module _ (t : Star) (M : Map) (V : Valid M) (S : StarShows t M) (simple : IsSimp
       let a : IsAt t.rays zero r = subst (λ (q : List Ray). IsAt q zero r) (sym e) refl in
       let l = ap (length {A = Ray}) e in
       let s = S.sectors zero r a in
-      let x = way-level t M V S simple zero r a in
+      let x = shown-level t M S zero r a in
       let w = ray_dir t r in
       let z = straight-level t M V S simple P zero r a in
       let dn = dot-comm d n ∙ P.level in
@@ -63,7 +63,7 @@ module _ (t : Star) (M : Map) (V : Valid M) (S : StarShows t M) (simple : IsSimp
       let dw = dot-opposite d w in
       let nw = dot-opposite n w in
       let back = label-at r a s.0 s.1 (last-one l) (opposite w) hd (let y = x.0 in omega (arith, ints)) (λ q. let f = q.forward in let g = dot-opposite w w in let h = self-pos w x.1 in omega (arith, ints)) in
-      let m = near-unique M V d (opposite w) s.0 P.label back (subst (NearLabel M d (opposite w)) (ap side (ap sign (level-of_opposite n (ray_dir t r) z))) (P.near (opposite w) (off-axis t M V S simple (opposite w) hd (let y = x.0 in omega (arith, ints))))) in
+      let m = near-unique M V d (opposite w) s.0 P.label back (subst (NearLabel M d (opposite w)) (ap side (ap sign (level-of_opposite n (ray_dir t r) z))) (P.near (opposite w) (off-axis d (opposite w) S.axis hd (let y = x.0 in omega (arith, ints))))) in
       let k = ray-mark zero r a in
       simple zero zero r r s.0 s.0 a a (inr (sym l, refl)) s.1 s.1 (k ∙ sym m) (k ∙ sym m)
     where
@@ -72,7 +72,7 @@ module _ (t : Star) (M : Map) (V : Valid M) (S : StarShows t M) (simple : IsSimp
 
       label-at : (r : Ray) → IsAt t.rays zero r → (l : Label) → IsAt t.sectors zero l → suc zero ≡ length t.rays → (e : Vector) → IsDirection e → dot d e ≡ pos 0 → (SameDirection (ray_dir t r) e → ⊥) → NearLabel M d e l
       label-at r a l s q e he z f =
-          let x = way-level t M V S simple zero r a in
+          let x = shown-level t M S zero r a in
           sector-label t M V S simple zero r r l a (inr (q, a)) s e (whole-passes d (ray_dir t r) (ray_dir t r) e S.axis x.1 x.1 he x.0 x.0 z (dir-self (ray_dir t r) x.1) f)
 
   -- two rays on one side of the axis

@@ -11,7 +11,7 @@ turn-first n m a b w = ap sign (dot-comm m (cross a b)) ∙ dir-signs n m (cross
 pub turn-last : (n a b c : Vector) → SameDirection b c → sign (triple n a c) ≡ sign (triple n a b)
 turn-last n a b c w = ap sign (triple-dot n a c) ∙ dir-signs b c (cross n a) (direction-left b c w) w ∙ ap sign (sym (triple-dot n a b))
 
-turn-middle : (n a b c : Vector) → SameDirection b c → sign (triple n c a) ≡ sign (triple n b a)
+pub turn-middle : (n a b c : Vector) → SameDirection b c → sign (triple n c a) ≡ sign (triple n b a)
 turn-middle n a b c w = ap sign (triple-middle n c a) ∙ dir-signs b c (cross a n) (direction-left b c w) w ∙ ap sign (sym (triple-middle n b a))
 
 pub turn-same : (n m a b c d : Vector) → SameDirection n m → SameDirection a b → SameDirection c d → sign (triple m b d) ≡ sign (triple n a c)

@@ -1,11 +1,12 @@
 -- Products of vectors, and what follows from their signs.
-use Rattle.law_sphere.proofs.Prelude.{◌≡◌, ℕ, ℤ, pos, ◌+ℤ◌, ◌*ℤ◌, ◌<ℤ◌, arith, ◌∙◌, inl, inr, ◌∷◌, refl, ints, ring, at, ◌⊕◌, ◌⊗◌, sign, sign-plus, sign-minus, plus-is, minus-is, by_order, Sign, minus, nought, plus, Vector, IsDirection, dot, IsNormal, Decided, comb, VectorBelow, IsAt, Map, Item, items, item_normal, Shaped, dot-zero, blend_of, dot_of, dot_poly, numbers, vec, Label, by_side}
+use Rattle.law_sphere.proofs.Prelude.{◌≡◌, ℕ, ℤ, pos, ◌+ℤ◌, ◌*ℤ◌, ◌<ℤ◌, arith, ◌∙◌, inl, inr, ◌∷◌, refl, ints, ring, at, ◌⊕◌, ◌⊗◌, sign, sign-plus, sign-minus, plus-is, minus-is, by_order, Sign, minus, nought, plus, Vector, IsDirection, dot, Decided, combination, VectorBelow, IsAt, Map, Item, items, item_normal, Shaped, dot-zero, blend_of, dot_of, dot_poly, numbers, vec, Label, by_side}
+use Rattle.nef_space.proofs.Vectors.{normal-direction}
 
 -- ---- linear
-pub dot-comb : (g : Vector) (a : ℤ) (u : Vector) (b : ℤ) (v : Vector) → dot g (comb a u b v) ≡ a *ℤ dot g u +ℤ b *ℤ dot g v
+pub dot-comb : (g : Vector) (a : ℤ) (u : Vector) (b : ℤ) (v : Vector) → dot g (combination a u b v) ≡ a *ℤ dot g u +ℤ b *ℤ dot g v
 dot-comb g a u b v = ring (a ∷ b ∷ numbers g u v v) (dot_of (vec 2) (blend_of (at 0) (vec 5) (at 1) (vec 8))) (at 0 ⊗ dot_poly 2 5 ⊕ at 1 ⊗ dot_poly 2 8) tt
 
-pub comb-dot : (a : ℤ) (u : Vector) (b : ℤ) (v g : Vector) → dot (comb a u b v) g ≡ a *ℤ dot u g +ℤ b *ℤ dot v g
+pub comb-dot : (a : ℤ) (u : Vector) (b : ℤ) (v g : Vector) → dot (combination a u b v) g ≡ a *ℤ dot u g +ℤ b *ℤ dot v g
 comb-dot a u b v g = ring (a ∷ b ∷ numbers u v g g) (dot_of (blend_of (at 0) (vec 2) (at 1) (vec 5)) (vec 8)) (at 0 ⊗ dot_poly 2 8 ⊕ at 1 ⊗ dot_poly 5 8) tt
 
 -- ---- signs
@@ -25,9 +26,6 @@ same-minus a b e h = minus-is b (e ∙ sign-minus a h)
 -- a direction that some form does not vanish at
 pub direction-by : (g e : Vector) → (dot g e ≡ pos 0 → ⊥) → IsDirection e
 direction-by g e f z = f (dot-zero g e z)
-
-pub normal-direction : (n : Vector) → IsNormal n → IsDirection n
-normal-direction n h z = let p = h.third z.0 z.1 in let q = z.2 in omega (arith, ints)
 
 pub normal-is : {M : Map} (V : Shaped M) (k : ℕ) (x : Item) → IsAt (items M) k x → IsDirection (item_normal x)
 normal-is V k x a = normal-direction (item_normal x) (V.normals k x a)

@@ -2,7 +2,7 @@
 use Rattle.std.specs.Prelude.{◌≡◌, ℕ, ◌<◌, ℤ, pos, [], ◌∷◌, ◌⊎◌, ◌↔◌, Some, None}
 use Rattle.nef_space.specs.Vectors.{Vector, IsZero, IsOpposite}
 use Rattle.nef_space.specs.declared.label.Label.{Label}
-use Rattle.law_sphere.specs.Vectors.{comb}
+use Rattle.law_near.specs.Cones.{combination}
 use Rattle.law_sphere.specs.Maps.{MapVertex, MapSloop, Map, MapLabel}
 
 -- the label m of the map toward e, or the map's mark where e is nought
@@ -11,7 +11,7 @@ Full M e m = (IsZero e × (M.mark ≡ m)) ⊎ MapLabel M e m
 
 -- a positive multiple of any vector, plus any multiple of d, has the label of the vector
 abbrev pub FlatMap : Map → Vector → Type 0
-FlatMap M d = (e : Vector) (b : ℕ) (a : ℤ) → 0 < b → (m : Label) → Full M e m ↔ Full M (comb (pos b) e a d) m
+FlatMap M d = (e : Vector) (b : ℕ) (a : ℤ) → 0 < b → (m : Label) → Full M e m ↔ Full M (combination (pos b) e a d) m
 
 pub record IsInVolume (M : Map) : Type 0 where
   pub no_svertex : M.svertices ≡ []

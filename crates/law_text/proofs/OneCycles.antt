@@ -1,13 +1,6 @@
 -- Where each corner has one next corner, the cycles are the only ones.
-use Rattle.law_text.proofs.Prelude.{◌≡◌, ℕ, zero, suc, ◌<◌, ◌⊎◌, inl, inr, ⊎_elim, List, [], ◌∷◌, length, arith, refl, sym, ◌∙◌, ap, subst, ints, All, IsAt, same-lists, Complex, Corner, NextCorner, IsCornerBelow, StepsTo, IsCycle, IsCycleBelow, Cycles, is-at_none, is-at_first}
-
-below-apart : (j k : Corner) → IsCornerBelow j k → IsCornerBelow k j → ⊥
-below-apart j k (inl h) (inl g) = omega (arith, ints)
-below-apart j k (inl h) (inr g) = let q = g.0 in omega (arith, ints)
-below-apart j k (inr h) (inl g) = let q = h.0 in omega (arith, ints)
-below-apart j k (inr (p, inl h)) (inr (q, inl g)) = omega (arith, ints)
-below-apart j k (inr (p, inl h)) (inr (q, inr g)) = absurd (g.1)
-below-apart j k (inr (p, inr h)) g = absurd (h.1)
+use Rattle.law_text.proofs.Prelude.{◌≡◌, ℕ, zero, suc, ◌<◌, ◌⊎◌, inl, inr, ⊎_elim, List, [], ◌∷◌, length, arith, refl, sym, ◌∙◌, ap, subst, All, IsAt, same-lists, Complex, Corner, NextCorner, IsCornerBelow, StepsTo, IsCycle, IsCycleBelow, Cycles, is-at_none, is-at_first}
+use Rattle.nef_facets.proofs.Order.{below-once}
 
 -- each corner has one next corner
 abbrev pub HasOneNext : Complex → Type 0
@@ -26,8 +19,8 @@ module _ (C : Complex) (one : HasOneNext C) where
   -- two ways round from one corner are one
   round-one : (a z : Corner) (ks ls : List Corner) → StepsTo C a ks z → StepsTo C a ls z → AllAbove z ks → AllAbove z ls → ks ≡ ls
   round-one a z [] [] s t p q = refl
-  round-one a z [] (l ∷ ls) s (n, t) p (b, q) = absurd (below-apart z l b (subst (λ (w : Corner). IsCornerBelow w z) (one a z l s n) (subst (λ (w : Corner). IsCornerBelow z w) (sym (one a z l s n)) b)))
-  round-one a z (k ∷ ks) [] (n, s) t (b, p) q = absurd (below-apart z k b (subst (λ (w : Corner). IsCornerBelow w z) (one a z k t n) (subst (λ (w : Corner). IsCornerBelow z w) (sym (one a z k t n)) b)))
+  round-one a z [] (l ∷ ls) s (n, t) p (b, q) = absurd (below-once z l b (subst (λ (w : Corner). IsCornerBelow w z) (one a z l s n) (subst (λ (w : Corner). IsCornerBelow z w) (sym (one a z l s n)) b)))
+  round-one a z (k ∷ ks) [] (n, s) t (b, p) q = absurd (below-once z k b (subst (λ (w : Corner). IsCornerBelow w z) (one a z k t n) (subst (λ (w : Corner). IsCornerBelow z w) (sym (one a z k t n)) b)))
   round-one a z (k ∷ ks) (l ∷ ls) (n, s) (m, t) (b, p) (c, q) =
       let e = one a l k m n in
       let r = round-one k z ks ls s (subst (λ (w : Corner). StepsTo C w ls z) e t) p q in
@@ -63,8 +56,8 @@ module _ (C : Complex) (one : HasOneNext C) where
   never : (n : ℕ) (i j : Corner) (ls : List Corner) → StepsTo C i ls i → AllAbove i ls → Passes i j n → ⊥
   never zero i j ls t q f = let h = f.shorter in omega arith
   never (suc n) i j ls t q f =
-      ⊎_elim (λ e. below-apart j i f.passed (subst (λ (w : Corner). IsCornerBelow w j) e (subst (λ (w : Corner). IsCornerBelow j w) (sym e) f.passed)))
-      (λ h. ⊎_elim (λ g. never n i j ls t q (record { rest = g.rest; leads = g.leads; above = g.above; shorter = let a = g.shorter in let b = f.shorter in omega arith; passed = g.passed })) (λ g. below-apart j i f.passed g.passed) h)
+      ⊎_elim (λ e. below-once j i f.passed (subst (λ (w : Corner). IsCornerBelow w j) e (subst (λ (w : Corner). IsCornerBelow j w) (sym e) f.passed)))
+      (λ h. ⊎_elim (λ g. never n i j ls t q (record { rest = g.rest; leads = g.leads; above = g.above; shorter = let a = g.shorter in let b = f.shorter in omega arith; passed = g.passed })) (λ g. below-once j i f.passed g.passed) h)
       (both-ways i i j f.rest ls f.leads t f.above q)
 
   -- the rest of a cycle after one of its corners
@@ -92,7 +85,7 @@ module _ (C : Complex) (one : HasOneNext C) where
   cycle-below-apart [] y (j, k, a, b, h) g = absurd (is-at_none a)
   cycle-below-apart (m ∷ x) [] (j, k, a, b, h) g = absurd (is-at_none b)
   cycle-below-apart (m ∷ x) (n ∷ y) (j, k, a, b, h) (l, o, c, d, g) =
-      below-apart m n (subst (λ (w : Corner). IsCornerBelow m w) (sym (is-at_first b)) (subst (λ (w : Corner). IsCornerBelow w k) (sym (is-at_first a)) h))
+      below-once m n (subst (λ (w : Corner). IsCornerBelow m w) (sym (is-at_first b)) (subst (λ (w : Corner). IsCornerBelow w k) (sym (is-at_first a)) h))
       (subst (λ (w : Corner). IsCornerBelow n w) (sym (is-at_first d)) (subst (λ (w : Corner). IsCornerBelow w o) (sym (is-at_first c)) g))
 
   found : (P : Corner → Type 0) (xs ys : List (List Corner)) → Cycles C P xs → Cycles C P ys → (k : ℕ) (x : List Corner) → IsAt xs k x → (i : ℕ) × IsAt ys i x

@@ -48,18 +48,18 @@ option-plain None = (omega arith, tt)
 option-plain (Some l) = label-plain l
 
 -- the label that a word spells
-abbrev pub read_label : Word → Label
+abbrev read_label : Word → Label
 read_label w = cond (nat_eq (get_or w 0 0) 105) In (cond (nat_eq (get_or w 0 0) 110) Not Out)
 
-abbrev pub read_option : Word → Option Label
+abbrev read_option : Word → Option Label
 read_option w = cond (nat_eq (get_or w 0 0) 45) None (Some (read_label w))
 
-pub label-read : (l : Label) → read_label (label_word l) ≡ l
+label-read : (l : Label) → read_label (label_word l) ≡ l
 label-read In = refl
 label-read Not = refl
 label-read Out = refl
 
-pub option-read : (o : Option Label) → read_option (option_word o) ≡ o
+option-read : (o : Option Label) → read_option (option_word o) ≡ o
 option-read None = refl
 option-read (Some In) = refl
 option-read (Some Not) = refl

@@ -8,6 +8,7 @@ use Rattle.law_turns.proofs.Numbers.{normal-choice, primitive-turned}
 use Rattle.law_turns.proofs.TurnedLists.{chosen, chosen-has, both-normal}
 use Rattle.law_turns.proofs.ArcEnds.{arcs-begin, arcs-end}
 use Rattle.law_turns.proofs.Coordinates.{sign-twice}
+use Rattle.std.proofs.lemmas.Option.{same_Some}
 
 -- ---- the orders of svertices and of arcs
 abbrev WayBelow : MapVertex → MapVertex → Type 0
@@ -161,14 +162,7 @@ module _ (k : ℕ) (M : Map) (V : Shaped M) (O : Ordered M) where
       let (flip, n) = normal-choice (f k l.normal) ((direction-turned k l.normal).1 (normal-is V i (sloop_item l) a)) in
       let p = primitive-turned k flip l.normal (O.normals_lowest i (sloop_item l) a) in
       let made : MapSloop = record { normal = signed flip (f k l.normal); pos = cond flip l.neg l.pos; mark = l.mark; neg = cond flip l.pos l.neg } in
-      (Some made, ((flip, record { normal = refl; pos = refl; mark = refl; neg = refl }), λ m h. subst (λ (r : MapSloop). IsNormal r.normal × IsPrimitive r.normal) (one made m h) (n, p)))
-    where
-      one : (x y : MapSloop) → Some x ≡ Some y → x ≡ y
-      one x y h = ap (λ o. or x o) h
-        where
-          or : MapSloop → Option MapSloop → MapSloop
-          or x None = x
-          or x (Some z) = z
+      (Some made, ((flip, record { normal = refl; pos = refl; mark = refl; neg = refl }), λ m h. subst (λ (r : MapSloop). IsNormal r.normal × IsPrimitive r.normal) (same_Some made m h) (n, p)))
 
   Q : (q : Option MapSloop) × IsSloopImage M.sloop q
   Q = image-sloop M.sloop refl

@@ -1,5 +1,5 @@
 -- The board when it is made.
-use Rattle.nef_board.proofs.Prelude.{◌≡◌, ℕ, zero, suc, ◌*◌, ◌<◌, ◌≤◌, List, [], ◌∷◌, length, refl, ap, sym, ◌∙◌, Option, Some, None, slice_get, arith, subst, replicate, length-replicate, slice_get_within, opening, State as Machine, start, Slot, Open, InHand, Event, get_replicate, only_one, open_not_held, same_slot, HasResult, BoardState, LockView, owed, Sound, IsSound, first_view, Fits, fits_first, SawIs, Kept}
+use Rattle.nef_board.proofs.Prelude.{◌≡◌, ℕ, zero, suc, ◌*◌, ◌<◌, ◌≤◌, List, [], ◌∷◌, length, refl, ap, sym, ◌∙◌, Option, Some, None, slice_get, arith, subst, replicate, length-replicate, slice_get_within, opening, State as Machine, start, Slot, Open, InHand, Event, get_replicate, only_one, open_not_held, HasResult, BoardState, LockView, owed, Sound, IsSound, first_view, Fits, fits_first, SawIs, Kept, same_Some}
 
 owed_start : (n : ℕ) → owed 0 (replicate n Open) ≡ 2 * n
 owed_start zero = refl
@@ -9,7 +9,7 @@ none_not_out : {Out : Type 0} (out : Out) → Some None ≡ Some (Some out) → 
 none_not_out out e = cc
 
 all_open : (n job : ℕ) (x : Slot) → slice_get (replicate n Open) job ≡ Some x → x ≡ Open
-all_open n job x e = same_slot x Open (sym e ∙ get_replicate n job Open (let k = slice_get_within (replicate n Open) job x e in let l = length-replicate n Open in omega arith))
+all_open n job x e = same_Some x Open (sym e ∙ get_replicate n job Open (let k = slice_get_within (replicate n Open) job x e in let l = length-replicate n Open in omega arith))
 
 abbrev none_of : (Out : Type 0) → Option Out
 none_of Out = None

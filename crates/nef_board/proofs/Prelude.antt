@@ -5,7 +5,8 @@ pub use Rattle.atomic_table.specs.Table.{Act, Allows, Final, Joins, Me, Seen, Sp
 pub use Rattle.std.proofs.Common.{MatchBool, add-one, length-append, lt_of_not-le, slice_index, ◌*◌}
 pub use Rattle.std.proofs.Math.ListN.{length-set}
 pub use Rattle.std.proofs.lemmas.List.{get_or-set_same, length-replicate, set-get_or}
-pub use Rattle.nef_core.proofs.Deposits.{among, done_not_held, held_by, held_not_done, not_among, open_not_done, open_not_held, same_slot}
+pub use Rattle.nef_core.proofs.Deposits.{among, done_not_held, held_by, held_not_done, not_among, open_not_done, open_not_held}
+pub use Rattle.std.proofs.lemmas.Option.{same_Some}
 pub use Rattle.nef_core.proofs.Passes.{fits_at_end, fits_beside, fits_cut, fits_deposited, fits_first, fits_gave_back, fits_holding, fits_moved, fits_new, fits_taken_in, held_in}
 pub use Rattle.nef_core.proofs.Places.{at_length, below_last, get_replicate, get_set_here, get_set_other, only_one, same_or_not, within}
 pub use Rattle.nef_core.proofs.Schedules.{RestIsOpen, claim_answers, claimed, fresh, fresh_start, got_free, got_next, got_none, legal_more, past_answers, past_is_same, replay_append}

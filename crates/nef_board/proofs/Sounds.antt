@@ -1,8 +1,6 @@
 -- One event keeps the state sound.
-use Rattle.nef_board.proofs.Prelude.{◌≡◌, ℕ, zero, suc, ◌+◌, ◌<◌, ◌≢◌, List, [], ◌∷◌, ◌++◌, length, refl, ap, sym, ◌∙◌, Option, Some, None, slice_get, slice_set, arith, inl, inr, subst, set, length-append, add-one, lt_of_not-le, length-set, slice_get_within, State as Machine, start, after, replay, IsLegal, Slot, Open, InHand, Done, Event, Claim, Deposit, GiveBack, get_set_here, get_set_other, same_or_not, claimed, replay_append, fresh, fresh_start, RestIsOpen, legal_more, open_not_held, same_slot, HasResult, events_left, owed, Sound}
-
-no_slot : (w : ℕ) → None ≡ Some (InHand w) → ⊥
-no_slot w e = cc
+use Rattle.nef_board.proofs.Prelude.{◌≡◌, ℕ, zero, suc, ◌+◌, ◌<◌, ◌≢◌, List, [], ◌∷◌, ◌++◌, length, refl, ap, sym, ◌∙◌, Option, Some, None, slice_get, slice_set, arith, inl, inr, subst, set, length-append, add-one, lt_of_not-le, length-set, slice_get_within, State as Machine, start, after, replay, IsLegal, Slot, Open, InHand, Done, Event, Claim, Deposit, GiveBack, get_set_here, get_set_other, same_or_not, claimed, replay_append, fresh, fresh_start, RestIsOpen, legal_more, open_not_held, HasResult, events_left, owed, Sound, same_Some}
+use Rattle.std.proofs.lemmas.Option.{none-some}
 
 owed_claim : (next w : ℕ) (slots : List Slot) → next < length slots → owed (suc next) (set slots next (InHand w)) + 1 ≡ owed next slots
 owed_claim next w [] h = absurd (omega arith)
@@ -10,9 +8,9 @@ owed_claim zero w (x ∷ xs) h = omega arith
 owed_claim (suc n) w (x ∷ xs) h = let k = owed_claim n w xs (omega arith) in omega arith
 
 owed_settle : (next job w : ℕ) (x : Slot) (slots : List Slot) → slice_get slots job ≡ Some (InHand w) → job < next → events_left x ≡ 0 → owed next (set slots job x) + 1 ≡ owed next slots
-owed_settle next job w x [] e h z = absurd (no_slot w e)
+owed_settle next job w x [] e h z = absurd (none-some (InHand w) e)
 owed_settle zero job w x (y ∷ ys) e h z = absurd (omega arith)
-owed_settle (suc n) zero w x (y ∷ ys) e h z = let q : events_left y ≡ 1 = ap events_left (same_slot y (InHand w) e) in omega arith
+owed_settle (suc n) zero w x (y ∷ ys) e h z = let q : events_left y ≡ 1 = ap events_left (same_Some y (InHand w) e) in omega arith
 owed_settle (suc n) (suc job) w x (y ∷ ys) e h z = let k = owed_settle n job w x ys e (omega arith) z in omega arith
 
 -- what was not handed out is open, since the machine is a replay
@@ -39,7 +37,7 @@ module _ {Out : Type 0} where
           fits = λ job x at. elim (same_or_not job m.next) [
             | inl e ↦
                 let o = s.fits m.next Open open_there in
-                let is : x ≡ InHand w = same_slot x (InHand w) (sym at ∙ (ap (slice_get (set m.slots m.next (InHand w))) e ∙ get_set_here m.slots m.next (InHand w) free)) in
+                let is : x ≡ InHand w = same_Some x (InHand w) (sym at ∙ (ap (slice_get (set m.slots m.next (InHand w))) e ∙ get_set_here m.slots m.next (InHand w) free)) in
                 (o.0, ap (slice_get r) e ∙ o.1, subst (λ (z : Slot). HasResult z o.0) (sym is) o.2)
             | inr n ↦ s.fits job x (sym (get_set_other m.slots m.next job (InHand w) n) ∙ at)
           ];
@@ -67,7 +65,7 @@ module _ {Out : Type 0} where
           count = count ∙ (s.count ∙ sym len);
           fits = λ i z at. elim (same_or_not i job) [
             | inl q ↦
-                let is : z ≡ x = same_slot z x (sym at ∙ (ap (slice_get (set m.slots job x)) q ∙ get_set_here m.slots job x (slice_get_within m.slots job (InHand w) held))) in
+                let is : z ≡ x = same_Some z x (sym at ∙ (ap (slice_get (set m.slots job x)) q ∙ get_set_here m.slots job x (slice_get_within m.slots job (InHand w) held))) in
                 (y, ap (slice_get r') q ∙ there, subst (λ (k : Slot). HasResult k y) (sym is) has)
             | inr n ↦
                 let o = s.fits i z (sym (get_set_other m.slots job i x n) ∙ at) in

@@ -1,5 +1,5 @@
 -- Two carriers hold each edge, and where planes cut edges.
-use Rattle.nef_cand.proofs.Prelude.{◌≡◌, ℕ, pos, List, Option, Some, None, IsNone, IfSome, refl, sym, subst, ◌↔◌, MatchOption, Lies, nought-is, Flat, SpacePoint, Form, form_at, normal_of, toward, SamePoint, IsBetween, Set, IsDirection, HasDependentNormals, IsOnlyCommon, point_of, form_of, HasOppositeSigns, Plane, Point, carriers, EdgeSupport, start, start-between, edge-support, IsAt, is-at_one, map-is_at, is-at_map, HasEnds, SamePlane, IsVertexPoint, IsEdgePoint, edge-points, edge-way, plane-turned, plane-point, Vertex, Edge, Complex, vertex_of, edge_of, complex_of, ShowsSet, through-both, listed_edge, ends, apart, Named, Operand, IsVertexOf, IsCutBy, IsNamedIn, AreInOrder, HoldsBoth, IsCutBetween, CutsEdge, AddsPoints, parallel-both}
+use Rattle.nef_cand.proofs.Prelude.{◌≡◌, ℕ, pos, List, Option, Some, None, IsNone, IfSome, refl, sym, subst, ◌↔◌, MatchOption, Lies, nought-is, Flat, SpacePoint, Form, form_at, normal_of, toward, SamePoint, IsBetween, Set, IsDirection, HasDependentNormals, IsOnlyCommon, point_of, form_of, HasOppositeSigns, Plane, Point, carriers, EdgeSupport, start, start-between, edge-support, IsAt, is-at_one, map-is_at, is-at_map, HasEnds, SamePlane, IsVertexPoint, IsEdgePoint, edge-points, edge-way, plane-turned, plane-point, Vertex, Edge, Complex, vertex_of, edge_of, complex_of, ShowsSet, through-both, listed_edge, ends, apart, Named, Operand, IsVertexOf, IsCutBy, IsNamedIn, AreInOrder, HoldsBoth, IsCutBetween, CutsEdge, AddsPoints, parallel-both, map, IsBelow, form_numbers}
 use Rattle.law_complex.specs.Complexes.{Vertex as PlainVertex, Edge as PlainEdge}
 use Rattle.law_complex.specs.Complexes.{Complex as PlainComplex}
 use Rattle.nef_cand.specs.declared.named.CandidateName.TheVariants as name
@@ -9,6 +9,8 @@ use Rattle.nef_cand.proofs.EdgeLines.{AreHeldByTwo}
 use Rattle.nef_cand.proofs.Planes.{IsLineThrough}
 use Rattle.law_complex.proofs.Planes.{same-parallel}
 use Rattle.nef_space.proofs.Elementary.{same-itself}
+use Rattle.nef_smap.proofs.SortedOnce.{map-in_order}
+use Rattle.law_complex.specs.Shows.{Carriers}
 
 -- ---- the planes of a segment
 
@@ -133,5 +135,8 @@ vertices-all c N ps qs =
     (λ y a. let v = is-at_map vertex_of c.vertices a.0 a.1.0 a.1.1 in (a.0, v.0, v.1, subst (λ (r : PlainVertex). SamePoint r.point y) (sym v.2) a.1.2))
 
 -- ---- the carriers, once each
+pub planes-ordered : (s : Set) (hs : List Plane) → Carriers s (map form_of hs) → AreInOrder hs
+planes-ordered s hs C = map-in_order (λ g h. IsBelow (form_numbers g) (form_numbers h)) form_of hs C.ordered
+
 pub carriers-ordered : (s : Set) (c : Complex) → ShowsSet s c → AreInOrder c.carriers
-carriers-ordered s c S i j g h l a b = S.shows.carriers.ordered i j (form_of g) (form_of h) l (map-is_at form_of c.carriers i g a) (map-is_at form_of c.carriers j h b)
+carriers-ordered s c S = planes-ordered s c.carriers S.shows.carriers

@@ -1,5 +1,5 @@
 -- Where the fall from y ends at y', what falls from b beside it names a side of the class of what lies above y', if that is known for y' where it is a vertex of the plane; and so what falls from b beside a vertex of the plane names a side of the class of what touches it, if that is known of what lies below it, and of what touches it downward and what the ray down from it names.
-use Rattle.nef_conn.proofs.Prelude.{◌≡◌, ℕ, zero, suc, ◌<◌, ℤ, pos, ◌-ℤ◌, ◌*ℤ◌, ◌<ℤ◌, neg_ℤ, arith, ap, sym, ◌∙◌, ◌⊎◌, inl, inr, ⊎_elim, ◌∷◌, subst, [], ints, sign, by_order, sign-plus, sign-minus, sign-scaled, ring, at, num, neg, ◌⊕◌, ◌⊖◌, ◌⊗◌, same-nought, same-plus, same-minus, Chained, Flat, FlatDim, SpacePoint, Form, form_at, normal_of, slope, plane_through, SamePoint, InFrame, toward, IsBetween, Set, Vector, blend, opposite, dot, cross, IsZero, IsDirection, SameDirection, up, carriers, SameGerms, FlatDim-one, FlatDim-by_germs, germs-by_cell, between-turned, between-inner, ray-cell, ahead, near-ahead, start-close, start-toward, even-germs, flat_dim-of, near-of_flat, FlatCone-from_flat, same-point_sym, flat_dim-nearby, flat-plane, reach_all, slope-toward, Complex, Shows, VertexSide, RayDown, IsFlatIn, near_point, near-between, through-at, through-slope, ahead-back, plane-between, plane-ahead, even-by, between-way, between-outer, VolumeLink, IsUpright, IsEvenAfter, ahead-close, ahead-toward, tied-ray, AreLinkedWhereJoined, sliced, dot-comm, zero-decided, triple-dot, triple-turned, SameDirection-turned, SameDirection-trans, dir-self, dir-signs, in-span, dot-opposite, level-way, opposite-twice, direction-left, blend-turned}
+use Rattle.nef_conn.proofs.Prelude.{◌≡◌, ℕ, zero, suc, ◌<◌, ℤ, pos, ◌-ℤ◌, ◌*ℤ◌, ◌<ℤ◌, neg_ℤ, arith, ap, sym, ◌∙◌, ◌⊎◌, inl, inr, ⊎_elim, ◌∷◌, subst, [], ints, sign, by_order, sign-plus, sign-minus, sign-scaled, ring, at, num, neg, ◌⊕◌, ◌⊖◌, ◌⊗◌, same-nought, same-plus, same-minus, Chained, Flat, FlatDim, SpacePoint, Form, form_at, normal_of, slope, plane_through, SamePoint, InFrame, toward, IsBetween, Set, Vector, blend, opposite, dot, cross, IsZero, IsDirection, SameDirection, up, carriers, SameGerms, FlatDim-one, FlatDim-by_germs, germs-by_cell, between-turned, between-inner, ray-cell, ahead, near-ahead, start-close, start-toward, flat_dim-of, near-of_flat, FlatCone-from_flat, same-point_sym, flat_dim-nearby, flat-plane, reach_all, slope-toward, Complex, Shows, VertexSide, RayDown, IsFlatIn, near_point, near-between, through-at, through-slope, ahead-back, plane-between, plane-ahead, even-by, between-way, between-outer, VolumeLink, IsUpright, ahead-close, ahead-toward, tied-ray, AreLinkedWhereJoined, sliced, dot-comm, zero-decided, triple-dot, triple-turned, SameDirection-turned, SameDirection-trans, dir-self, dir-signs, in-span, dot-opposite, level-way, opposite-twice, direction-left, blend-turned}
 use Rattle.nef_space.proofs.Chains.{chain-trans}
 use Rattle.nef_conn.proofs.Fall.{corner-two, corner-wedge, lam-down, lam-zero}
 use Rattle.nef_conn.proofs.Fans.{off-close}
@@ -9,8 +9,8 @@ use Rattle.nef_conn.proofs.Leaves.{Beside-point, beside-over, turn-beside}
 use Rattle.nef_conn.proofs.Near.{Above, Wedge, wedge-of, wedge-way}
 use Rattle.nef_conn.proofs.NearOver.{up-some, blend-rises}
 use Rattle.nef_conn.proofs.OneOver.{over-one, facet-dim, edge-dim, vertex-dim}
-use Rattle.nef_conn.proofs.RaysEnd.{tied-dim}
-use Rattle.nef_conn.proofs.Silhouettes.{sliced-off, germs-inside, resliced, two-of, germs-of, three-of, no-vertices, some-flat, even-hit, flatness}
+use Rattle.nef_conn.proofs.RaysEnd.{tied-dim, free-toward}
+use Rattle.nef_conn.proofs.Silhouettes.{sliced-off, resliced, two-of, germs-of, three-of, no-vertices, some-flat, even-hit, flatness, two-along}
 use Rattle.nef_conn.proofs.SliceStrip.{lam, Clear}
 use Rattle.nef_space.proofs.Vectors.{neg-zero}
 use Rattle.law_near.proofs.Same.{dim-same}
@@ -113,12 +113,8 @@ module _ (s : Set) (C : Complex) (S : Shows s C) (upright : IsUpright C) (linked
     F : IsFlatIn (sliced s h) h b
     F = two-of s h hn b on-b three inside
 
-    -- the way from y to b lies in the frame
-    inside-first : (r : SpacePoint) → IsBetween y r b → InFrame r
-    inside-first r m = germs-inside s b r (λ d l. let e = even-germs s 3 r b (even-by s 3 r b (first r m) (λ u k. first u (between-outer y r u b m k)) three) d l in (e.1, e.0)) inside
-
     first-two : (r : SpacePoint) → IsBetween y r b → FlatDim (sliced s h) r 2
-    first-two r m = let f = two-of s h hn r (plane-between h y r b m on-y on-b) (first r m) (inside-first r m) in f.0
+    first-two = two-along s h hn y b on-y on-b first three inside
 
     second-two : (r : SpacePoint) → IsBetween y r y' → FlatDim (sliced s h) r 2
     second-two r m = let f = second r m in let g = two-of s h hn r (plane-between h y r y' m on-y on-y') f.0 f.1 in g.0
@@ -201,18 +197,14 @@ module _ (s : Set) (C : Complex) (S : Shows s C) (upright : IsUpright C) (linked
         by-part u (inl m) = (second u (between-turned y' y u (between-inner y' (near_point (sliced s h) y' y) y u on-line m))).0
         by-part u (inr e) = dim-same s (near_point (sliced s h) y' y) u 3 (same-point_sym u (near_point (sliced s h) y' y) e) (second (near_point (sliced s h) y' y) amid-r).0
 
-    pub free-toward : FlatDim s (ahead s y' (toward y' b)) 3
-    free-toward = tied-dim s b (ahead s y' (toward y' b)) 3 (tied-ray s 3 y' b (toward y' b) (dir-self (toward y' b) some-y') even) three
-      where
-        even : IsEvenAfter s 3 y' b
-        even u (inl m) = free-b u (between-turned y' b u m)
-        even u (inr e) = dim-same s b u 3 (same-point_sym u b e) three
+    free-way : FlatDim s (ahead s y' (toward y' b)) 3
+    free-way = free-toward s y' b some-y' (λ u m. free-b u (between-turned y' b u m)) three
 
     -- at a vertex of the plane
     by-vertex : FlatDim (sliced s h) y' 0 → Chained (VolumeLink C) x z
     by-vertex v =
         let B = beside-over s C S upright linked y' x (λ two. not-facet y' on-y' v two) A in
-        let T = turn-beside s C S upright linked y' up (toward y' b) x free-up free-toward up-wedge B in
+        let T = turn-beside s C S upright linked y' up (toward y' b) x free-up free-way up-wedge B in
         chain-trans (VolumeLink C) x T.0 z T.2
         (claim v b T.0 z on-b (side' (sliced s h) h hn level y y' b on-y on-y' on-b down side clear first-two second-two F corner) (clear' (sliced s h) h hn level y y' b on-y on-y' on-b down side clear first-two second-two F corner)
         (λ u m. free-b u (between-turned y' b u m)) three inside T.1 R)

@@ -1,5 +1,5 @@
 -- What touches an edge downward is linked with what the ray down from a point of the edge names: the points just below the edge lead to its lower end, and what falls from them is known, as are the claims at the lower end.
-use Rattle.nef_conn.proofs.Prelude.{◌≡◌, ℕ, ◌+◌, ◌<◌, ◌≤◌, ℤ, pos, ◌-ℤ◌, ◌*ℤ◌, ◌<ℤ◌, ◌≤ℤ◌, neg_ℤ, arith, refl, ap, sym, ◌∙◌, ◌⊎◌, inl, inr, ⊎_elim, List, ◌∷◌, subst, [], ints, nought, sign, Lies, each, lies-each, ring, at, num, ◌⊕◌, ◌⊖◌, ◌⊗◌, by_order, nought-is, sign-scaled, nought-or, Chained, Flat, FlatDim, IsVertex, IsEven, SpacePoint, Form, form_at, normal_of, slope, plane_through, SamePoint, InFrame, Within, toward, IsBetween, Set, Vector, blend, dot, cross, triple, opposite, IsDirection, SameDirection, up, sign_at, carriers, SameGerms, FlatDim-one, FlatDim-by_germs, germs-by_cell, between-turned, between-inner, ray-cell, keeps-all, is_nought, ahead, near-ahead, start, start-close, start-between, start-toward, even-germs, flat-nearby, flat-way, joined-germs, joined-turned, span-2, flat_dim-of, near-of_flat, Flat-from_cone, FlatCone-from_flat, steep, signs-same, same-point_sym, all-vertices, reach_all, slope-toward, point-toward, between-same, same-nought, forms, SameSigns, IsAt, cross-self, amount, far-keeps, far-level, turn-last, turn-same, same-plus, same-minus, Vertex, Edge, Complex, HasEnds, Shows, VertexSide, RayDown, IsFlatIn, near_point, near-between, edge-points, through-at, through-slope, angle, turn_form, turn-at, angle-turned, angle-self, between-minus, through-level, plane-between, plane-ahead, even-by, between-way, between-outer, between-start, VolumeLink, IsUpright, IsEvenAfter, through-same, EdgeWays, edge-ways, free-dim, ahead-close, ahead-toward, dim-cell, tied-ray, tied-turned, AreLinkedWhereJoined, IsInTriangle, sliced, dot-zero, self-pos, cross-turned, triple-turned, SameDirection-turned, SameDirection-trans, dir-self, dir-signs, parallel-trans, dot-opposite, triple-in_plane, direction-left, direction-right, apart}
+use Rattle.nef_conn.proofs.Prelude.{◌≡◌, ℕ, ◌+◌, ◌<◌, ◌≤◌, ℤ, pos, ◌-ℤ◌, ◌*ℤ◌, ◌<ℤ◌, ◌≤ℤ◌, neg_ℤ, arith, refl, ap, sym, ◌∙◌, ◌⊎◌, inl, inr, ⊎_elim, List, ◌∷◌, subst, [], ints, nought, sign, Lies, each, lies-each, ring, at, num, ◌⊕◌, ◌⊖◌, ◌⊗◌, by_order, nought-is, sign-scaled, nought-or, Chained, Flat, FlatDim, IsVertex, IsEven, SpacePoint, Form, form_at, normal_of, slope, plane_through, SamePoint, InFrame, Within, toward, IsBetween, Set, Vector, blend, dot, cross, triple, opposite, IsDirection, SameDirection, up, sign_at, carriers, SameGerms, FlatDim-one, FlatDim-by_germs, germs-by_cell, between-turned, between-inner, ray-cell, keeps-all, is_nought, ahead, near-ahead, start, start-close, start-between, start-toward, even-germs, flat-nearby, flat-way, joined-germs, joined-turned, span-2, flat_dim-of, near-of_flat, Flat-from_cone, FlatCone-from_flat, steep, signs-same, same-point_sym, all-vertices, reach_all, slope-toward, point-toward, between-same, same-nought, forms, SameSigns, IsAt, cross-self, amount, far-keeps, far-level, turn-last, turn-same, same-plus, same-minus, Vertex, Edge, Complex, HasEnds, Shows, VertexSide, RayDown, IsFlatIn, near_point, near-between, through-at, through-slope, angle, turn_form, turn-at, angle-turned, angle-self, between-minus, through-level, plane-between, plane-ahead, even-by, between-way, between-outer, between-start, VolumeLink, IsUpright, IsEvenAfter, through-same, EdgeWays, edge-ways, free-dim, ahead-close, ahead-toward, dim-cell, tied-ray, tied-turned, AreLinkedWhereJoined, IsInTriangle, sliced, dot-zero, self-pos, cross-turned, triple-turned, SameDirection-turned, SameDirection-trans, dir-self, dir-signs, parallel-trans, dot-opposite, triple-in_plane, direction-left, direction-right, apart}
 use Rattle.nef_space.proofs.Chains.{chain-trans}
 use Rattle.nef_conn.proofs.Claims.{Claim}
 use Rattle.nef_conn.proofs.Downs.{svertex-down, down-some}
@@ -9,13 +9,14 @@ use Rattle.nef_conn.proofs.Leaves.{Beside-point, turn-beside}
 use Rattle.nef_conn.proofs.Near.{Wedge}
 use Rattle.nef_conn.proofs.NearOver.{up-some}
 use Rattle.nef_conn.proofs.Triangles.{on-second, at-corner, never-passes, third-side}
-use Rattle.nef_conn.proofs.RaysEnd.{ray-down, tied-dim}
-use Rattle.nef_conn.proofs.Silhouettes.{germs-inside, resliced, sliced-ahead, two-of, three-of, no-vertices}
+use Rattle.nef_conn.proofs.RaysEnd.{ray-down, tied-dim, free-toward}
+use Rattle.nef_conn.proofs.Silhouettes.{germs-inside, resliced, sliced-ahead, two-of, no-vertices, frame-along, three-along}
 use Rattle.nef_conn.proofs.Slice.{unsliced}
 use Rattle.nef_conn.proofs.SliceStrip.{lam, up_line, lam-at, lam-turned, down-turn, slope-to, inside-level, Clear, clear-close}
 use Rattle.nef_conn.proofs.Touch.{Seer, bound, Touch, edge-frame, vertex-frame, same-seers, touched, no-way}
 use Rattle.law_near.proofs.Same.{dim-same}
 use Rattle.nef_space.proofs.Elementary.{same-itself}
+use Rattle.law_complex.proofs.Edges.{inner-dim}
 
 -- the plane along up through two points
 abbrev pub plane_of : SpacePoint → SpacePoint → Form
@@ -140,7 +141,7 @@ module _ (s : Set) (C : Complex) (S : Shows s C) (upright : IsUpright C) (linked
   E = (all-vertices (sliced s h)).0
 
   edge-dim : (r : SpacePoint) → IsBetween v.point r w.point → FlatDim s r 1
-  edge-dim r c = (edge-points s C k e v w r S a H c).0
+  edge-dim = inner-dim s C k e v w S a H
 
   -- below each point of the edge all is free
   free-below : (r : SpacePoint) → IsBetween v.point r w.point → FlatDim s (ahead s r (opposite up)) 3
@@ -384,9 +385,7 @@ module _ (s : Set) (C : Complex) (S : Shows s C) (upright : IsUpright C) (linked
       way-two = third-side (sliced s h) h hn y u v.point on-y on-u on-v turn near-y (inr edge-y) F (never-passes (sliced s h) y u v.point corner) none-in
 
       pub way-three : (r : SpacePoint) → IsBetween v.point r u → FlatDim s r 3
-      way-three r c =
-          let d = between-turned v.point u r c in
-          three-of s h hn 2 u r on-u (plane-between h v.point r u c on-v on-u) (even-by (sliced s h) 2 u r F.0 (λ p i. way-two p (between-inner u r v.point p d i)) (way-two r d)) three-u
+      way-three = three-along s h hn v.point u on-v on-u F.0 way-two three-u
 
     -- ---- to the lower end
     at-r0 : Part r0
@@ -402,21 +401,14 @@ module _ (s : Set) (C : Complex) (S : Shows s C) (upright : IsUpright C) (linked
     way-some u o z = let f = lam-zero n v.point u z in let l = side-u u o in omega (arith, ints)
 
     free-to : (u : SpacePoint) (o : Part u) → FlatDim s (ahead s v.point (toward v.point u)) 3
-    free-to u o = tied-dim s u (ahead s v.point (toward v.point u)) 3 (tied-ray s 3 v.point u (toward v.point u) (dir-self (toward v.point u) (way-some u o)) even) (three-u u o)
-      where
-        even : IsEvenAfter s 3 v.point u
-        even r (inl c) = way-three u o r c
-        even r (inr f) = dim-same s u r 3 (same-point_sym r u f) (three-u u o)
+    free-to u o = free-toward s v.point u (way-some u o) (way-three u o) (three-u u o)
 
     -- a point of the way from v to r0
-    germs-way : (r : SpacePoint) → IsBetween v.point r r0 → SameGerms s r0 r
-    germs-way r c = even-germs s 3 r0 r (even-by s 3 r0 r (three-u r0 at-r0) (λ p i. way-three r0 at-r0 p (between-turned r0 v.point p (between-inner r0 r v.point p (between-turned v.point r0 r c) i))) (way-three r0 at-r0 r c))
-
     on-way : (r : SpacePoint) → IsBetween v.point r r0 → form_at h r ≡ pos 0
     on-way r c = plane-between h v.point r r0 c on-v (on-u r0 at-r0)
 
     inside-way : (r : SpacePoint) → IsBetween v.point r r0 → InFrame r
-    inside-way r c = germs-inside s r0 r (germs-way r c) (inside-u r0 at-r0)
+    inside-way = frame-along s v.point r0 (way-three r0 at-r0) (three-u r0 at-r0) (inside-u r0 at-r0)
 
     vertex-v : FlatDim (sliced s h) v.point 0
     vertex-v = vertex-slice s h hn level v.point (near_point (sliced s h) v.point r0) on-v (S.vertices e.low v H.low) (start-close (reach_all (carriers (sliced s h)) v.point) v.point r0)

@@ -1,5 +1,5 @@
 -- The rays down from the ends of a segment of points with three flat directions name sides of one class, where that is known beside each vertex of the slices below: cut where a vertex of the slice lies on the line along up.
-use Rattle.nef_conn.proofs.Prelude.{◌≡◌, ℕ, ℤ, pos, ◌+ℤ◌, ◌*ℤ◌, ◌<ℤ◌, ◌≤ℤ◌, neg_ℤ, arith, refl, ap, sym, ◌∙◌, ◌⊎◌, inl, inr, ⊎_elim, List, ◌∷◌, subst, [], ints, sign, Lies, ring, at, num, neg, ◌⊕◌, ◌⊖◌, ◌⊗◌, by_order, mul_pos, mul_nonneg, sign-plus, plus-is, minus-is, sign-minus, nought-is, nought-or, plus-of, Chained, FlatDim, IsVertex, IsEven, SpacePoint, Form, plane_through, form_at, normal_of, slope, SamePoint, InFrame, toward, IsBetween, Set, Vector, opposite, cross, dot, IsZero, IsDirection, SameDirection, up, FlatDim-by_germs, between-turned, between-inner, germ_of, even-germs, Germ-unique, signs-same, same-point_sym, all-vertices, Germ, Label, label_not, toward-point, point-toward, between-same, Beside, same_way, other_way, beside, same-plus, Complex, Shows, VertexSide, RayDown, near_point, near-between, through-at, ahead-back, facet-of, through-level, through-same, turn-last, plane-between, plane-ahead, even-by, plane-way, skeleton-not_flat, skeleton-or_flat, between-way, between-cases, between-outer, same-point_trans, VolumeLink, IsUpright, facet-at, AreLinkedWhereJoined, minus_form, sliced, dot-comm, zero-decided, dot-zero, SameDirection-turned, SameDirection-trans, parallel-in_plane, dot-opposite, opposite-way, direction-left, direction-right}
+use Rattle.nef_conn.proofs.Prelude.{◌≡◌, ℕ, ℤ, pos, ◌+ℤ◌, ◌*ℤ◌, ◌<ℤ◌, ◌≤ℤ◌, neg_ℤ, arith, refl, ap, sym, ◌∙◌, ◌⊎◌, inl, inr, ⊎_elim, List, ◌∷◌, subst, [], ints, sign, Lies, ring, at, num, neg, ◌⊕◌, ◌⊖◌, ◌⊗◌, by_order, mul_pos, mul_nonneg, sign-plus, plus-is, minus-is, sign-minus, nought-is, nought-or, plus-of, Chained, FlatDim, IsVertex, IsEven, SpacePoint, Form, plane_through, form_at, normal_of, slope, SamePoint, InFrame, toward, IsBetween, Set, Vector, opposite, cross, dot, IsZero, IsDirection, SameDirection, up, FlatDim-by_germs, between-turned, between-inner, germ_of, even-germs, Germ-unique, signs-same, same-point_sym, all-vertices, Germ, Label, label_not, toward-point, point-toward, between-same, Beside, same_way, other_way, beside, same-plus, Complex, Shows, VertexSide, RayDown, near_point, near-between, through-at, ahead-back, facet-of, through-level, through-same, turn-last, plane-between, plane-ahead, even-by, plane-way, skeleton-not_flat, skeleton-or_flat, between-way, between-cases, between-outer, same-point_trans, VolumeLink, IsUpright, facet-at, AreLinkedWhereJoined, opposite_form, sliced, dot-comm, zero-decided, dot-zero, SameDirection-turned, SameDirection-trans, parallel-in_plane, dot-opposite, opposite-way, direction-left, direction-right}
 use Rattle.nef_conn.proofs.SameRay.{on-ray}
 use Rattle.nef_conn.proofs.Sweep.{Crosses, crosses-or, crosses-first, crosses-second, level-end, level-start, cut-of}
 use Rattle.nef_space.proofs.Chains.{chain-trans, chain-turned}
@@ -11,17 +11,14 @@ use Rattle.nef_conn.proofs.OneOver.{over-place}
 use Rattle.nef_conn.proofs.Leaves.{toward-same}
 use Rattle.nef_conn.proofs.RaysEnd.{ray-down}
 use Rattle.nef_conn.proofs.Silhouettes.{germs-inside, two-of}
-use Rattle.nef_conn.proofs.Slice.{germ-on, germ-off, minus-at}
+use Rattle.nef_conn.proofs.Slice.{germ-on, germ-off}
 use Rattle.nef_conn.proofs.SliceStrip.{lam, up_line, lam-at, lam-turned, lam-sum, Clear, lam-plus}
-use Rattle.nef_space.proofs.Vectors.{neg-zero}
+use Rattle.nef_space.proofs.Vectors.{neg-zero, opposite-at, opposite-slope}
 use Rattle.law_near.proofs.Same.{dim-same}
 use Rattle.nef_space.proofs.Elementary.{same-itself}
 
 -- ---- the slice by a plane and by its opposite form have one cone at each point of the plane
-minus-slope : (h : Form) (d : Vector) → slope (minus_form h) d ≡ neg_ℤ (slope h d)
-minus-slope h d = ring (h.a ∷ h.b ∷ h.c ∷ d.x ∷ d.y ∷ d.z ∷ []) (neg (at 0) ⊗ at 3 ⊕ neg (at 1) ⊗ at 4 ⊕ neg (at 2) ⊗ at 5) (neg (at 0 ⊗ at 3 ⊕ at 1 ⊗ at 4 ⊕ at 2 ⊗ at 5)) tt
-
-minus-lam : (h : Form) (p q : SpacePoint) → lam (normal_of (minus_form h)) p q ≡ neg_ℤ (lam (normal_of h) p q)
+minus-lam : (h : Form) (p q : SpacePoint) → lam (normal_of (opposite_form h)) p q ≡ neg_ℤ (lam (normal_of h) p q)
 minus-lam h p q = let v = toward p q in ring (h.a ∷ h.b ∷ h.c ∷ up.x ∷ up.y ∷ up.z ∷ v.x ∷ v.y ∷ v.z ∷ [])
     (neg (at 0) ⊗ (at 4 ⊗ at 8 ⊖ at 5 ⊗ at 7) ⊕ neg (at 1) ⊗ (at 5 ⊗ at 6 ⊖ at 3 ⊗ at 8) ⊕ neg (at 2) ⊗ (at 3 ⊗ at 7 ⊖ at 4 ⊗ at 6))
     (neg (at 0 ⊗ (at 4 ⊗ at 8 ⊖ at 5 ⊗ at 7) ⊕ at 1 ⊗ (at 5 ⊗ at 6 ⊖ at 3 ⊗ at 8) ⊕ at 2 ⊗ (at 3 ⊗ at 7 ⊖ at 4 ⊗ at 6))) tt
@@ -29,17 +26,17 @@ minus-lam h p q = let v = toward p q in ring (h.a ∷ h.b ∷ h.c ∷ up.x ∷ u
 zero-minus : (x : ℤ) → x ≡ pos 0 → neg_ℤ x ≡ pos 0
 zero-minus x e = omega (arith, ints)
 
-pub minus-some : (h : Form) → IsDirection (normal_of h) → IsDirection (normal_of (minus_form h))
+pub minus-some : (h : Form) → IsDirection (normal_of h) → IsDirection (normal_of (opposite_form h))
 minus-some h i z = i (neg-zero h.a z.0, neg-zero h.b z.1, neg-zero h.c z.2)
 
-pub minus-on : (h : Form) (p : SpacePoint) → form_at h p ≡ pos 0 → form_at (minus_form h) p ≡ pos 0
-minus-on h p e = minus-at h p ∙ zero-minus (form_at h p) e
+pub minus-on : (h : Form) (p : SpacePoint) → form_at h p ≡ pos 0 → form_at (opposite_form h) p ≡ pos 0
+minus-on h p e = opposite-at h p ∙ zero-minus (form_at h p) e
 
-pub minus-off : (h : Form) (p : SpacePoint) → form_at (minus_form h) p ≡ pos 0 → form_at h p ≡ pos 0
-minus-off h p e = neg-zero (form_at h p) (sym (minus-at h p) ∙ e)
+pub minus-off : (h : Form) (p : SpacePoint) → form_at (opposite_form h) p ≡ pos 0 → form_at h p ≡ pos 0
+minus-off h p e = neg-zero (form_at h p) (sym (opposite-at h p) ∙ e)
 
-pub minus-up : (h : Form) → slope h up ≡ pos 0 → slope (minus_form h) up ≡ pos 0
-minus-up h e = minus-slope h up ∙ zero-minus (slope h up) e
+pub minus-up : (h : Form) → slope h up ≡ pos 0 → slope (opposite_form h) up ≡ pos 0
+minus-up h e = opposite-slope h up ∙ zero-minus (slope h up) e
 
 -- slices by two forms that are nought at p, and whose planes hold the same directions
 module _ (s : Set) (g h : Form) (p : SpacePoint) (on-g : form_at g p ≡ pos 0) (on-h : form_at h p ≡ pos 0) (same : (d : Vector) → slope g d ≡ pos 0 → slope h d ≡ pos 0) (back : (d : Vector) → slope h d ≡ pos 0 → slope g d ≡ pos 0) where
@@ -53,8 +50,8 @@ pub one-slice : (s : Set) (g h : Form) (p : SpacePoint) → form_at g p ≡ pos 
     → (k : ℕ) → FlatDim (sliced s g) p k → FlatDim (sliced s h) p k
 one-slice s g h p a b same back k = FlatDim-by_germs (sliced s g) (sliced s h) p p (λ v l. (there s g h p a b same back v l, there s h g p b a back same v l)) k
 
-pub minus-slice : (s : Set) (h : Form) (p : SpacePoint) → form_at h p ≡ pos 0 → (k : ℕ) → FlatDim (sliced s (minus_form h)) p k → FlatDim (sliced s h) p k
-minus-slice s h p on = one-slice s (minus_form h) h p (minus-on h p on) on (λ d e. neg-zero (slope h d) (sym (minus-slope h d) ∙ e)) (λ d e. minus-slope h d ∙ zero-minus (slope h d) e)
+pub minus-slice : (s : Set) (h : Form) (p : SpacePoint) → form_at h p ≡ pos 0 → (k : ℕ) → FlatDim (sliced s (opposite_form h)) p k → FlatDim (sliced s h) p k
+minus-slice s h p on = one-slice s (opposite_form h) h p (minus-on h p on) on (λ d e. neg-zero (slope h d) (sym (opposite-slope h d) ∙ e)) (λ d e. opposite-slope h d ∙ zero-minus (slope h d) e)
 
 later : (x : SpacePoint) (xs : List SpacePoint) (q : SpacePoint) → Lies (x ∷ xs) q → (x ≡ q → ⊥) → Lies xs q
 later x xs q (inl e) f = absurd (f e)
@@ -136,17 +133,17 @@ module _ (s : Set) (C : Complex) (S : Shows s C) (upright : IsUpright C) (linked
         second : (r : SpacePoint) → IsBetween y r R.place → FlatDim s r 3 × InFrame r
         second r m = (free-ray y x R r m, germs-inside s y r (even-germs s 3 y r (even-by s 3 y r three-y (λ u k. free-ray y x R u (between-inner y r R.place u m k)) (free-ray y x R r m))) inside)
 
-    step-minus : (h : Form) → A (minus_form h) → (hn : IsDirection (normal_of h)) (level : slope h up ≡ pos 0) (y z : SpacePoint) (x x' : VertexSide) → form_at h y ≡ pos 0 → form_at h z ≡ pos 0 → InFrame y → IsEven s 3 y z → lam (normal_of h) y z <ℤ pos 0
+    step-minus : (h : Form) → A (opposite_form h) → (hn : IsDirection (normal_of h)) (level : slope h up ≡ pos 0) (y z : SpacePoint) (x x' : VertexSide) → form_at h y ≡ pos 0 → form_at h z ≡ pos 0 → InFrame y → IsEven s 3 y z → lam (normal_of h) y z <ℤ pos 0
         → ((r : SpacePoint) → IsVertex (sliced s h) r → form_at h r ≡ pos 0 → lam (normal_of h) y r <ℤ pos 0 → lam (normal_of h) r z ≤ℤ pos 0 → ⊥) → Over-good y → RayDown C y x → RayDown C z x' → Chained (VolumeLink C) x x'
     step-minus h al hn level y z x x' on-y on-z inside even side clear over R T =
-        step-plus (minus_form h) al (minus-some h hn) (minus-up h level) y z x x' (minus-on h y on-y) (minus-on h z on-z) inside even (let e = minus-lam h y z in omega (arith, ints))
+        step-plus (opposite_form h) al (minus-some h hn) (minus-up h level) y z x x' (minus-on h y on-y) (minus-on h z on-z) inside even (let e = minus-lam h y z in omega (arith, ints))
         (λ r v o l m. let o' = minus-off h r o in clear r (minus-slice s h r o' 0 v) o' (let e = minus-lam h y r in omega (arith, ints)) (let e = minus-lam h r z in omega (arith, ints))) over R T
 
     -- ---- along a segment
     abbrev Overs : SpacePoint → SpacePoint → Type 0
     Overs y z = (u : SpacePoint) → SamePoint u y ⊎ IsBetween y u z ⊎ SamePoint u z → (r : SpacePoint) → SameDirection (toward u r) (opposite up) → G r
 
-    module _ (h : Form) (al : A h) (al' : A (minus_form h)) (hn : IsDirection (normal_of h)) (level : slope h up ≡ pos 0) where
+    module _ (h : Form) (al : A h) (al' : A (opposite_form h)) (hn : IsDirection (normal_of h)) (level : slope h up ≡ pos 0) where
       abbrev n : Vector
       n = normal_of h
 
@@ -317,7 +314,7 @@ module _ (s : Set) (C : Complex) (S : Shows s C) (upright : IsUpright C) (linked
                 let m = cross up (toward y z) in
                 let on-y = through-at m y y ∙ dot-zero m (toward y y) (point-toward y y (same-itself y)) in
                 let on-z = through-at m y z ∙ (dot-comm m (toward y z) ∙ square-second (toward y z)) in
-                segment-in (plane_through m y) (each (plane_through m y)) (each (minus_form (plane_through m y))) (direction-right m (normal_of (plane_through m y)) (through-same m y c)) ((through-level m up y).0 (dot-comm m up ∙ square-first (toward y z))) y z x x' on-y on-z inside even over R T
+                segment-in (plane_through m y) (each (plane_through m y)) (each (opposite_form (plane_through m y))) (direction-right m (normal_of (plane_through m y)) (through-same m y c)) ((through-level m up y).0 (dot-comm m up ∙ square-first (toward y z))) y z x x' on-y on-z inside even over R T
               where
                 square-first : (v : Vector) → dot up (cross up v) ≡ pos 0
                 square-first v = ring (up.x ∷ up.y ∷ up.z ∷ v.x ∷ v.y ∷ v.z ∷ []) (at 0 ⊗ (at 1 ⊗ at 5 ⊖ at 2 ⊗ at 4) ⊕ at 1 ⊗ (at 2 ⊗ at 3 ⊖ at 0 ⊗ at 5) ⊕ at 2 ⊗ (at 0 ⊗ at 4 ⊖ at 1 ⊗ at 3)) (num (pos 0)) tt

@@ -29,7 +29,7 @@
 -- The claims that are used come before. Events are the vertices of the set and those of the slices through two of them: finitely many. In the order of points,
 -- what lies below comes before, and so do an edge's points before its higher end. Claims at v, and at the vertices below an edge, are at events before y, so fewer events come before them.
 -- The claim at r needs no more events, and fewer carriers lie ahead of r downward than of y: r lies on one that up crosses, or up would be flat there. So induction on both, in that order, ends.
-use Rattle.nef_conn.proofs.Prelude.{◌≡◌, ℕ, zero, suc, ◌+◌, ◌<◌, ◌≤◌, ℤ, pos, ◌-ℤ◌, ◌*ℤ◌, ◌<ℤ◌, ◌≤ℤ◌, arith, refl, sym, ◌∙◌, ◌⊎◌, inl, inr, ⊎_elim, List, ◌∷◌, ◌++◌, subst, [], ints, nought, sign, Lies, lies-left, lies-right, ring, at, num, ◌⊖◌, ◌⊗◌, by_order, nought-is, mul_nonneg, nought-or, plus-of, minus-of, Chained, Flat, FlatDim, IsVertex, IsEven, SpacePoint, Form, form_at, normal_of, slope, SamePoint, InFrame, toward, IsBetween, IsPointBelow, Set, Vector, blend, opposite, cross, IsZero, IsDirection, SameDirection, up, sign_at, carriers, between-inner, is_nought, Decided, decided-to, decided-both, decided-or, every, Flat-from_cone, FlatCone-from_flat, FlatCone-from_carriers, point_below-trans, same-point_below, point_below-apart, signs-same, same-point_sym, all-vertices, point-toward, between-same, slope-toward, gather, IsAt, MapVertex, gather-has, same-plus, same-minus, Vertex, Edge, Complex, HasEnds, Shows, VertexSide, RayDown, through-at, between-way, between-outer, same-point_trans, VolumeLink, IsUpright, edge-ways, AreLinkedWhereJoined, minus_form, sliced, FlatDim-one, FlatDim-by_germs, ahead, near-ahead, span-1, near-of_flat, steep, forms, amount, is-at_one, dir-at, near_point, near-between, edge-points, IsEvenAfter, free-dim, ahead-cells, dim-cell, tied-ray, tied-turned, dot-zero, SameDirection-turned, SameDirection-trans, dir-self, dir-signs, dot-opposite, direction-left, direction-right}
+use Rattle.nef_conn.proofs.Prelude.{◌≡◌, ℕ, zero, suc, ◌+◌, ◌<◌, ◌≤◌, ℤ, pos, ◌-ℤ◌, ◌*ℤ◌, ◌<ℤ◌, ◌≤ℤ◌, arith, refl, sym, ◌∙◌, ◌⊎◌, inl, inr, ⊎_elim, List, ◌∷◌, ◌++◌, subst, [], ints, nought, sign, Lies, lies-left, lies-right, ring, at, num, ◌⊖◌, ◌⊗◌, by_order, nought-is, mul_nonneg, nought-or, plus-of, minus-of, Chained, Flat, FlatDim, IsVertex, IsEven, SpacePoint, Form, form_at, normal_of, slope, SamePoint, InFrame, toward, IsBetween, IsPointBelow, Set, Vector, blend, opposite, cross, IsZero, IsDirection, SameDirection, up, sign_at, carriers, between-inner, is_nought, Decided, decided-to, decided-both, decided-or, every, Flat-from_cone, FlatCone-from_flat, FlatCone-from_carriers, point_below-trans, same-point_below, point_below-apart, signs-same, same-point_sym, all-vertices, point-toward, between-same, slope-toward, gather, IsAt, MapVertex, gather-has, same-plus, same-minus, Vertex, Edge, Complex, HasEnds, Shows, VertexSide, RayDown, through-at, between-way, between-outer, same-point_trans, VolumeLink, IsUpright, edge-ways, AreLinkedWhereJoined, opposite_form, sliced, FlatDim-one, FlatDim-by_germs, ahead, near-ahead, span-1, near-of_flat, steep, forms, amount, is-at_one, dir-at, near_point, near-between, edge-points, IsEvenAfter, free-dim, ahead-cells, dim-cell, tied-ray, tied-turned, dot-zero, SameDirection-turned, SameDirection-trans, dir-self, dir-signs, dot-opposite, direction-left, direction-right}
 use Rattle.nef_conn.proofs.Claims.{Claim, not-flat}
 use Rattle.nef_conn.proofs.Downs.{vertex-down, svertex-down, vertex-falls, down-some}
 use Rattle.nef_conn.proofs.EdgeFalls.{plane_of, hn, level, edge-falls}
@@ -192,7 +192,7 @@ module _ (s : Set) (C : Complex) (S : Shows s C) (upright : IsUpright C) (linked
       fewer-v = let A = vertex-event v.point (S.vertices e.low v H.low) in before-strict v.point y A.0 v-before A.1 A.2
 
       abbrev Allowed : Form → Type 0
-      Allowed f = (f ≡ plane_of v.point w.point) ⊎ (f ≡ minus_form (plane_of v.point w.point))
+      Allowed f = (f ≡ plane_of v.point w.point) ⊎ (f ≡ opposite_form (plane_of v.point w.point))
 
       slice-there : (f : Form) → Allowed f → (r : SpacePoint) → form_at f r ≡ pos 0 → FlatDim (sliced s f) r 0 → FlatDim (sliced s (plane_of v.point w.point)) r 0
       slice-there f (inl o) r on d = subst (λ (g : Form). FlatDim (sliced s g) r 0) o d

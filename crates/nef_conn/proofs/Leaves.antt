@@ -13,6 +13,7 @@ use Rattle.nef_conn.proofs.RaysEnd.{tied-dim}
 use Rattle.nef_conn.proofs.Touch.{Seer, bound, Frame, Touch, vertex-frame, edge-frame, touched, turn-touch, same-seers, no-way}
 use Rattle.law_near.proofs.Same.{one-not_zero, dim-same}
 use Rattle.nef_space.proofs.Elementary.{same-itself}
+use Rattle.law_complex.proofs.Edges.{inner-dim}
 
 -- the way from an equal point
 pub toward-same : (y c z : SpacePoint) → SamePoint y c → IsDirection (toward y z) → SameDirection (toward y z) (toward c z)
@@ -135,16 +136,13 @@ module _ (s : Set) (C : Complex) (S : Shows s C) (upright : IsUpright C) (linked
                 same-seers s C S i v a x0 h (blend (bound s v f + 1) g 1 f) (blend n d 1 up) p q' (ways-above s C S upright (forms v.map) g d f (bound s v f + 1) n way up-side (omega arith) (omega arith))
 
       to-edge : OverEdge s C S z x' → Chained (VolumeLink C) x x'
-      to-edge (k, e', v', w', a', H, b, U) = ⊎_elim low high (is-end s y z v'.point w'.point vertex all b edge flat (S.vertices e'.low v' H.low) (S.vertices e'.high w' H.high))
+      to-edge (k, e', v', w', a', H, b, U) = ⊎_elim low high (is-end s y z v'.point w'.point vertex all b (inner-dim s C k e' v' w' S a' H) flat (S.vertices e'.low v' H.low) (S.vertices e'.high w' H.high))
         where
           vertex : FlatDim s y 0
           vertex = dim-same s v.point y 0 e (S.vertices i v a)
 
           all : (r : SpacePoint) → IsBetween y r z → FlatDim s r 1
           all r c = even r (inl c)
-
-          edge : (r : SpacePoint) → IsBetween v'.point r w'.point → FlatDim s r 1
-          edge r c = (edge-points s C k e' v' w' r S a' H c).0
 
           flat : Flat s z (toward v'.point w'.point)
           flat = let E = edge-points s C k e' v' w' z S a' H b in (E.1 (toward v'.point w'.point)).1 (edge-way s C k e' v' w' S a' H)

@@ -4,6 +4,7 @@ use Rattle.nef_conn.proofs.OneNamed.{one-vertex, one-edge}
 use Rattle.nef_conn.proofs.SameRay.{on-ray}
 use Rattle.law_near.proofs.Same.{dim-same}
 use Rattle.nef_space.proofs.Elementary.{same-itself}
+use Rattle.law_complex.proofs.Edges.{inner-dim}
 
 pub joined-as_flat : JoinedAreAsFlat
 joined-as_flat s p q k j f = FlatDim-by_germs s s p q (joined-germs s p q j) k f
@@ -47,9 +48,6 @@ joined-vertices s C i j p q S (v, a, e) (w, b, f) = (to, from)
 
 -- ---- edges
 module _ (s : Set) (C : Complex) (S : Shows s C) (k : ℕ) (e : Edge) (v w : Vertex) (a : IsAt C.edges k e) (H : HasEnds C e v w) where
-  inside : (r : SpacePoint) → IsBetween v.point r w.point → FlatDim s r 1
-  inside r b = (edge-points s C k e v w r S a H b).0
-
   -- an even segment toward a vertex ends before it
   stops : (u p q : SpacePoint) → FlatDim s u 0 → SameDirection (toward p q) (toward p u) → IsEven s 1 p q → IsBetween p q u
   stops u p q none d even = by (on-ray p q u d)
@@ -117,9 +115,9 @@ module _ (s : Set) (C : Complex) (S : Shows s C) (k : ℕ) (e : Edge) (v w : Ver
           by (inr (inr n)) = between-inner v.point p w.point r b (between-outer v.point q r p n (between-turned p q r m))
 
       even : IsEven s 1 p q
-      even r (inl f) = dim-same s p r 1 (same-point_sym r p f) (inside p b)
-      even r (inr (inl m)) = inside r (amid r m)
-      even r (inr (inr f)) = dim-same s q r 1 (same-point_sym r q f) (inside q c)
+      even r (inl f) = dim-same s p r 1 (same-point_sym r p f) (inner-dim s C k e v w S a H p b)
+      even r (inr (inl m)) = inner-dim s C k e v w S a H r (amid r m)
+      even r (inr (inr f)) = dim-same s q r 1 (same-point_sym r q f) (inner-dim s C k e v w S a H q c)
 
 pub joined-edges : JoinedEdges
 joined-edges s C i j p q S (e, v, w, a, H, b) (f, x, y, c, K, d) = (to, from)

@@ -9,6 +9,7 @@ use Rattle.nef_conn.proofs.Touch.{Seer, bound, same-seers, no-way}
 use Rattle.law_near.proofs.Normals.{toward-normal}
 use Rattle.law_near.proofs.Same.{one-not_zero, dim-same}
 use Rattle.nef_space.proofs.Elementary.{same-itself}
+use Rattle.law_complex.proofs.Edges.{inner-dim}
 
 -- ---- directions close to two vectors of one way
 pub ways-same : (gs : List Vector) (d e f : Vector) (k l : ℕ) → SameDirection d e → amount gs f ≤ k → amount gs f ≤ l → SameSigns gs (blend k d 1 f) (blend l e 1 f)
@@ -95,13 +96,13 @@ module _ (s : Set) (C : Complex) (S : Shows s C) where
       seers-linked e.low e'.low v v' x y W.low.dir W'.low.dir up T.steps U.steps H.low H'.low (one-vertex s C S e.low e'.low v v' H.low H'.low low) ways T.large U.large T.seer U.seer
     where
       one : FlatDim s z 1
-      one = (edge-points s C k e v w z S a H b).0
+      one = inner-dim s C k e v w S a H z b
 
       all : (r : SpacePoint) → IsBetween v.point r w.point → FlatDim s r 1
-      all r c = (edge-points s C k e v w r S a H c).0
+      all = inner-dim s C k e v w S a H
 
       all' : (r : SpacePoint) → IsBetween v'.point r w'.point → FlatDim s r 1
-      all' r c = (edge-points s C k' e' v' w' r S a' H' c).0
+      all' = inner-dim s C k' e' v' w' S a' H'
 
       flat : Flat s z (toward v.point w.point)
       flat = let E = edge-points s C k e v w z S a H b in (E.1 (toward v.point w.point)).1 (edge-way s C k e v w S a H)
@@ -151,7 +152,7 @@ module _ (s : Set) (C : Complex) (S : Shows s C) where
   vertex-dim z x (i, v, a, e, T) = dim-same s v.point z 0 e (S.vertices i v a)
 
   pub edge-dim : (z : SpacePoint) (x : VertexSide) → OverEdge s C S z x → FlatDim s z 1
-  edge-dim z x (k, e, v, w, a, H, b, T) = (edge-points s C k e v w z S a H b).0
+  edge-dim z x (k, e, v, w, a, H, b, T) = inner-dim s C k e v w S a H z b
 
   pub facet-dim : (z : SpacePoint) (x : VertexSide) → OverFacet s C S z x → FlatDim s z 2
   facet-dim z x (k, v, i, c, (d, o, t), f, g) = tied-dim s (ahead s v.point d) z 2 (tied-turned s z (ahead s v.point d) t) (let F = facet-near s C S k v i c d o in F.dim)

@@ -57,5 +57,6 @@ pub use Rattle.nef_conn.specs.Components.{AreComponents, EdgesCounted, HasCompon
 pub use Rattle.nef_conn.specs.Items.{ArcsGoOn, AreLinkedWhereJoined, ConverseBySteps, EndsAt, HasClearStrip, IsInTriangle, ItemsBySegments, ItemsName, JoinedItemsAreLinked, LiesAlong, NamesAlong, NamesFor, NamesOfSegments, NamesOfSteps, ThirdSides, line_form, way_inward}
 pub use Rattle.nef_conn.specs.Reach.{CornersReached, PointsReachItems, PointsReachSides, SidesReached}
 pub use Rattle.nef_conn.specs.Sides.{ConverseByItems, ConverseForAll, NamesOfFreeSegments, RaysEnd, SidesName}
-pub use Rattle.nef_conn.specs.Slices.{minus_form, plane_set, sliced}
+pub use Rattle.nef_conn.specs.Slices.{plane_set, sliced}
 pub use Rattle.nef_space.proofs.Elementary.{weight-positive, counted-positive}
+pub use Rattle.nef_space.specs.Points.{opposite_form}

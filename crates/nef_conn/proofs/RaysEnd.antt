@@ -1,5 +1,5 @@
 -- From a point of the frame with three flat directions the ray down ends at a skeleton point, above which some side lies.
-use Rattle.nef_conn.proofs.Prelude.{◌≡◌, ℕ, ◌+◌, ◌≤◌, ℤ, pos, ◌+ℤ◌, ◌-ℤ◌, ◌*ℤ◌, ◌<ℤ◌, arith, refl, ◌∙◌, ⊎_elim, ◌∷◌, subst, [], ints, ring, at, num, ◌⊕◌, ◌⊖◌, ◌⊗◌, FlatDim, SpacePoint, form_at, InFrame, toward, IsAhead, IsBetween, Set, Vector, opposite, blend, dot, cross, IsZero, IsDirection, SameDirection, up, plane_axis, Label, carriers, flat-germ, FlatDim-by_germs, between-turned, label_of, ahead, joined-germs, steep, signs-same, same-point_sym, forms, BoundsSector, IsAt, MapVertex, Arc, Item, arc_item, item_normal, item_pos, IsFree, Side, pos_item, HasSide, SeenAs, Shaped, at-arc, Beside, same_way, other_way, beside, axes-forms, on-level, amount, far-keeps, kept-not_opposite, bounded, unrayed-ahead, normal-is, Vertex, Complex, Corner, IsCorner, Shows, item_plane, IsVertexPoint, IsEdgePoint, IsFacetPoint, Spot, at_vertex, on_edge, in_facet, IsSpot, IsSkeletonPoint, HasCorner, VertexSide, HasSideLabel, IsAbove, RayDown, IsFlatIn, through-at, ahead-back, weight-positive, normal-scaled, through-level, axis-in, facet-of, facets-complete, facet-point, way-ends, skeleton-not_flat, skeleton-or_flat, IsEvenAfter, IsUpright, across, facet-at, edge-ways, tied-low, tied-turn, seen-free, ahead-cells, dim-cell, IsTied, tied-both, tied-ahead, tied-ray, RaysEnd, opposite-twice}
+use Rattle.nef_conn.proofs.Prelude.{◌≡◌, ℕ, ◌+◌, ◌≤◌, ℤ, pos, ◌+ℤ◌, ◌-ℤ◌, ◌*ℤ◌, ◌<ℤ◌, arith, refl, ◌∙◌, ⊎_elim, ◌∷◌, subst, [], ints, ring, at, num, ◌⊕◌, ◌⊖◌, ◌⊗◌, FlatDim, SpacePoint, form_at, InFrame, toward, IsAhead, IsBetween, Set, Vector, opposite, blend, dot, cross, IsZero, IsDirection, SameDirection, up, plane_axis, Label, carriers, flat-germ, FlatDim-by_germs, between-turned, label_of, ahead, joined-germs, steep, signs-same, same-point_sym, forms, BoundsSector, IsAt, MapVertex, Arc, Item, arc_item, item_normal, item_pos, IsFree, Side, pos_item, HasSide, SeenAs, Shaped, at-arc, Beside, same_way, other_way, beside, axes-forms, on-level, amount, far-keeps, kept-not_opposite, bounded, unrayed-ahead, normal-is, Vertex, Complex, Corner, IsCorner, Shows, item_plane, IsVertexPoint, IsEdgePoint, IsFacetPoint, Spot, at_vertex, on_edge, in_facet, IsSpot, IsSkeletonPoint, HasCorner, VertexSide, HasSideLabel, IsAbove, RayDown, IsFlatIn, through-at, ahead-back, weight-positive, normal-scaled, through-level, axis-in, facet-of, facets-complete, facet-point, way-ends, skeleton-not_flat, skeleton-or_flat, IsEvenAfter, IsUpright, across, facet-at, edge-ways, tied-low, tied-turn, seen-free, ahead-cells, dim-cell, IsTied, tied-both, tied-ahead, tied-ray, RaysEnd, opposite-twice, inl, inr, dir-self}
 use Rattle.nef_conn.proofs.AtSides.{side-toward}
 use Rattle.nef_conn.proofs.FirstMet.{all-flat}
 use Rattle.law_near.proofs.Same.{dim-same}
@@ -7,6 +7,14 @@ use Rattle.law_near.proofs.Same.{dim-same}
 -- what is tied is as flat
 pub tied-dim : (s : Set) (p q : SpacePoint) (k : ℕ) → IsTied s p q → FlatDim s p k → FlatDim s q k
 tied-dim s p q k t = FlatDim-by_germs s s p q (joined-germs s p q t.0) k
+
+-- a way that is free, up to its end that is free too, is free where it begins
+pub free-toward : (s : Set) (y b : SpacePoint) → IsDirection (toward y b) → ((r : SpacePoint) → IsBetween y r b → FlatDim s r 3) → FlatDim s b 3 → FlatDim s (ahead s y (toward y b)) 3
+free-toward s y b some free three = tied-dim s b (ahead s y (toward y b)) 3 (tied-ray s 3 y b (toward y b) (dir-self (toward y b) some) even) three
+  where
+    even : IsEvenAfter s 3 y b
+    even r (inl m) = free r m
+    even r (inr e) = dim-same s b r 3 (same-point_sym r b e) three
 
 module _ (s : Set) (C : Complex) (S : Shows s C) where
   -- some side sees a direction toward which three directions are flat

@@ -29,6 +29,13 @@ sliced-ahead s h y d = beside-cell s y d (ahead (sliced s h) y d) (ahead s y d) 
 pub germs-inside : (s : Set) (p q : SpacePoint) → SameGerms s p q → InFrame p → InFrame q
 germs-inside s p q same i = let l = label_of s p in label-inside s q l.0 ((labels-by_germs s p q same l.0).0 l.1) (inside-label s p l.0 l.1 i)
 
+-- along a way that is free, up to its end that is free too, the germs are those of the end; where the end lies in the frame, so does the way
+pub germs-along : (s : Set) (y b : SpacePoint) → ((r : SpacePoint) → IsBetween y r b → FlatDim s r 3) → FlatDim s b 3 → (r : SpacePoint) → IsBetween y r b → SameGerms s b r
+germs-along s y b free three r m d l = let e = even-germs s 3 r b (even-by s 3 r b (free r m) (λ u k. free u (between-outer y r u b m k)) three) d l in (e.1, e.0)
+
+pub frame-along : (s : Set) (y b : SpacePoint) → ((r : SpacePoint) → IsBetween y r b → FlatDim s r 3) → FlatDim s b 3 → InFrame b → (r : SpacePoint) → IsBetween y r b → InFrame r
+frame-along s y b free three inside r m = germs-inside s b r (germs-along s y b free three r m) inside
+
 -- points of the plane with the same germs have the same for the slice
 module _ (s : Set) (h : Form) (p q : SpacePoint) (on-p : form_at h p ≡ pos 0) (on-q : form_at h q ≡ pos 0) where
   there : SameGerms s p q → (v : Vector) (l : Label) → Germ (sliced s h) p v l → Germ (sliced s h) q v l
@@ -62,6 +69,15 @@ module _ (s : Set) (h : Form) (hn : IsDirection (normal_of h)) where
 
   pub three-of : (k : ℕ) (p r : SpacePoint) → form_at h p ≡ pos 0 → form_at h r ≡ pos 0 → IsEven (sliced s h) k p r → FlatDim s p 3 → FlatDim s r 3
   three-of k p r on-p on-r even = FlatDim-by_germs s s p r (germs-of k p r on-p on-r even) 3
+
+  -- a way in the plane is free in it where it is free, and the other way round where its end is
+  pub two-along : (y b : SpacePoint) → form_at h y ≡ pos 0 → form_at h b ≡ pos 0 → ((r : SpacePoint) → IsBetween y r b → FlatDim s r 3) → FlatDim s b 3 → InFrame b → (r : SpacePoint) → IsBetween y r b → FlatDim (sliced s h) r 2
+  two-along y b on-y on-b free three inside r m = let f = two-of r (plane-between h y r b m on-y on-b) (free r m) (frame-along s y b free three inside r m) in f.0
+
+  pub three-along : (y b : SpacePoint) → form_at h y ≡ pos 0 → form_at h b ≡ pos 0 → FlatDim (sliced s h) b 2 → ((r : SpacePoint) → IsBetween b r y → FlatDim (sliced s h) r 2) → FlatDim s b 3 → (r : SpacePoint) → IsBetween y r b → FlatDim s r 3
+  three-along y b on-y on-b two free three r m =
+      let d = between-turned y b r m in
+      three-of 2 b r on-b (plane-between h y r b m on-y on-b) (even-by (sliced s h) 2 b r two (λ p i. free p (between-inner b r y p d i)) (free r d)) three
 
 -- no two close points are both vertices
 pub no-vertices : (s : Set) (c y : SpacePoint) → IsDirection (toward c y) → FlatDim s (near_point s c y) 0 → ⊥

@@ -1,21 +1,18 @@
 -- The labels and germs of a set with the points of a plane exchanged: off the plane they are those of the set, in it they are the others.
-use Rattle.nef_conn.proofs.Prelude.{◌≡◌, pos, ◌+ℤ◌, ◌*ℤ◌, neg_ℤ, arith, refl, ap, sym, ◌∙◌, ⊎_elim, ◌∷◌, subst, [], ints, Sign, sign, ring, at, num, neg, ◌⊕◌, ◌⊗◌, by_order, sign-plus, sign-minus, nought-or, HasLabel, Germ, FlatDim, SpacePoint, Form, form_at, normal_of, slope, Ratio, step, InFrame, Set, Vector, IsDirection, Label, Out, Not, In, label_not, SameGerms, flat-germ, germ_of, Germ-unique, sign-along, same-nought, form-step, by_side, IsFlatIn, IsSided, sided-dim, sided-flats, minus_form, plane_set, sliced}
+use Rattle.nef_conn.proofs.Prelude.{◌≡◌, pos, ◌+ℤ◌, ◌*ℤ◌, arith, refl, ap, sym, ◌∙◌, ⊎_elim, ◌∷◌, subst, [], ints, Sign, sign, ring, at, num, ◌⊕◌, ◌⊗◌, by_order, sign-plus, sign-minus, nought-or, HasLabel, Germ, FlatDim, SpacePoint, Form, form_at, normal_of, slope, Ratio, step, InFrame, Set, Vector, IsDirection, Label, Out, Not, In, label_not, SameGerms, flat-germ, germ_of, Germ-unique, sign-along, same-nought, form-step, by_side, IsFlatIn, IsSided, sided-dim, sided-flats, plane_set, sliced}
 use Rattle.nef_space.specs.Sets.{Holds}
 use Rattle.law_near.proofs.Combine.{one_of-label}
 use Rattle.nef_conn.proofs.FirstMet.{all-flat}
+use Rattle.nef_space.proofs.Vectors.{opposite-at}
 
 -- ---- labels
-pub minus-at : (h : Form) (q : SpacePoint) → form_at (minus_form h) q ≡ neg_ℤ (form_at h q)
-minus-at h q = ring (h.a ∷ h.b ∷ h.c ∷ h.d ∷ q.x ∷ q.y ∷ q.z ∷ pos q.w ∷ [])
-    (neg (at 0) ⊗ at 4 ⊕ neg (at 1) ⊗ at 5 ⊕ neg (at 2) ⊗ at 6 ⊕ neg (at 3) ⊗ at 7) (neg (at 0 ⊗ at 4 ⊕ at 1 ⊗ at 5 ⊕ at 2 ⊗ at 6 ⊕ at 3 ⊗ at 7)) tt
-
 plane-in : (h : Form) (q : SpacePoint) → InFrame q → form_at h q ≡ pos 0 → HasLabel (plane_set h) q In
 unfolding Holds
-plane-in h q i z = let e = minus-at h q in (i, (omega (arith, ints), omega (arith, ints)))
+plane-in h q i z = let e = opposite-at h q in (i, (omega (arith, ints), omega (arith, ints)))
 
 plane-not : (h : Form) (q : SpacePoint) → InFrame q → (form_at h q ≡ pos 0 → ⊥) → HasLabel (plane_set h) q Not
 unfolding Holds
-plane-not h q i n = (i, λ x. let e = minus-at h q in let a = x.0 in let b = x.1 in n (omega (arith, ints)))
+plane-not h q i n = (i, λ x. let e = opposite-at h q in let a = x.0 in let b = x.1 in n (omega (arith, ints)))
 
 module _ (s : Set) (h : Form) where
   pub label-on : (q : SpacePoint) (l : Label) → form_at h q ≡ pos 0 → HasLabel s q l → HasLabel (sliced s h) q (label_not l)

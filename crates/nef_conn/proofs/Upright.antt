@@ -1,5 +1,5 @@
 -- Where an edge runs down from a vertex of a plane, along up, nothing else is at that svertex, nor at the lower end of the edge; what falls beside the vertex falls beside the edge to its lower end.
-use Rattle.nef_conn.proofs.Prelude.{◌≡◌, ℕ, ◌+◌, ◌<◌, ◌≤◌, ℤ, pos, ◌-ℤ◌, ◌*ℤ◌, ◌<ℤ◌, ◌≤ℤ◌, arith, refl, ap, sym, ◌∙◌, ◌⊎◌, inl, inr, ◌∷◌, subst, [], ints, sign, ring, at, num, ◌⊕◌, ◌⊖◌, ◌⊗◌, by_order, nought-is, sign-scaled, sign-plus, plus-is, turn-last, same-plus, same-minus, plane-way, Chained, FlatDim, IsEven, SpacePoint, Form, form_at, normal_of, slope, plane_through, SamePoint, InFrame, toward, IsBetween, Set, Vector, blend, dot, cross, opposite, IsZero, IsDirection, SameDirection, up, carriers, germs-by_cell, between-turned, between-inner, ahead, start-close, even-germs, joined-germs, signs-same, same-point_sym, reach_all, slope-toward, point-toward, between-same, forms, SameSigns, IsAt, MapVertex, arc_item, HasArc, Shaped, at-arc, amount, free-close, Vertex, Edge, Complex, HasEnds, IsCorner, Shows, VertexSide, RayDown, IsFlatIn, near_point, near-between, edge-points, through-at, through-slope, between-plus, ahead-back, plane-between, plane-ahead, even-by, between-way, between-outer, VolumeLink, IsUpright, IsEvenAfter, EdgeWays, edge-ways, ends-tied, tied-turn, end-level, corner_of_numbers, free-dim, even-fan, dim-cell, ahead-cells, tied-cell, tied-both, tied-ahead, tied-ray, tied-turned, AreLinkedWhereJoined, sliced, triple-dot, cross-turned, SameDirection-turned, SameDirection-trans, dir-self, in-span, parallel-trans, opposite-same, dot-opposite, level-way, opposite-way, opposite-twice, direction-left, direction-right}
+use Rattle.nef_conn.proofs.Prelude.{◌≡◌, ℕ, ◌+◌, ◌<◌, ◌≤◌, ℤ, pos, ◌-ℤ◌, ◌*ℤ◌, ◌<ℤ◌, ◌≤ℤ◌, arith, refl, ap, sym, ◌∙◌, ◌⊎◌, inl, inr, ◌∷◌, subst, [], ints, sign, ring, at, num, ◌⊕◌, ◌⊖◌, ◌⊗◌, by_order, nought-is, sign-scaled, sign-plus, plus-is, turn-last, same-plus, same-minus, plane-way, Chained, FlatDim, SpacePoint, Form, form_at, normal_of, slope, plane_through, SamePoint, InFrame, toward, IsBetween, Set, Vector, blend, dot, cross, opposite, IsZero, IsDirection, SameDirection, up, carriers, germs-by_cell, between-turned, between-inner, ahead, start-close, even-germs, joined-germs, signs-same, same-point_sym, reach_all, slope-toward, point-toward, between-same, forms, SameSigns, IsAt, MapVertex, arc_item, HasArc, Shaped, at-arc, amount, free-close, Vertex, Edge, Complex, HasEnds, IsCorner, Shows, VertexSide, RayDown, IsFlatIn, near_point, near-between, through-at, through-slope, between-plus, ahead-back, plane-between, plane-ahead, between-way, between-outer, VolumeLink, IsUpright, IsEvenAfter, EdgeWays, edge-ways, ends-tied, tied-turn, end-level, corner_of_numbers, free-dim, even-fan, dim-cell, ahead-cells, tied-cell, tied-both, tied-ahead, tied-ray, tied-turned, AreLinkedWhereJoined, sliced, triple-dot, cross-turned, SameDirection-turned, SameDirection-trans, dir-self, in-span, parallel-trans, opposite-same, dot-opposite, level-way, opposite-way, opposite-twice, direction-left, direction-right}
 use Rattle.nef_space.proofs.Chains.{chain-trans}
 use Rattle.nef_conn.proofs.Claims.{Claim}
 use Rattle.nef_conn.proofs.EdgeFalls.{ways-toward, vertex-slice, edge-slice}
@@ -9,12 +9,13 @@ use Rattle.nef_conn.proofs.Land.{side-on, clear-on}
 use Rattle.nef_conn.proofs.Leaves.{turn-beside, toward-same}
 use Rattle.nef_conn.proofs.Near.{Wedge, wedge-way, wedge-on}
 use Rattle.nef_conn.proofs.NearOver.{up-some, blend-rises}
-use Rattle.nef_conn.proofs.RaysEnd.{tied-dim}
-use Rattle.nef_conn.proofs.Silhouettes.{germs-inside, toward-end, sliced-ahead, two-of, three-of}
+use Rattle.nef_conn.proofs.RaysEnd.{tied-dim, free-toward}
+use Rattle.nef_conn.proofs.Silhouettes.{germs-inside, toward-end, sliced-ahead, two-of, frame-along, three-along}
 use Rattle.nef_conn.proofs.SliceStrip.{lam, up_line, lam-at, Clear, along-start, lam-plus}
 use Rattle.nef_conn.proofs.Touch.{Seer, bound, Touch, edge-frame, vertex-frame, same-seers, touched, no-way}
 use Rattle.law_near.proofs.Same.{dim-same}
 use Rattle.nef_space.proofs.Elementary.{same-itself}
+use Rattle.law_complex.proofs.Edges.{inner-dim}
 
 pub up-square : (m : Vector) → dot (cross m up) up ≡ pos 0
 up-square m = ring (m.x ∷ m.y ∷ m.z ∷ up.x ∷ up.y ∷ up.z ∷ []) ((at 1 ⊗ at 5 ⊖ at 2 ⊗ at 4) ⊗ at 3 ⊕ (at 2 ⊗ at 3 ⊖ at 0 ⊗ at 5) ⊗ at 4 ⊕ (at 0 ⊗ at 4 ⊖ at 1 ⊗ at 3) ⊗ at 5) (num (pos 0)) tt
@@ -64,7 +65,7 @@ module _ (s : Set) (C : Complex) (S : Shows s C) (upright : IsUpright C) (linked
       on-v = plane-ahead h y v.point (opposite up) down (let f = dot-opposite n up in let l = level in omega (arith, ints)) on-y
 
       edge-dim : (r : SpacePoint) → IsBetween v.point r w.point → FlatDim s r 1
-      edge-dim r c = (edge-points s C k e v w r S a H c).0
+      edge-dim = inner-dim s C k e v w S a H
 
       V : Shaped v.map
       V = (S.cones e.low v H.low).valid.shaped
@@ -105,7 +106,7 @@ module _ (s : Set) (C : Complex) (S : Shows s C) (upright : IsUpright C) (linked
         part-before u (inr g) r m = between-same y r u y r b (same-itself y) (same-itself r) g m
 
         part-inside : (u : SpacePoint) → Part u → InFrame u
-        part-inside u (inl c) = germs-inside s b u (λ d l. let g = even-germs s 3 u b (even-by s 3 u b (first u c) (λ r m. first r (between-outer y u r b c m)) three) d l in (g.1, g.0)) inside
+        part-inside u (inl c) = frame-along s y b first three inside u c
         part-inside u (inr g) = germs-inside s b u (germs-by_cell s b u (signs-same (carriers s) b u (same-point_sym u b g))) inside
 
         part-side : (u : SpacePoint) → Part u → pos 0 <ℤ lam (normal_of h) y u
@@ -137,7 +138,7 @@ module _ (s : Set) (C : Complex) (S : Shows s C) (upright : IsUpright C) (linked
             even r c = part-three r c
 
         free-y : FlatDim s (ahead s y f) 3
-        free-y = tied-dim s b (ahead s y f) 3 (tied-ray s 3 y b f (dir-self f some-b) (λ r c. part-three r c)) three
+        free-y = free-toward s y b some-b first three
 
         to-high : SameDirection (opposite up) W.high.dir
         to-high = SameDirection-trans (opposite up) (opposite W.low.dir) W.high.dir (opposite-same up W.low.dir (SameDirection-turned W.low.dir up along)) (opposite-way W.low.dir W.high.dir W.back)
@@ -212,35 +213,26 @@ module _ (s : Set) (C : Complex) (S : Shows s C) (upright : IsUpright C) (linked
           way-two = along-start (sliced s h) h hn level y u v.point on-y (part-on u p) on-v down (part-side u p) (part-clear u p) first-two (inr edge-t) F corner
 
           way-three : (r : SpacePoint) → IsBetween v.point r u → FlatDim s r 3
-          way-three r c =
-              let d = between-turned v.point u r c in
-              three-of s h hn 2 u r (part-on u p) (plane-between h v.point r u c on-v (part-on u p)) (even-by (sliced s h) 2 u r F.0 (λ q i. way-two q (between-inner u r v.point q d i)) (way-two r d)) (part-three u p)
+          way-three = three-along s h hn v.point u on-v (part-on u p) F.0 way-two (part-three u p)
 
           some-u : IsDirection (toward v.point u)
           some-u g = let l = side-on (sliced s h) h hn level y v.point u (lam-down n y v.point down) (part-side u p) in let c = lam-zero n v.point u g in omega (arith, ints)
 
           free-to : FlatDim s (ahead s v.point (toward v.point u)) 3
-          free-to = tied-dim s u (ahead s v.point (toward v.point u)) 3 (tied-ray s 3 v.point u (toward v.point u) (dir-self (toward v.point u) some-u) even) (part-three u p)
-            where
-              even : IsEvenAfter s 3 v.point u
-              even r (inl c) = way-three r c
-              even r (inr g) = dim-same s u r 3 (same-point_sym r u g) (part-three u p)
+          free-to = free-toward s v.point u some-u way-three (part-three u p)
 
         at-b : Part b
         at-b = inr (same-itself b)
 
         vertex-v : FlatDim (sliced s h) v.point 0
         vertex-v = vertex-slice s h hn level v.point (near_point (sliced s h) v.point b) on-v (S.vertices e.low v H.low) (start-close (reach_all (carriers (sliced s h)) v.point) v.point b)
-            (two-of s h hn q (plane-between h v.point q b c on-v on-b) (way-three b at-b q c) (germs-inside s b q (even-germs s 3 b q even) inside))
+            (two-of s h hn q (plane-between h v.point q b c on-v on-b) (way-three b at-b q c) (frame-along s v.point b (way-three b at-b) three inside q c))
           where
             q : SpacePoint
             q = near_point (sliced s h) v.point b
 
             c : IsBetween v.point (near_point (sliced s h) v.point b) b
             c = near-between (sliced s h) v.point b (some-u b at-b)
-
-            even : IsEven s 3 b (near_point (sliced s h) v.point b)
-            even = even-by s 3 b (near_point (sliced s h) v.point b) three (λ r m. way-three b at-b r (between-turned b v.point r (between-inner b (near_point (sliced s h) v.point b) v.point r (between-turned v.point b (near_point (sliced s h) v.point b) c) m))) (way-three b at-b (near_point (sliced s h) v.point b) c)
 
         -- ---- what touches the edge toward b touches v close to the edge
         M-some : 0 < bound s v (toward v.point b) + 1

@@ -1,5 +1,5 @@
 -- What falls beside a vertex of a plane from which an edge runs down along up: it falls beside the edge.
-use Rattle.nef_conn.proofs.Prelude.{◌≡◌, ℕ, ◌+◌, ℤ, pos, ◌<ℤ◌, arith, refl, ap, sym, inl, inr, ⊎_elim, subst, ints, Chained, FlatDim, IsVertex, SpacePoint, Form, form_at, normal_of, slope, SamePoint, InFrame, toward, IsBetween, IsPointBelow, Set, Vector, blend, dot, cross, opposite, IsZero, IsDirection, SameDirection, up, ahead, same-point_sym, forms, IsAt, MapVertex, around_svertex, HasArc, Shaped, amount, is-at_one, sees-around, Vertex, Edge, Complex, HasEnds, Shows, VertexSide, RayDown, ahead-back, plane-ahead, svertex-edge, VolumeLink, around_ends, IsUpright, IsEvenAfter, EdgeWays, edge-ways, tied-ray, AreLinkedWhereJoined, sliced, point_below-same, triple-dot, SameDirection-turned, SameDirection-trans, dir-self, opposite-turned, opposite-same, dot-opposite, level-way, opposite-way, opposite-twice, direction-left}
+use Rattle.nef_conn.proofs.Prelude.{◌≡◌, ℕ, ◌+◌, ℤ, pos, ◌<ℤ◌, arith, refl, ap, sym, inl, inr, ⊎_elim, subst, ints, Chained, FlatDim, IsVertex, SpacePoint, Form, form_at, normal_of, slope, SamePoint, InFrame, toward, IsBetween, IsPointBelow, Set, Vector, blend, dot, cross, opposite, IsZero, IsDirection, SameDirection, up, ahead, forms, IsAt, MapVertex, around_svertex, HasArc, Shaped, amount, is-at_one, sees-around, Vertex, Edge, Complex, HasEnds, Shows, VertexSide, RayDown, ahead-back, plane-ahead, svertex-edge, VolumeLink, around_ends, IsUpright, EdgeWays, edge-ways, AreLinkedWhereJoined, sliced, point_below-same, triple-dot, SameDirection-turned, SameDirection-trans, dir-self, opposite-turned, opposite-same, dot-opposite, level-way, opposite-way, opposite-twice, direction-left}
 use Rattle.nef_space.proofs.Chains.{chain-trans, chain-turned, chain-link}
 use Rattle.nef_conn.proofs.Claims.{Claim}
 use Rattle.nef_conn.proofs.Downs.{along-up}
@@ -7,12 +7,11 @@ use Rattle.nef_conn.proofs.Fall.{lam-zero}
 use Rattle.nef_conn.proofs.Leaves.{toward-same}
 use Rattle.nef_conn.proofs.Near.{Wedge, wedge-way, wedge-on}
 use Rattle.nef_conn.proofs.NearOver.{blend-rises}
-use Rattle.nef_conn.proofs.RaysEnd.{tied-dim}
+use Rattle.nef_conn.proofs.RaysEnd.{free-toward}
 use Rattle.nef_conn.proofs.SliceStrip.{lam, Clear}
 use Rattle.nef_conn.proofs.Touch.{Seer, bound, Touch, vertex-frame, meet, touched, turn-touch, no-way}
 use Rattle.nef_conn.proofs.Upright.{lone-along, aside-any, up-square, beside-edge}
 use Rattle.law_near.proofs.Normals.{toward-normal, normal-kept}
-use Rattle.law_near.proofs.Same.{dim-same}
 
 module _ (s : Set) (C : Complex) (S : Shows s C) (upright : IsUpright C) (linked : AreLinkedWhereJoined s C) where
   module _ (h : Form) (hn : IsDirection (normal_of h)) (level : slope h up ≡ pos 0) where
@@ -40,11 +39,7 @@ module _ (s : Set) (C : Complex) (S : Shows s C) (upright : IsUpright C) (linked
         some-f g = let l = lam-zero n y c g in let k = side in omega (arith, ints)
 
         free-f : FlatDim s (ahead s y f) 3
-        free-f = tied-dim s c (ahead s y f) 3 (tied-ray s 3 y c f (dir-self f some-f) even) three
-          where
-            even : IsEvenAfter s 3 y c
-            even r (inl m) = first r m
-            even r (inr g) = dim-same s c r 3 (same-point_sym r c g) three
+        free-f = free-toward s y c some-f first three
 
         u-some : IsDirection u.dir
         u-some = direction-left u.dir (opposite up) runs

@@ -1,5 +1,5 @@
 -- What falls from a point beside a vertex of a plane names a side of the class of what touches the vertex toward it: by what leaves the vertex first, or, where nothing does, by what lies below.
-use Rattle.nef_conn.proofs.Prelude.{◌≡◌, ℤ, pos, ◌<ℤ◌, arith, sym, ◌⊎◌, inl, inr, ⊎_elim, subst, ints, Chained, FlatDim, IsEven, SpacePoint, Form, form_at, normal_of, slope, SamePoint, InFrame, toward, IsBetween, Set, Vector, opposite, cross, IsDirection, SameDirection, up, carriers, SameGerms, FlatDim-by_germs, germs-by_cell, between-turned, between-inner, ray-cell, ahead, even-germs, signs-same, same-point_sym, Complex, Shows, VertexSide, RayDown, IsFlatIn, facet-of, plane-between, plane-ahead, even-by, plane-way, skeleton-not_flat, skeleton-or_flat, between-way, between-cases, between-outer, between-start, VolumeLink, IsUpright, IsEvenAfter, ahead-close, dim-cell, tied-ray, facet-at, AreLinkedWhereJoined, sliced, triple-dot, triple-turned, SameDirection-turned, SameDirection-trans, dir-self, dot-opposite, level-way, direction-left}
+use Rattle.nef_conn.proofs.Prelude.{◌≡◌, ℤ, pos, ◌<ℤ◌, arith, sym, ◌⊎◌, inr, ⊎_elim, subst, ints, Chained, FlatDim, IsEven, SpacePoint, Form, form_at, normal_of, slope, SamePoint, InFrame, toward, IsBetween, Set, Vector, opposite, cross, IsDirection, SameDirection, up, carriers, SameGerms, FlatDim-by_germs, germs-by_cell, between-turned, between-inner, ray-cell, ahead, even-germs, signs-same, same-point_sym, Complex, Shows, VertexSide, RayDown, IsFlatIn, facet-of, plane-between, plane-ahead, even-by, plane-way, skeleton-not_flat, skeleton-or_flat, between-way, between-cases, between-start, VolumeLink, IsUpright, ahead-close, dim-cell, facet-at, AreLinkedWhereJoined, sliced, triple-dot, triple-turned, SameDirection-turned, SameDirection-trans, dir-self, dot-opposite, level-way, direction-left}
 use Rattle.nef_space.proofs.Chains.{chain-trans}
 use Rattle.nef_conn.proofs.Fall.{lam-zero}
 use Rattle.nef_conn.proofs.Fans.{off-between}
@@ -8,11 +8,10 @@ use Rattle.nef_conn.proofs.Land.{Landing, search, Blocked, near-b, near-down, on
 use Rattle.nef_conn.proofs.Leaves.{Beside-point, turn-beside, near-over}
 use Rattle.nef_conn.proofs.Near.{Wedge, wedge-of, wedge-way}
 use Rattle.nef_conn.proofs.NearOver.{blend-rises}
-use Rattle.nef_conn.proofs.RaysEnd.{free-above, ray-down, tied-dim}
-use Rattle.nef_conn.proofs.Silhouettes.{sliced-signs, sliced-off, sliced-ahead, germs-inside, toward-end, two-of, germs-of, three-of, lands, some-flat, even-hit, flatness}
+use Rattle.nef_conn.proofs.RaysEnd.{free-above, ray-down, free-toward}
+use Rattle.nef_conn.proofs.Silhouettes.{sliced-signs, sliced-off, sliced-ahead, germs-inside, toward-end, two-of, germs-of, three-of, lands, some-flat, even-hit, flatness, two-along}
 use Rattle.nef_conn.proofs.Claims.{Claim, up-side, not-flat, beside-fall}
 use Rattle.nef_conn.proofs.SliceStrip.{lam, Clear}
-use Rattle.law_near.proofs.Same.{dim-same}
 
 module _ (s : Set) (C : Complex) (S : Shows s C) (upright : IsUpright C) (linked : AreLinkedWhereJoined s C) (h : Form) (hn : IsDirection (normal_of h)) (level : slope h up ≡ pos 0) where
   abbrev n : Vector
@@ -30,11 +29,8 @@ module _ (s : Set) (C : Complex) (S : Shows s C) (upright : IsUpright C) (linked
       F : IsFlatIn (sliced s h) h b
       F = two-of s h hn b on-b three inside
 
-      germs-b : (r : SpacePoint) → IsBetween y r b → SameGerms s b r
-      germs-b r m d l = let e = even-germs s 3 r b (even-by s 3 r b (first r m) (λ u k. first u (between-outer y r u b m k)) three) d l in (e.1, e.0)
-
       first-two : (r : SpacePoint) → IsBetween y r b → FlatDim (sliced s h) r 2
-      first-two r m = let f = two-of s h hn r (plane-between h y r b m on-y on-b) (first r m) (germs-inside s b r (germs-b r m) inside) in f.0
+      first-two = two-along s h hn y b on-y on-b first three inside
 
       some-b : IsDirection (toward y b)
       some-b z = let e = lam-zero n y b z in let l = side in omega (arith, ints)
@@ -67,12 +63,8 @@ module _ (s : Set) (C : Complex) (S : Shows s C) (upright : IsUpright C) (linked
       after-P : (r : SpacePoint) → form_at h r ≡ pos 0 → IsEven (sliced s h) 2 P r → FlatDim s r 3
       after-P r on-r even = three-of s h hn 2 P r on-P on-r even three-P
 
-      free-toward : FlatDim s (ahead s y (toward y b)) 3
-      free-toward = tied-dim s b (ahead s y (toward y b)) 3 (tied-ray s 3 y b (toward y b) (dir-self (toward y b) some-b) even) three
-        where
-          even : IsEvenAfter s 3 y b
-          even u (inl m) = first u m
-          even u (inr e) = dim-same s b u 3 (same-point_sym u b e) three
+      free-way : FlatDim s (ahead s y (toward y b)) 3
+      free-way = free-toward s y b some-b first three
 
       -- ---- what leaves y lands under b
       module _ (K : Blocked (sliced s h) h hn level y b on-y on-b side clear first-two F) where
@@ -105,7 +97,7 @@ module _ (s : Set) (C : Complex) (S : Shows s C) (upright : IsUpright C) (linked
         by-landing =
             let k = flatness s C S upright linked h hn level y b on-y on-b side clear (λ r m. first-two r (between-turned b y r m)) F three inside (toward y K.place) K.landing z R in
             near-over s C S upright linked y R.place x z (toward y K.place) (toward y b) (SameDirection-trans (toward y R.place) (toward y L.place) (toward y K.place) to-hit L.dir)
-            (up-side s C S upright linked h hn level y b L.place (toward y K.place) L.dir L.below) free-toward (free-above s C S b R.place R.ahead three R.first) wedge k
+            (up-side s C S upright linked h hn level y b L.place (toward y K.place) L.dir L.below) free-way (free-above s C S b R.place R.ahead three R.first) wedge k
             (some-flat s C S upright linked h hn level y b on-y on-b side clear (λ r m. first-two r (between-turned b y r m)) F three inside (toward y K.place) K.landing z R)
             (even-hit s C S upright linked h hn level y b on-y on-b side clear (λ r m. first-two r (between-turned b y r m)) F three inside (toward y K.place) K.landing z R)
             (not-flat s C S upright linked h hn level y (toward y R.place) on-y (level-hit) (direction-left (toward y R.place) (toward y L.place) to-hit) corner-y) B (ray-over s C S b z R)
@@ -187,7 +179,7 @@ module _ (s : Set) (C : Complex) (S : Shows s C) (upright : IsUpright C) (linked
 
             by-ray : Chained (VolumeLink C) x z
             by-ray =
-                let T = turn-beside s C S upright linked y (toward y b) (opposite up) x free-toward free-down wedge-down B in
+                let T = turn-beside s C S upright linked y (toward y b) (opposite up) x free-way free-down wedge-down B in
                 chain-trans (VolumeLink C) x T.0 z T.2 (chain-trans (VolumeLink C) T.0 x2 z (falls T.0 x2 T.1 ray-y second)
                 (beside-fall s C S upright linked h hn level y D.place b on-y on-place on-b to-place side clear first second three inside (inr wedge-two) x2 z (ray-over s C S Q x2 D) R (below D.place on-place to-place)))
 

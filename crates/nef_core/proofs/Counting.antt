@@ -1,17 +1,14 @@
 -- Each claim of a pass is a job in its hand, a job that it deposited, or one that it gave back.
-use Rattle.nef_core.proofs.Prelude.{◌≡◌, ◌≢◌, ℕ, zero, suc, ◌+◌, ◌<◌, ◌≤◌, ◌==◌, ◌&&◌, List, [], ◌∷◌, refl, ap, sym, ◌∙◌, Some, None, slice_get, slice_set, arith, set, ◌⊎◌, inl, inr, Bool, true, false, eq-eqb, ne_eqb, slice_get_within, State, start, after, replay, IsLegal, Slot, Open, InHand, Done, Event, Claim, Deposit, GiveBack}
+use Rattle.nef_core.proofs.Prelude.{◌≡◌, ◌≢◌, ℕ, zero, suc, ◌+◌, ◌<◌, ◌≤◌, ◌==◌, ◌&&◌, List, [], ◌∷◌, refl, ap, sym, ◌∙◌, Some, slice_get, slice_set, arith, set, ◌⊎◌, inl, inr, Bool, true, false, eq-eqb, ne_eqb, slice_get_within, State, start, after, replay, IsLegal, Slot, Open, InHand, Done, Event, Claim, Deposit, GiveBack}
 use Rattle.nef_core.specs.Counts.{one_if, is_own_slot, is_done_by, total, at_most_one, claims, deposits, givings_back, claims_of, deposits_of, givings_back_of, handings_out}
 use Rattle.nef_core.proofs.Places.{get_set_here, get_set_other, same_or_not}
 use Rattle.nef_core.proofs.Schedules.{claimed, RestIsOpen, fresh_after, fresh_start}
-use Rattle.nef_core.proofs.Deposits.{same_slot}
-
-no_slot : (x : Slot) → None ≡ Some x → ⊥
-no_slot x e = cc
+use Rattle.std.proofs.lemmas.Option.{same_Some, none-some}
 
 -- a count over all slots, where one is set
 total_set : (count : Slot → ℕ) (slots : List Slot) (i : ℕ) (x y : Slot) → slice_get slots i ≡ Some x → total count (set slots i y) + count x ≡ total count slots + count y
-total_set count [] i x y e = absurd (no_slot x e)
-total_set count (z ∷ zs) zero x y e = let q : count z ≡ count x = ap count (same_slot z x e) in omega arith
+total_set count [] i x y e = absurd (none-some x e)
+total_set count (z ∷ zs) zero x y e = let q : count z ≡ count x = ap count (same_Some z x e) in omega arith
 total_set count (z ∷ zs) (suc i) x y e = let k = total_set count zs i x y e in omega arith
 
 total_start : (count : Slot → ℕ) (n : ℕ) → count Open ≡ 0 → total count (start n).slots ≡ 0

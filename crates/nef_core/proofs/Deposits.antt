@@ -19,9 +19,6 @@ done_not_held v w e = cc
 pub held_by : (v w : ℕ) → Some (InHand v) ≡ Some (InHand w) → v ≡ w
 held_by v w e = cc
 
-pub same_slot : (x y : Slot) → Some x ≡ Some y → x ≡ y
-same_slot x y e = cc
-
 -- a list of deposits under slots that keep what is done
 pub done_moved : (old new : List Slot) (ds : List (ℕ × ℕ)) → ((job w : ℕ) → slice_get old job ≡ Some (Done w) → slice_get new job ≡ Some (Done w)) → AllDone old ds → AllDone new ds
 done_moved old new [] keep h = tt

@@ -6,13 +6,11 @@ use Rattle.nef_complex.proofs.Carried.{items-held}
 use Rattle.nef_edges.proofs.Existing.{edges-exist}
 use Rattle.nef_edges.proofs.Partners.{partner, partner-back}
 use Rattle.nef_space.proofs.Lists.{is-at_map, is-at_within, map-is_at}
+use Rattle.nef_smap.proofs.SortedOnce.{in-order_map}
 
 module _ (s : Set) (carriers : List Plane) (vertices : List Vertex) (V : AreVerticesOf s carriers vertices) where
   ordered : InOrder (λ u v. IsPointBelow u.point v.point) (map vertex_of vertices)
-  ordered i k x y l a b =
-      let u = is-at_map vertex_of vertices i x a in let v = is-at_map vertex_of vertices k y b in
-      subst (λ (w : PlainVertex). IsPointBelow x.point w.point) v.2 (subst (λ (w : PlainVertex). IsPointBelow w.point (vertex_of v.0).point) u.2
-      (V.sorted i k u.0 v.0 l u.1 v.1))
+  ordered = in-order_map (λ u v. IsPointBelow u.point v.point) vertex_of vertices V.sorted
 
   shaped : (k : ℕ) (v : PlainVertex) → IsAt (map vertex_of vertices) k v → Shaped v.map
   shaped k v a = let u = is-at_map vertex_of vertices k v a in subst (λ (w : PlainVertex). Shaped w.map) u.2 (V.maps k u.0 u.1).sphere_map.valid.shaped

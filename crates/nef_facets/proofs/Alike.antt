@@ -1,9 +1,10 @@
 -- Linked items have one normal and one mark, and the vertices lie in one plane of that normal.
-use Rattle.nef_facets.proofs.Prelude.{◌≡◌, ℕ, pos, sym, ◌∙◌, inl, inr, ⊎_elim, [], ◌∷◌, List, subst, ring, at, num, neg, ◌⊕◌, ◌⊗◌, IsChain, Chained, SpacePoint, Form, form_at, normal_of, slope, plane_through, SamePoint, toward, Set, Vector, opposite, dot, SameDirection, plane_dir, Label, ahead, joined-germs, labels-by_germs, label-one, IsAt, Item, arc_item, items, item_normal, item_mark, on-level, is-at_one, at-arc, Vertex, Edge, Complex, HasEnds, IsCorner, Shows, item_plane, PlaneMeet, meets_vertex, meets_edge, IsFirstInPlane, IsCornerAt, plane-onward, plane-back, plane-ahead, ahead-same, through-at, through-level, AreAlong, LinkAlong, LinkAcross, FacetLink, facet-near, AreTiedItems, EdgeWays, edge-ways, end-level, along-tied, across-tied, dot-comm, SameDirection-turned, SameDirection-trans, level-way}
+use Rattle.nef_facets.proofs.Prelude.{◌≡◌, ℕ, pos, sym, ◌∙◌, inl, inr, ⊎_elim, [], ◌∷◌, List, subst, IsChain, Chained, SpacePoint, Form, form_at, normal_of, slope, SamePoint, toward, Set, Vector, opposite, dot, SameDirection, plane_dir, Label, ahead, joined-germs, labels-by_germs, label-one, IsAt, Item, arc_item, items, item_normal, item_mark, on-level, is-at_one, at-arc, Vertex, Edge, Complex, HasEnds, IsCorner, Shows, item_plane, PlaneMeet, meets_vertex, meets_edge, IsFirstInPlane, IsCornerAt, plane-onward, plane-back, plane-ahead, ahead-same, through-at, through-level, AreAlong, LinkAlong, LinkAcross, FacetLink, facet-near, AreTiedItems, EdgeWays, edge-ways, end-level, along-tied, across-tied, SameDirection-turned, SameDirection-trans, level-way}
 use Rattle.law_complex.specs.Complexes.{Corner}
 use Rattle.law_complex.proofs.links.EdgeEnds.{corner_of_numbers}
 use Rattle.law_complex.proofs.FacetEnds.{level-normal}
 use Rattle.nef_conn.proofs.Named.{own-plane}
+use Rattle.nef_facets.specs.Facets.{IsMarkAt}
 
 -- a corner has one item
 pub corner-one : (C : Complex) (k : Corner) (v w : Vertex) (x y : Item) → IsCorner C k v x → IsCorner C k w y → (P : Vertex → Item → Type 0) → P v x → P w y
@@ -127,9 +128,6 @@ module _ (s : Set) (C : Complex) (S : Shows s C) where
 abbrev pub IsFormAt : Complex → Form → Corner → Type 0
 IsFormAt C h k = (v : Vertex) (x : Item) → IsCorner C k v x → (form_at h v.point ≡ pos 0) × SameDirection (normal_of h) (item_normal x)
 
-abbrev pub IsLabelAt : Complex → Label → Corner → Type 0
-IsLabelAt C l k = (v : Vertex) (x : Item) → IsCorner C k v x → l ≡ item_mark x
-
 module _ (C : Complex) (j k : Corner) (A : AreLikeCorners C j k) where
   form-onward : (h : Form) → IsFormAt C h j → IsFormAt C h k
   form-onward h f v x c =
@@ -150,10 +148,10 @@ module _ (C : Complex) (j k : Corner) (A : AreLikeCorners C j k) where
         n,
       )
 
-  label-onward : (l : Label) → IsLabelAt C l j → IsLabelAt C l k
+  label-onward : (l : Label) → IsMarkAt C l j → IsMarkAt C l k
   label-onward l f v x c = corner-one C k A.other_vertex v A.other_item x A.other_corner c (λ u y. l ≡ item_mark y) (f A.vertex A.item A.corner ∙ A.one_mark)
 
-  label-back : (l : Label) → IsLabelAt C l k → IsLabelAt C l j
+  label-back : (l : Label) → IsMarkAt C l k → IsMarkAt C l j
   label-back l f v x c = corner-one C j A.vertex v A.item x A.corner c (λ u y. l ≡ item_mark y) (f A.other_vertex A.other_item A.other_corner ∙ sym A.one_mark)
 
 -- what goes over each link either way goes along chains
@@ -168,5 +166,5 @@ module _ (s : Set) (C : Complex) (S : Shows s C) (j k : Corner) (c : Chained (Fa
   pub form-carried : (h : Form) → IsFormAt C h j → IsFormAt C h k
   form-carried h = chain-carries (FacetLink C) (IsFormAt C h) (λ x y l. form-onward C x y (alike s C S x y l) h) (λ x y l. form-back C x y (alike s C S x y l) h) j k c
 
-  pub label-carried : (l : Label) → IsLabelAt C l j → IsLabelAt C l k
-  label-carried m = chain-carries (FacetLink C) (IsLabelAt C m) (λ x y l. label-onward C x y (alike s C S x y l) m) (λ x y l. label-back C x y (alike s C S x y l) m) j k c
+  pub label-carried : (l : Label) → IsMarkAt C l j → IsMarkAt C l k
+  label-carried m = chain-carries (FacetLink C) (IsMarkAt C m) (λ x y l. label-onward C x y (alike s C S x y l) m) (λ x y l. label-back C x y (alike s C S x y l) m) j k c

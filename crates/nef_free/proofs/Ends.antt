@@ -1,5 +1,5 @@
 -- The board when it is made and when it is closed.
-use Rattle.nef_free.proofs.Prelude.{◌≡◌, ℕ, zero, suc, ◌+◌, ◌^◌, ◌<◌, List, [], ◌∷◌, map, length, refl, ap, sym, ◌∙◌, Option, Some, None, slice_get, slice_index, arith, ◌⊎◌, inl, inr, true, subst, replicate, if◌then◌else◌, ◌==◌, get_or-replicate, length-replicate, slice_get_within, State, opening, Final, Seen, start, replay, has_job, Slot, Open, InHand, Done, get_replicate, only_one, among, same_slot, View, first_view, Fits, fits_first, SlotIs, ShowsMachine, Kept}
+use Rattle.nef_free.proofs.Prelude.{◌≡◌, ℕ, zero, suc, ◌+◌, ◌^◌, ◌<◌, List, [], ◌∷◌, map, length, refl, ap, sym, ◌∙◌, Option, Some, None, slice_get, slice_index, arith, ◌⊎◌, inl, inr, true, subst, replicate, if◌then◌else◌, ◌==◌, get_or-replicate, length-replicate, slice_get_within, State, opening, Final, Seen, start, replay, has_job, Slot, Open, InHand, Done, get_replicate, only_one, among, View, first_view, Fits, fits_first, SlotIs, ShowsMachine, Kept, same_Some}
 use mathlib.Core.Option.{some}
 use lib.ListN.{get_elem?}
 use Rattle.nef_core.specs.Machine.{State as Machine}
@@ -114,7 +114,7 @@ module _ {Out : Type 0} (right : ℕ → Out → Type 0) (jobs seats : ℕ) wher
             let d = among m.slots job v.deposits h fv.deposits in
             let low = low_of job (Done d.0) d.1 in
             let o = sh.each job low in
-            let done : o.0 ≡ Done d.0 = same_slot o.0 (Done d.0) (sym o.1 ∙ d.1) in
+            let done : o.0 ≡ Done d.0 = same_Some o.0 (Done d.0) (sym o.1 ∙ d.1) in
             done_slot s xs rs job o.0 d.0 done o.2 (λ y q. final.4 job y q) (word job low)),
         (
           kept.0,
@@ -123,7 +123,7 @@ module _ {Out : Type 0} (right : ℕ → Out → Type 0) (jobs seats : ℕ) wher
           (λ job x at.
               let low = low_of job x at in
               let o = sh.each job low in
-              let is : o.0 ≡ x = same_slot o.0 x (sym o.1 ∙ at) in
+              let is : o.0 ≡ x = same_Some o.0 x (sym o.1 ∙ at) in
               fits_slot s xs rs job x (let a = final.3 in let b = sh.homes in omega arith) (subst (λ (z : Slot). SlotIs right s job z) is o.2) (λ y q. final.4 job y q) (word job low)),
         ),
       )

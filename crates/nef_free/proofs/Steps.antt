@@ -1,5 +1,5 @@
 -- Each kind of step keeps the rule.
-use Rattle.nef_free.proofs.Prelude.{◌≡◌, ℕ, ◌+◌, ◌^◌, ◌%◌, ◌<◌, ◌≤◌, ◌≢◌, List, [], ◌∷◌, ◌++◌, length, refl, ap, sym, ◌∙◌, Option, Some, None, slice_get, slice_set, slice_index, arith, inl, inr, Bool, true, false, subst, set, nat_lt, MatchBool, get_or-set_same, get_or-set_other, slice_get_within, length-append, State, step, Act, keeps, takes, gives, stepped, Allows, Splits, Joins, Valid, carried_after, at_set, set_here, set_else, at_longer, start, after, replay, IsLegal, has_job, Slot, Open, InHand, Done, get_set_here, get_set_other, same_or_not, within, at_length, below_last, open_not_held, open_not_done, held_not_done, held_by, same_slot, not_among, claimed, replay_append, legal_more, View, holding, at_end, deposited, gave_back, cut, new_view, taken_in, spent, Fits, fits_cut, fits_new, fits_beside, fits_taken_in, fits_at_end, fits_holding, fits_deposited, fits_gave_back, fits_moved, held_in, is_below, drew_past, SlotIs, ShowsMachine, Kept, Claimed, Deposited, GaveBack}
+use Rattle.nef_free.proofs.Prelude.{◌≡◌, ℕ, ◌+◌, ◌^◌, ◌%◌, ◌<◌, ◌≤◌, ◌≢◌, List, [], ◌∷◌, ◌++◌, length, refl, ap, sym, ◌∙◌, Option, Some, None, slice_get, slice_set, slice_index, arith, inl, inr, Bool, true, false, subst, set, nat_lt, MatchBool, get_or-set_same, get_or-set_other, slice_get_within, length-append, State, step, Act, keeps, takes, gives, stepped, Allows, Splits, Joins, Valid, carried_after, at_set, set_here, set_else, at_longer, start, after, replay, IsLegal, has_job, Slot, Open, InHand, Done, get_set_here, get_set_other, same_or_not, within, at_length, below_last, open_not_held, open_not_done, held_not_done, held_by, not_among, claimed, replay_append, legal_more, View, holding, at_end, deposited, gave_back, cut, new_view, taken_in, spent, Fits, fits_cut, fits_new, fits_beside, fits_taken_in, fits_at_end, fits_holding, fits_deposited, fits_gave_back, fits_moved, held_in, is_below, drew_past, SlotIs, ShowsMachine, Kept, Claimed, Deposited, GaveBack, same_Some}
 use Rattle.std.proofs.Math.ListN.{length-set}
 use Rattle.std.proofs.lemmas.Bool.Decides.{nat_tests}
 use Rattle.std.proofs.Math.Nat.{mod-eq_of_lt}
@@ -13,7 +13,6 @@ use Rattle.nef_core.proofs.Accounts.{accounted}
 use Rattle.nef_free.specs.Laws.{IsSeat}
 use Rattle.nef_free.proofs.Views.{over_small, overs_set, overs_length, overs_snoc, still, moved, undrawn}
 use Rattle.nef_core.proofs.Facts.{none-not_some}
-use Rattle.std.proofs.lemmas.Option.{same_Some}
 use Rattle.std.proofs.lemmas.Bool.{false≢true}
 
 -- a job in a hand is a job
@@ -127,7 +126,7 @@ module _ {Out : Type 0} (right : ℕ → Out → Type 0) (jobs seats : ℕ) wher
       let held : slice_get m.slots job ≡ Some (InHand k) = held_in jobs seats m (length s.views) k v job hand fv in
       let low : job < jobs = let n = sh.slots in let i = slice_get_within m.slots job (InHand k) held in omega arith in
       let e = sh.each job low in
-      let is : e.0 ≡ InHand k = same_slot e.0 (InHand k) (sym e.1 ∙ held) in
+      let is : e.0 ≡ InHand k = same_Some e.0 (InHand k) (sym e.1 ∙ held) in
       let mineslot : SlotIs right s job (InHand k) = subst (λ (z : Slot). SlotIs right s job z) is e.2 in
       let t : State (Option Out) View = stepped s (job + 1) c k ((job, y) ∷ []) w gives in
       let word0 : slice_index t.words 0 ≡ slice_index s.words 0 = get_or-set_other s.words (job + 1) 0 c 0 (λ q. omega arith) in
@@ -353,7 +352,7 @@ module _ {Out : Type 0} (right : ℕ → Out → Type 0) (jobs seats : ℕ) wher
       let fv = sh.views k v at live in
       let held : slice_get m.slots job ≡ Some (InHand k) = held_in jobs seats m (length s.views) k v job hand fv in
       let e = sh.each job (let n = sh.slots in let i = slice_get_within m.slots job (InHand k) held in omega arith) in
-      let is : e.0 ≡ InHand k = same_slot e.0 (InHand k) (sym e.1 ∙ held) in
+      let is : e.0 ≡ InHand k = same_Some e.0 (InHand k) (sym e.1 ∙ held) in
       let mine : SlotIs right s job (InHand k) = subst (λ (z : Slot). SlotIs right s job z) is e.2 in
       (mine.2, held)
 
@@ -361,7 +360,7 @@ module _ {Out : Type 0} (right : ℕ → Out → Type 0) (jobs seats : ℕ) wher
   held_is_mine : (m : Machine) (s : State (Option Out) View) (k : ℕ) (v : View) (job : ℕ) → ShowsMachine right jobs seats m s → get_elem? s.views k ≡ some v → slice_get m.slots job ≡ Some (InHand k) → v.hand ≡ Some job
   held_is_mine m s k v job sh at held =
       let e = sh.each job (let n = sh.slots in let i = slice_get_within m.slots job (InHand k) held in omega arith) in
-      let is : e.0 ≡ InHand k = same_slot e.0 (InHand k) (sym e.1 ∙ held) in
+      let is : e.0 ≡ InHand k = same_Some e.0 (InHand k) (sym e.1 ∙ held) in
       let mine : SlotIs right s job (InHand k) = subst (λ (z : Slot). SlotIs right s job z) is e.2 in
       let o = mine.3 in
       let same : v ≡ o.0 = some-injective v o.0 (sym at ∙ o.1) in

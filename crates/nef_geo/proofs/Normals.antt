@@ -1,5 +1,5 @@
 -- The first nonzero number of a normal, and positive multiples of forms.
-use Rattle.nef_geo.proofs.Prelude.{◌≡◌, zero, suc, ℤ, pos, negsuc, neg_ℤ, ◌-ℤ◌, ◌*ℤ◌, ◌<ℤ◌, nat_abs, ◌≤◌, arith, refl, ◌∙◌, [], ◌∷◌, to_z, of_z, w64, ints, offset_limit, SpacePoint, Form, form_at, vector, opposite, IsDirection, IsNormal, load, const, wrap, ◌⊟◌, exact_of, at, neg, ◌⊕◌, ◌⊗◌, ring, opposite_form, IsPositiveMultiple}
+use Rattle.nef_geo.proofs.Prelude.{◌≡◌, zero, suc, ℤ, pos, negsuc, neg_ℤ, ◌-ℤ◌, ◌*ℤ◌, ◌<ℤ◌, nat_abs, ◌≤◌, arith, refl, ◌∙◌, [], ◌∷◌, to_z, of_z, w64, ints, offset_limit, Form, vector, opposite, IsDirection, IsNormal, load, const, wrap, ◌⊟◌, exact_of, at, neg, ◌⊗◌, ring, opposite_form, IsPositiveMultiple}
 use Rattle.nef_geo.proofs.Divisors.{part_not_negative, part_positive}
 use Rattle.nef_space.proofs.Elementary.{whole-nought, nought-less}
 
@@ -48,9 +48,3 @@ IsPositiveMultiple-turned h g m = record {
   where
     turned : (x f x' : ℤ) → neg_ℤ x ≡ f *ℤ x' → x ≡ f *ℤ neg_ℤ x'
     turned x f x' e = let h : x ≡ neg_ℤ (f *ℤ x') = omega (arith, ints) in h ∙ ring (f ∷ x' ∷ []) (neg (at 0 ⊗ at 1)) (at 0 ⊗ neg (at 1)) tt
-
-pub form_at-turned : (h : Form) (p : SpacePoint) → form_at (opposite_form h) p ≡ neg_ℤ (form_at h p)
-form_at-turned h p =
-    ring (h.a ∷ h.b ∷ h.c ∷ h.d ∷ p.x ∷ p.y ∷ p.z ∷ pos p.w ∷ [])
-    (neg (at 0) ⊗ at 4 ⊕ neg (at 1) ⊗ at 5 ⊕ neg (at 2) ⊗ at 6 ⊕ neg (at 3) ⊗ at 7)
-    (neg (at 0 ⊗ at 4 ⊕ at 1 ⊗ at 5 ⊕ at 2 ⊗ at 6 ⊕ at 3 ⊗ at 7)) tt

@@ -16,13 +16,13 @@ pub use Rattle.nef_space.proofs.Ring.{Poly, at, neg, num, ring, ◌⊕◌, ◌�
 pub use Rattle.nef_space.proofs.Vectors.{dir-self, dot-comm, numbers, self-pos}
 pub use Rattle.nef_space.specs.Limits.{axis_factor, direction_limit, half_side, normal_limit, offset_limit, point_limit, svertex_limit, weight_limit}
 pub use Rattle.nef_space.specs.Numbers.{DividesAll, IsBelow, IsLowest}
-pub use Rattle.nef_space.specs.Points.{Form, IsAhead, IsPointBelow, SamePoint, SpacePoint, form, form_at, form_numbers, normal_of, slope, toward}
+pub use Rattle.nef_space.specs.Points.{Form, IsAhead, IsPointBelow, SamePoint, SpacePoint, form, form_at, form_numbers, normal_of, slope, toward, opposite_form}
 pub use Rattle.nef_space.specs.Vectors.{IsAtMost, IsDirection, IsNormal, IsParallel, IsZero, SameDirection, Vector, beside_x, beside_y, beside_z, cross, direction_numbers, dot, opposite, plane_axis, plane_dir, triple, up, vector}
 pub use Rattle.nef_geo.specs.Hits.{IsCrossing, IsPlaneDirSized, IsPointAtMost, IsReached, IsReachedBy, IsVertical}
 pub use Rattle.nef_geo.specs.Meet.{IsOnlyCommon, IsSamePlane, IsStretched}
 pub use Rattle.nef_geo.specs.Numbers.{IsAtMostFour, IsGcdOfFour, IsReduced, IsSameRatios, IsSomeOfFour}
 pub use Rattle.nef_geo.specs.Reading.{IsInRange, IsPositiveMultiple}
-pub use Rattle.nef_geo.specs.Shapes.{far_point, form_of, given_form, hit_point, opposite_form, point_at, point_of, vector_of}
+pub use Rattle.nef_geo.specs.Shapes.{far_point, form_of, given_form, hit_point, point_at, point_of, vector_of}
 pub use Rattle.nef_geo.specs.Signs.{sign_of}
 pub use Rattle.nef_geo.specs.Steps.{HasOppositeSigns, IsZeroStep}
 pub use Rattle.nef_geo.specs.Triples.{triple_vector, wide_vector}

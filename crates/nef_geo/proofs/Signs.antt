@@ -4,7 +4,7 @@ use lib.Dec.{T}
 use mir.Syntax.{w128}
 use Rattle.nef_geo.specs.declared.sign.Sign.{Sign}
 use Rattle.nef_geo.specs.declared.plane.Oriented.{Oriented}
-use Rattle.nef_geo.proofs.Normals.{form_at-turned}
+use Rattle.nef_space.proofs.Vectors.{opposite-at}
 
 pub sign_of-positive : (z : ℤ) → pos 0 <ℤ z → sign_of z ≡ Plus
 sign_of-positive (pos zero) h = absurd (omega (arith, ints))
@@ -50,7 +50,7 @@ pub sign_of-multiple : (h g : Form) → IsPositiveMultiple h g → (p : SpacePoi
 sign_of-multiple h g m p = ap sign_of (form_at-multiple h g m p) ∙ sign_of-scaled m.factor (form_at g p) m.positive
 
 pub form_at-flipped : (o : Oriented) (p : SpacePoint) → o.flipped ≡ true → form_at (given_form o) p ≡ neg_ℤ (form_at (form_of o.plane) p)
-form_at-flipped o p e = rw e (form_at-turned (form_of o.plane) p)
+form_at-flipped o p e = rw e (opposite-at (form_of o.plane) p)
 
 -- the sign of a number that passed through the machine's type
 pub sign_through : (s : Sign) (r v : ℤ) → FitsSigned w128 r → s ≡ sign_of (to_z w128 (of_z w128 r)) → r ≡ v → s ≡ sign_of v

@@ -1,8 +1,8 @@
 -- Planes, points, directions and hits as forms, points of space and vectors.
-use Rattle.std.specs.Prelude.{◌<◌, ◌<ℤ◌, ℤ, pos, neg_ℤ, nat_abs, cond}
+use Rattle.std.specs.Prelude.{◌<◌, ◌<ℤ◌, ℤ, pos, nat_abs, cond}
 use Rattle.std.proofs.Common.{arith}
 use Rattle.std.proofs.lemmas.Int.{ints}
-use Rattle.nef_space.specs.Prelude.{Vector, vector, SpacePoint, Form, form}
+use Rattle.nef_space.specs.Prelude.{Vector, vector, SpacePoint, Form, form, opposite_form}
 use Rattle.nef_geo.specs.declared.plane.Plane.{Plane}
 use Rattle.nef_geo.specs.declared.plane.Oriented.{Oriented}
 use Rattle.nef_geo.specs.declared.point.Point.{Point}
@@ -15,9 +15,6 @@ vector_of d = vector d.x d.y d.z
 
 abbrev pub form_of : Plane → Form
 form_of h = form h.a h.b h.c h.d
-
-abbrev pub opposite_form : Form → Form
-opposite_form h = form (neg_ℤ h.a) (neg_ℤ h.b) (neg_ℤ h.c) (neg_ℤ h.d)
 
 -- the form of the numbers as they were given: the plane's own form, or its negative
 abbrev pub given_form : Oriented → Form

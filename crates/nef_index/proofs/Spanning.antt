@@ -95,24 +95,21 @@ euclid-next z w p off = by (int_div_euclid z w) (euclid-small z w p) (euclid-bel
         omega (arith, ints)
 
 -- ---- wider bounds
+lower : (x y z : ℤ) → x ≤ℤ y → y ≤ℤ z → x ≤ℤ z
+lower x y z k l = omega (arith, ints)
+
 within-wider : (c : Coordinate) (a b : Bounds) (p : SpacePoint) → AreNarrower a b → IsWithin c a.low a.high p → IsWithin c b.low b.high p
 within-wider c a b p n w =
     let l = times-below b.low a.low (pos p.w) (weight-positive p) n.0 in
     let h = times-below a.high b.high (pos p.w) (weight-positive p) n.1 in
     let u = w.0 in let v = w.1 in
     (lower (b.low *ℤ pos p.w) (a.low *ℤ pos p.w) (coordinate_of c p) l u, lower (coordinate_of c p) (a.high *ℤ pos p.w) (b.high *ℤ pos p.w) v h)
-  where
-    lower : (x y z : ℤ) → x ≤ℤ y → y ≤ℤ z → x ≤ℤ z
-    lower x y z k l = omega (arith, ints)
 
 pub span-wider : (s t : Span) (p : SpacePoint) → IsNarrower s t → IsInSpan s p → IsInSpan t p
 span-wider s t p n i = (within-wider coordinate_x s.x t.x p n.0 i.0, within-wider coordinate_y s.y t.y p n.1 i.1, within-wider coordinate_z s.z t.z p n.2 i.2)
 
 narrower : (a b c : Bounds) → AreNarrower a b → AreNarrower b c → AreNarrower a c
-narrower a b c n m = (below c.low b.low a.low m.0 n.0, below a.high b.high c.high n.1 m.1)
-  where
-    below : (x y z : ℤ) → x ≤ℤ y → y ≤ℤ z → x ≤ℤ z
-    below x y z k l = omega (arith, ints)
+narrower a b c n m = (lower c.low b.low a.low m.0 n.0, lower a.high b.high c.high n.1 m.1)
 
 pub narrower-still : (s t u : Span) → IsNarrower s t → IsNarrower t u → IsNarrower s u
 narrower-still s t u n m = (narrower s.x t.x u.x n.0 m.0, narrower s.y t.y u.y n.1 m.1, narrower s.z t.z u.z n.2 m.2)

@@ -1,5 +1,5 @@
 -- The map of the half great circles at the lower end of an edge is the least map with the labels along the edge.
-use Rattle.nef_locate.proofs.Prelude.{◌≡◌, ℕ, zero, suc, ◌<◌, ℤ, pos, negsuc, neg_ℤ, ◌*ℤ◌, ◌+ℤ◌, ◌-ℤ◌, arith, refl, ap, sym, ◌∙◌, ◌⊎◌, inl, inr, ⊎_elim, List, [], ◌∷◌, Some, None, subst, ints, ring, at, num, neg, ◌⊕◌, ◌⊖◌, ◌⊗◌, follows, given, none, by_order, mul_pos, Vector, IsDirection, IsZero, IsNormal, IsOpposite, SameDirection, cross, dot, opposite, blend, Label, IsStrictlyOn, forms, comb, IsPrimitive, VectorBelow, IsAt, MapVertex, Arc, Item, arc_item, sloop_item, Map, items, item_normal, dir_of, OnItem, ArcBetween, HasArc, MapLabel, at_svertex, NearLabel, Valid, by_side, InOrder, ArcBelow, Least, Ordered, Near, StraightAt, IsSmooth, plain, straight, IsBuilt, NoneSmooth, Proper, StraightAfter, ArcRay, ray_left, end_left, at-arc, sloop-at, normals-not_opposite, cross-between, lowest-same, near-lone, arc-at, normal-direction, direction-by, dot-comb, cross-direction_right, Of, labels-build, to_opposite, from_opposite, two_ends, zero-decided, self-pos, vector-same, cross-turned, opposite-same, direction-opposite, level-of_opposite, opposite-twice, cross-opposite, nought-if, opposites, SameDirection-turned, SameDirection-trans, dir-self, direction-right, is-at_none, is-at_first}
+use Rattle.nef_locate.proofs.Prelude.{◌≡◌, ℕ, zero, suc, ◌<◌, ℤ, pos, negsuc, neg_ℤ, ◌*ℤ◌, ◌+ℤ◌, ◌-ℤ◌, arith, refl, ap, sym, ◌∙◌, ◌⊎◌, inl, inr, ⊎_elim, List, [], ◌∷◌, Some, None, subst, ints, ring, at, num, neg, ◌⊕◌, ◌⊖◌, ◌⊗◌, follows, given, none, by_order, mul_pos, Vector, IsDirection, IsZero, IsNormal, IsOpposite, SameDirection, cross, dot, opposite, blend, Label, IsStrictlyOn, forms, combination, IsPrimitive, VectorBelow, IsAt, MapVertex, Arc, Item, arc_item, sloop_item, Map, items, item_normal, dir_of, OnItem, ArcBetween, HasArc, MapLabel, at_svertex, NearLabel, Valid, by_side, InOrder, ArcBelow, Least, Ordered, Near, StraightAt, IsSmooth, plain, straight, IsBuilt, NoneSmooth, Proper, StraightAfter, ArcRay, ray_left, end_left, at-arc, sloop-at, normals-not_opposite, cross-between, lowest-same, near-lone, arc-at, normal-direction, direction-by, dot-comb, cross-direction_right, Of, labels-build, to_opposite, from_opposite, two_ends, zero-decided, self-pos, vector-same, cross-turned, opposite-same, direction-opposite, level-of_opposite, opposite-twice, cross-opposite, nought-if, opposites, SameDirection-turned, SameDirection-trans, dir-self, direction-right, is-at_none, is-at_first}
 use Rattle.nef_space.proofs.Order.{sign}
 use Rattle.nef_space.proofs.Vectors.{dot-opposite, opposite-itself, neg-zero}
 use Rattle.law_sphere.proofs.building.BuiltAxes.{number-order}
@@ -100,30 +100,30 @@ pub record AreHalfArcs (V : Map) (k : ℕ) (hs : List Arc) : Type 0 where
   pub ordered : InOrder ArcBelow hs
 
 -- ---- along w
-along-off : (f w : Vector) (z : ℤ) → IsDirection f → dot f w ≡ pos 0 → IsDirection (comb (pos 1) f z w)
-along-off f w z h level = direction-by f (comb (pos 1) f z w) (λ e. let p = self-pos f h in let q = dot-comb f (pos 1) f z w ∙ ap (λ r. pos 1 *ℤ dot f f +ℤ z *ℤ r) level ∙ ring (dot f f ∷ z ∷ []) (num (pos 1) ⊗ at 0 ⊕ at 1 ⊗ num (pos 0)) (at 0) tt in omega (arith, ints))
+along-off : (f w : Vector) (z : ℤ) → IsDirection f → dot f w ≡ pos 0 → IsDirection (combination (pos 1) f z w)
+along-off f w z h level = direction-by f (combination (pos 1) f z w) (λ e. let p = self-pos f h in let q = dot-comb f (pos 1) f z w ∙ ap (λ r. pos 1 *ℤ dot f f +ℤ z *ℤ r) level ∙ ring (dot f f ∷ z ∷ []) (num (pos 1) ⊗ at 0 ⊕ at 1 ⊗ num (pos 0)) (at 0) tt in omega (arith, ints))
 
-onward : (e w : Vector) (n : ℕ) → comb (pos 1) e (pos n) w ≡ blend n w 1 e
-onward e w n = vector-same (comb (pos 1) e (pos n) w) (blend n w 1 e) (one e.x w.x) (one e.y w.y) (one e.z w.z)
+onward : (e w : Vector) (n : ℕ) → combination (pos 1) e (pos n) w ≡ blend n w 1 e
+onward e w n = vector-same (combination (pos 1) e (pos n) w) (blend n w 1 e) (one e.x w.x) (one e.y w.y) (one e.z w.z)
   where
     one : (x z : ℤ) → pos 1 *ℤ x +ℤ pos n *ℤ z ≡ pos n *ℤ z +ℤ pos 1 *ℤ x
     one x z = ring (pos n ∷ x ∷ z ∷ []) (num (pos 1) ⊗ at 1 ⊕ at 0 ⊗ at 2) (at 0 ⊗ at 2 ⊕ num (pos 1) ⊗ at 1) tt
 
-backward : (e w : Vector) (n : ℕ) → comb (pos 1) e (neg_ℤ (pos n)) w ≡ blend n (opposite w) 1 e
-backward e w n = vector-same (comb (pos 1) e (neg_ℤ (pos n)) w) (blend n (opposite w) 1 e) (one e.x w.x) (one e.y w.y) (one e.z w.z)
+backward : (e w : Vector) (n : ℕ) → combination (pos 1) e (neg_ℤ (pos n)) w ≡ blend n (opposite w) 1 e
+backward e w n = vector-same (combination (pos 1) e (neg_ℤ (pos n)) w) (blend n (opposite w) 1 e) (one e.x w.x) (one e.y w.y) (one e.z w.z)
   where
     one : (x z : ℤ) → pos 1 *ℤ x +ℤ neg_ℤ (pos n) *ℤ z ≡ pos n *ℤ neg_ℤ z +ℤ pos 1 *ℤ x
     one x z = ring (pos n ∷ x ∷ z ∷ []) (num (pos 1) ⊗ at 1 ⊕ neg (at 0) ⊗ at 2) (at 0 ⊗ neg (at 2) ⊕ num (pos 1) ⊗ at 1) tt
 
 -- and back again
-off-onward : (e w : Vector) (n : ℕ) → comb (pos 1) (blend n w 1 e) (neg_ℤ (pos n)) w ≡ e
-off-onward e w n = vector-same (comb (pos 1) (blend n w 1 e) (neg_ℤ (pos n)) w) e (one e.x w.x) (one e.y w.y) (one e.z w.z)
+off-onward : (e w : Vector) (n : ℕ) → combination (pos 1) (blend n w 1 e) (neg_ℤ (pos n)) w ≡ e
+off-onward e w n = vector-same (combination (pos 1) (blend n w 1 e) (neg_ℤ (pos n)) w) e (one e.x w.x) (one e.y w.y) (one e.z w.z)
   where
     one : (x z : ℤ) → pos 1 *ℤ (pos n *ℤ z +ℤ pos 1 *ℤ x) +ℤ neg_ℤ (pos n) *ℤ z ≡ x
     one x z = ring (pos n ∷ x ∷ z ∷ []) (num (pos 1) ⊗ (at 0 ⊗ at 2 ⊕ num (pos 1) ⊗ at 1) ⊕ neg (at 0) ⊗ at 2) (at 1) tt
 
-off-backward : (e w : Vector) (n : ℕ) → comb (pos 1) (blend n (opposite w) 1 e) (pos n) w ≡ e
-off-backward e w n = vector-same (comb (pos 1) (blend n (opposite w) 1 e) (pos n) w) e (one e.x w.x) (one e.y w.y) (one e.z w.z)
+off-backward : (e w : Vector) (n : ℕ) → combination (pos 1) (blend n (opposite w) 1 e) (pos n) w ≡ e
+off-backward e w n = vector-same (combination (pos 1) (blend n (opposite w) 1 e) (pos n) w) e (one e.x w.x) (one e.y w.y) (one e.z w.z)
   where
     one : (x z : ℤ) → pos 1 *ℤ (pos n *ℤ neg_ℤ z +ℤ pos 1 *ℤ x) +ℤ pos n *ℤ z ≡ x
     one x z = ring (pos n ∷ x ∷ z ∷ []) (num (pos 1) ⊗ (at 0 ⊗ neg (at 2) ⊕ num (pos 1) ⊗ at 1) ⊕ at 0 ⊗ at 2) (at 1) tt
@@ -167,8 +167,8 @@ module _ (V : Map) (k : ℕ) (u : MapVertex) (N : Map) (A : HasLabelsAlong V k u
   own-is : L V k u N A w ≡ u.mark
   own-is = is-label N A.along_valid w u.mark A.own
 
-  through : comb (pos 1) w (negsuc 1) w ≡ opposite w
-  through = vector-same (comb (pos 1) w (negsuc 1) w) (opposite w) (one w.x) (one w.y) (one w.z)
+  through : combination (pos 1) w (negsuc 1) w ≡ opposite w
+  through = vector-same (combination (pos 1) w (negsuc 1) w) (opposite w) (one w.x) (one w.y) (one w.z)
     where
       one : (x : ℤ) → pos 1 *ℤ x +ℤ negsuc 1 *ℤ x ≡ neg_ℤ x
       one x = ring (x ∷ []) (num (pos 1) ⊗ at 0 ⊕ num (negsuc 1) ⊗ at 0) (neg (at 0)) tt

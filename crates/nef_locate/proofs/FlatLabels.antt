@@ -1,5 +1,5 @@
 -- The labels of a map that don't change along a direction.
-use Rattle.nef_locate.proofs.Prelude.{◌≡◌, ℕ, zero, suc, ℤ, pos, negsuc, ◌+◌, ◌≤◌, ◌+ℤ◌, ◌*ℤ◌, neg_ℤ, arith, refl, ap, sym, ◌∙◌, [], ◌∷◌, subst, minus, nought, plus, sign, ring, at, num, neg, ◌⊕◌, ◌⊗◌, Vector, IsDirection, cross, dot, opposite, blend, Label, comb, Map, MapLabel, NearLabel, Valid, forms, FlatMap, by_side, Near, StraightAt, IsSmooth, straight, amount, label-direction, label-unique, near-direction, dot-comb, direction-by, cross-direction_left, Of, IsLabelling, straight-from, vector-same, direction-opposite, opposite-twice, cross-opposite}
+use Rattle.nef_locate.proofs.Prelude.{◌≡◌, ℕ, zero, suc, ℤ, pos, negsuc, ◌+◌, ◌≤◌, ◌+ℤ◌, ◌*ℤ◌, neg_ℤ, arith, refl, ap, sym, ◌∙◌, [], ◌∷◌, subst, minus, nought, plus, sign, ring, at, num, neg, ◌⊕◌, ◌⊗◌, Vector, IsDirection, cross, dot, opposite, blend, Label, combination, Map, MapLabel, NearLabel, Valid, forms, FlatMap, by_side, Near, StraightAt, IsSmooth, straight, amount, label-direction, label-unique, near-direction, dot-comb, direction-by, cross-direction_left, Of, IsLabelling, straight-from, vector-same, direction-opposite, opposite-twice, cross-opposite}
 use Rattle.nef_space.proofs.Vectors.{dot-opposite, opposite-itself}
 use Rattle.law_sphere.proofs.Kind.{flat-parallel}
 use Rattle.law_sphere.proofs.FlatMaps.{flat-onward, flat-straight}
@@ -45,7 +45,7 @@ module _ (N : Map) (V : Valid N) where
   across w F n y a m b h st off =
       let r = st.near w in
       let k = suc r.0 in
-      let some : IsDirection (comb (pos k) y (pos 1) w) = direction-by n (comb (pos k) y (pos 1) w) (λ z. off (value k (dot n y) (dot n w) st.level ∙ sym (dot-comb n (pos k) y (pos 1) w) ∙ z)) in
+      let some : IsDirection (combination (pos k) y (pos 1) w) = direction-by n (combination (pos k) y (pos 1) w) (λ z. off (value k (dot n y) (dot n w) st.level ∙ sym (dot-comb n (pos k) y (pos 1) w) ∙ z)) in
       let g = flat-onward N w F y k (pos 1) (omega arith) m some (subst (MapLabel N y) st.at_d (label-is y h)) in
       sym (r.1 k (omega arith)) ∙ is-label (blend k y 1 w) m g
     where
@@ -66,25 +66,25 @@ module _ (N : Map) (V : Valid N) where
 
   -- the labels stay along w
   module _ (w : Vector) (F : FlatMap N w) where
-    pub label-moved : (d : Vector) (z : ℤ) (m : Label) → IsDirection d → IsDirection (comb (pos 1) d z w) → labels_of d ≡ m → labels_of (comb (pos 1) d z w) ≡ m
-    label-moved d z m h i e = is-label (comb (pos 1) d z w) m (flat-onward N w F d 1 z (omega arith) m i (subst (MapLabel N d) e (label-is d h)))
+    pub label-moved : (d : Vector) (z : ℤ) (m : Label) → IsDirection d → IsDirection (combination (pos 1) d z w) → labels_of d ≡ m → labels_of (combination (pos 1) d z w) ≡ m
+    label-moved d z m h i e = is-label (combination (pos 1) d z w) m (flat-onward N w F d 1 z (omega arith) m i (subst (MapLabel N d) e (label-is d h)))
 
-    moved-near : (d e : Vector) (z : ℤ) (k : ℕ) → comb (pos 1) (blend k d 1 e) (pos k *ℤ z) w ≡ blend k (comb (pos 1) d z w) 1 e
+    moved-near : (d e : Vector) (z : ℤ) (k : ℕ) → combination (pos 1) (blend k d 1 e) (pos k *ℤ z) w ≡ blend k (combination (pos 1) d z w) 1 e
     moved-near d e z k =
-        vector-same (comb (pos 1) (blend k d 1 e) (pos k *ℤ z) w) (blend k (comb (pos 1) d z w) 1 e) (one d.x e.x w.x) (one d.y e.y w.y) (one d.z e.z w.z)
+        vector-same (combination (pos 1) (blend k d 1 e) (pos k *ℤ z) w) (blend k (combination (pos 1) d z w) 1 e) (one d.x e.x w.x) (one d.y e.y w.y) (one d.z e.z w.z)
       where
         one : (x y v : ℤ) → pos 1 *ℤ (pos k *ℤ x +ℤ pos 1 *ℤ y) +ℤ (pos k *ℤ z) *ℤ v ≡ pos k *ℤ (pos 1 *ℤ x +ℤ z *ℤ v) +ℤ pos 1 *ℤ y
         one x y v = ring (pos k ∷ z ∷ x ∷ y ∷ v ∷ []) (num (pos 1) ⊗ (at 0 ⊗ at 2 ⊕ num (pos 1) ⊗ at 3) ⊕ (at 0 ⊗ at 1) ⊗ at 4) (at 0 ⊗ (num (pos 1) ⊗ at 2 ⊕ at 1 ⊗ at 4) ⊕ num (pos 1) ⊗ at 3) tt
 
     -- and so does what is straight in a plane of w
-    pub straight-moved : (n d : Vector) (a m b : Label) (z : ℤ) → dot n w ≡ pos 0 → IsDirection d → IsDirection (comb (pos 1) d z w) → StraightAt (Of labels_of) n a m b d → StraightAt (Of labels_of) n a m b (comb (pos 1) d z w)
+    pub straight-moved : (n d : Vector) (a m b : Label) (z : ℤ) → dot n w ≡ pos 0 → IsDirection d → IsDirection (combination (pos 1) d z w) → StraightAt (Of labels_of) n a m b d → StraightAt (Of labels_of) n a m b (combination (pos 1) d z w)
     straight-moved n d a m b z level h i s = record {
       level = dot-comb n (pos 1) d z w ∙ ap (λ r. pos 1 *ℤ r +ℤ z *ℤ dot n w) s.level ∙ ap (λ r. pos 1 *ℤ pos 0 +ℤ z *ℤ r) level ∙ ring (z ∷ []) (num (pos 1) ⊗ num (pos 0) ⊕ at 0 ⊗ num (pos 0)) (num (pos 0)) tt;
       at_d = label-moved d z m h i s.at_d;
       near = λ e. let r = s.near e in (r.0 + amount (forms N) e, λ k l. close e k (by_side a m b (sign (dot n e))) (omega arith) (r.1 k (omega arith)));
     }
       where
-        close : (e : Vector) (k : ℕ) (l : Label) → amount (forms N) e ≤ k → labels_of (blend k d 1 e) ≡ l → labels_of (blend k (comb (pos 1) d z w) 1 e) ≡ l
+        close : (e : Vector) (k : ℕ) (l : Label) → amount (forms N) e ≤ k → labels_of (blend k d 1 e) ≡ l → labels_of (blend k (combination (pos 1) d z w) 1 e) ≡ l
         close e k l j q =
             let t = moved-near d e z k in
-            subst (λ (v : Vector). labels_of v ≡ l) t (label-moved (blend k d 1 e) (pos k *ℤ z) l (near-direction N V d e k j h) (subst IsDirection (sym t) (near-direction N V (comb (pos 1) d z w) e k j i)) q)
+            subst (λ (v : Vector). labels_of v ≡ l) t (label-moved (blend k d 1 e) (pos k *ℤ z) l (near-direction N V d e k j h) (subst IsDirection (sym t) (near-direction N V (combination (pos 1) d z w) e k j i)) q)

@@ -1,5 +1,5 @@
 -- The side above what the ray down first meets is that of the point; each place has its number of flat directions.
-use Rattle.nef_locate.proofs.Prelude.{◌≡◌, ℕ, pos, arith, refl, sym, inl, inr, Option, Some, None, IfSome, subst, slice_get, ints, FlatDim, SpacePoint, Form, SamePoint, InClosedFrame, IsAhead, Set, up, opposite, plane_axis, Label, IsAt, Item, arc_item, items, item_normal, item_pos, Side, pos_item, BoundsSector, at-arc, map_of, side_number, IsSide, SideSees, side-has, side-number, IsSkeletonIn, at_vertex, on_edge, in_facet, IsVertexPoint, IsEdgePoint, IsSkeletonPoint, PlaneMeet, meets_vertex, meets_edge, IsCornerAt, HasCorner, item_plane, RayDown, edge-points, edge-same, corner-same, flat-same, facet-at, facet-of, way-ends, Complex, Edge, vertex_of, edge_of, complex_of, corner_of, AreSorted, ShowsSet, IsPlaceIn, IsPlaceAt, IsFirstHit, place_dimension, IsSkeletonAt, IsSideAbove}
+use Rattle.nef_locate.proofs.Prelude.{◌≡◌, ℕ, pos, arith, refl, sym, inl, inr, Option, Some, None, IfSome, subst, slice_get, ints, FlatDim, SpacePoint, Form, SamePoint, InClosedFrame, IsAhead, Set, up, opposite, plane_axis, Label, IsAt, Item, arc_item, items, item_normal, item_pos, Side, pos_item, BoundsSector, at-arc, map_of, side_number, IsSide, SideSees, side-has, side-number, IsSkeletonIn, at_vertex, on_edge, in_facet, IsVertexPoint, IsEdgePoint, IsSkeletonPoint, PlaneMeet, meets_vertex, meets_edge, IsCornerAt, HasCorner, item_plane, RayDown, edge-points, edge-same, corner-same, flat-same, facet-at, facet-of, way-ends, Complex, Edge, vertex_of, edge_of, complex_of, corner_of, AreSorted, ShowsSet, IsPlaceIn, IsPlaceAt, IsFirstHit, place_dimension, IsSkeletonAt, IsSideAbove, IsPointBelow}
 use Rattle.law_complex.specs.Complexes.{Complex as PlainComplex}
 use Rattle.law_complex.proofs.EqualPoints.{vertex-same}
 use Rattle.nef_complex.specs.declared.complex.Corner.{Corner}
@@ -10,6 +10,7 @@ use Rattle.nef_locate.proofs.CarrierPoints.{closed-inside}
 use Rattle.nef_locate.proofs.Marks.{image-read}
 use Rattle.nef_locate.proofs.VolumeLabels.{volume-flat}
 use Rattle.law_near.proofs.Same.{dim-same}
+use Rattle.nef_smap.proofs.SortedOnce.{map-in_order}
 
 -- ---- the sides above
 module _ (c : Complex) where
@@ -110,4 +111,4 @@ held-same s D h x y e (inr f) = inr (flat-same s x y e h f)
 
 -- the vertices stand in order
 pub vertices-sorted : (s : Set) (c : Complex) → ShowsSet s c → AreSorted c.vertices
-vertices-sorted s c S i k u v l a b = S.shows.ordered i k (vertex_of u) (vertex_of v) l (image-read vertex_of c.vertices i u a) (image-read vertex_of c.vertices k v b)
+vertices-sorted s c S = map-in_order (λ u v. IsPointBelow u.point v.point) vertex_of c.vertices S.shows.ordered

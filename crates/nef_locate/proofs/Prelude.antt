@@ -1,6 +1,6 @@
 -- The names that most proofs cite, passed on from one place. Declares nothing.
 pub use Rattle.nef_geo.proofs.Prelude.{IsVertical, int_ranked}
-pub use Rattle.law_sphere.proofs.Prelude.{BoundsSector, FlatMap, IsLastSide, comb, is-at_first, is-at_none}
+pub use Rattle.law_sphere.proofs.Prelude.{BoundsSector, FlatMap, IsLastSide, combination, is-at_first, is-at_none}
 pub use Rattle.law_sphere.proofs.building.Prelude.{ArcBelow, IsBuilt, IsLabelling, NoneSmooth, Of, Proper, StraightAfter, below-itself, cross-opposite, level-opposite, lowest-same, normals-not_opposite, opposite-twice, opposites, plain, search_list}
 pub use Rattle.law_complex.proofs.Prelude.{Cone, Corner, Drop, FlatDim, Germ, Germ-unique, HasCorner, HasLabel, InFrame, InFrame-decided, IsArcOnSide, IsCorner, IsCornerAt, IsFlatIn, IsSkeletonIn, IsSkeletonPoint, IsSpot, Label-cells, PlaneMeet, SameUpToFactor, Spot, Vertex, at_vertex, cancel_le, decided-both, direction-opposite, even-germs, even-until, facet-support, factor-same, far-from_near, flat-germ, germs-by_cell, in_facet, item_plane, label-direction, label-unique, label_of, minus, mul_le_right, near-unique, normal-direction, nought, of_direction, on_edge, plus, sign_at, signs-same, span-3, step, turn-last}
 pub use Rattle.nef_smap.proofs.Prelude.{Arc, ArcBetween, ArcRay, Bool, Decides-int_eq, Dir, Equal, FitsSigned, Global, Greater, HasArc, HasSide, IfOk-weaker, IfSome, InOrder, IsAt, IsAtMost, IsDirection, IsFree, IsNormal, IsOpposite, IsPrimitive, IsSide, IsSmall, IsSmooth, IsSphereMap, IsStrictlyOn, IsTrue, IsZero, Item, Label, LabelledSide, Least, Less, Lies, List, Map, MapLabel, MapSloop, MapVertex, Minus, Near, NearLabel, None, OnItem, OnItem-by_signs, Option, Ordered, Ordering, Out, Plus, SameDirection, SameDirection-decided, SameDirection-trans, SameDirection-turned, SameSigns, Shaped, Side, SideSees, Some, StraightAt, Unrayed, Valid, Vec, Vector, VectorBelow, Zero, [], amount, ap, arc-at, arc_item, arc_of, arith, around_svertex, arounds_before, at, at-arc, at_svertex, blend, blend-turned, by_order, by_side, cancel_eq, cancel_lt, cases_lt, cond, cross, cross-between, cross-direction_left, cross-none, cross-turned, dir-at, dir-self, dir-signs, dir_of, direction-by, direction-left, direction-right, dot, dot-comb, dot-comm, end_left, ends-of, eq-or-lt_of_le, exact_of, false, far-keeps, far-level, fits_of, follows, forms, get_or, given, inl, inr, int_eq, ints, is-at_get, is-at_within, is_lt, item_mark, item_neg, item_normal, item_of, item_pos, items, label-by_signs, left-on, length, length-map, load, map, map_of, mul_neg, mul_nonneg, mul_pos, nat_abs, nat_eq, near-from_far, near-item, near-lone, neg, neg_item, neg_ℤ, negsuc, none, normal_limit, not_true, nought-if, nought-is, nought-or, num, of_z, on-end, on-level, on_item, opposite, opposite-dot, pos, pos_item, ray_left, refl, ring, rules, same-minus, same-nought, same-off, same-plus, seen, self-pos, side_number, sides_of, sign-minus, sign-plus, sign-scaled, sign_of, slice_get, sloop-at, sloop_item, sloop_of, square-cross, straight, subst, suc, svertex_limit, svertex_of, sym, to_z, to_z-of_z, triple, triple-in_plane, true, true_of, up, vector, vector-same, vector_of, wrap, zero, zero-decided, ℕ, ℤ, ⊎_elim, ◌*ℤ◌, ◌*◌, ◌++◌, ◌+ℤ◌, ◌+◌, ◌-ℤ◌, ◌-◌, ◌/◌, ◌<ℤ◌, ◌<◌, ◌↔◌, ◌∙◌, ◌∷◌, ◌≡◌, ◌≢◌, ◌≤ℤ◌, ◌≤◌, ◌⊎◌, ◌⊕◌, ◌⊖◌, ◌⊗◌, ◌⊠◌}

@@ -1,8 +1,9 @@
 -- Maps that are moved out of operands, one after another. Each vertex of an operand stands at one place alone, so its map is
 -- there until the vertex of the result at that place takes it.
-use Rattle.nef_result.proofs.Prelude.{◌≡◌, ℕ, zero, suc, ◌+◌, ◌<◌, List, [], ◌∷◌, length, arith, refl, ap, sym, subst, ◌∙◌, ◌⊎◌, inl, inr, ⊎_elim, set, cases_order, SpacePoint, point_of, point_below-apart, same-point_sym, same-point_trans, IsAt, is-at_one, First, Second, SphereMap, Vertex, MapSource, of_operand, StandsAt, IsOtherOf, vertex_at, HasSourceAt, AreThere, IsFilled, NamesVertex, HasNamed, IsFilledAt, AreFilledTo, AreLeft, is-at_none}
+use Rattle.nef_result.proofs.Prelude.{◌≡◌, ℕ, zero, suc, ◌+◌, ◌<◌, List, [], ◌∷◌, length, arith, refl, ap, sym, subst, ◌∙◌, ◌⊎◌, ⊎_elim, set, SpacePoint, point_of, point_below-apart, same-point_sym, same-point_trans, IsAt, is-at_one, First, Second, SphereMap, Vertex, MapSource, of_operand, StandsAt, IsOtherOf, vertex_at, HasSourceAt, AreThere, IsFilled, NamesVertex, HasNamed, IsFilledAt, AreFilledTo, AreLeft, is-at_none}
 use Rattle.nef_cand.specs.declared.named.Operand.{Operand}
 use Rattle.nef_result.specs.declared.parting.MapSource.TheVariants.{Here, Kept, Turned}
+use Rattle.nef_space.proofs.Elementary.{less-or-last}
 
 -- ---- a list with one element set
 pub set-here : {A : Type 0} (xs : List A) (k : ℕ) (x y : A) → IsAt xs k x → IsAt (set xs k y) k y
@@ -75,13 +76,10 @@ module _ (us vs ys : List Vertex) (fs : List MapSource) (T : AreThere us vs ys f
       done = λ i z g l a b. ⊎_elim
           (λ h. let d = F.done i z g h a b in (d.0, others i d.0 (λ e. absurd (omega (arith, h, e))) d.1, d.2, d.3))
           (λ e. at-this i z g e a b)
-          (earlier i l);
+          (less-or-last i n l);
       rest = λ i z l a. others i z (λ e. l (omega (arith, e))) (F.rest i z (λ h. l (omega (arith, h))) a);
     }
       where
-        earlier : (i : ℕ) → i < n + 1 → (i < n) ⊎ (i ≡ n)
-        earlier i l = ⊎_elim (λ e. inr e) (λ o. inl (⊎_elim (λ h. omega (arith, h, l)) (λ h. omega (arith, h, l)) o)) (cases_order i n)
-
         at-this : (i : ℕ) (z : Vertex) (g : MapSource) → i ≡ n → IsAt ys i z → IsAt fs i g → IsFilledAt us vs g i z new
         at-this i z g e a b =
             let same-vertex : y ≡ z = is-at_one ys n y z here (subst (λ (j : ℕ). IsAt ys j z) e a) in

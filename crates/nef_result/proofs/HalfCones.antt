@@ -1,5 +1,5 @@
 -- The germs of a half are those of the frame and of its plane.
-use Rattle.nef_result.proofs.Prelude.{◌≡◌, zero, suc, ◌+◌, ℤ, pos, negsuc, neg_ℤ, ◌<ℤ◌, arith, refl, sym, ◌∙◌, ap, ◌↔◌, Bool, true, false, cond, not, subst, [], ◌∷◌, ints, Sign, minus, nought, plus, sign, sign-neg, sign_turned, minus-is, nought-is, plus-is, ring, at, neg, ◌⊕◌, ◌⊗◌, HasLabel, Germ, IsShort, SpacePoint, Form, Ratio, step, form_at, slope, normal_of, Set, InHalf, Vector, IsDirection, SameDirection, dot, Label, Out, Not, In, opposite_form, given_form, form_of, sign_of, Minus, Zero, Plus, ray-level, ray-keeps, sign_at, ByOp, Cone, by_side, Map, MapLabel, Valid, op_label, And, map_of, IsSphereMap, SphereMap}
+use Rattle.nef_result.proofs.Prelude.{◌≡◌, zero, suc, ◌+◌, ℤ, pos, negsuc, ◌<ℤ◌, arith, refl, sym, ◌∙◌, ap, ◌↔◌, Bool, true, false, cond, not, subst, ints, Sign, minus, nought, plus, sign, sign-neg, sign_turned, minus-is, nought-is, plus-is, at, HasLabel, Germ, IsShort, SpacePoint, Form, Ratio, step, form_at, slope, normal_of, Set, InHalf, Vector, IsDirection, SameDirection, dot, Label, Out, Not, In, opposite_form, given_form, form_of, sign_of, Minus, Zero, Plus, ray-level, ray-keeps, sign_at, ByOp, Cone, by_side, Map, MapLabel, Valid, op_label, And, map_of, IsSphereMap, SphereMap}
 use Rattle.nef_space.specs.Sets.{Holds}
 use Rattle.nef_geo.specs.declared.plane.Oriented.{Oriented}
 use Rattle.law_near.specs.Near.{span}
@@ -7,6 +7,7 @@ use Rattle.law_near.proofs.Combine.{shorter}
 use Rattle.law_sphere.proofs.building.SideLabels.{side-same_way}
 use Rattle.nef_result.specs.Halves.{inside_label, side_label, IsMapOfPlane}
 use Rattle.nef_space.proofs.Elementary.{minus-not_nought, plus-not_nought}
+use Rattle.nef_space.proofs.Vectors.{opposite-slope}
 
 -- ---- the label of a half
 module _ (f : Form) (closed : Bool) (q : SpacePoint) where
@@ -147,11 +148,8 @@ above-cone f closed p M e = off-cone f closed p (Set.other Set.full) M plus (is-
 
 -- ---- the map of the plane
 -- the slope of the given form, which may be turned
-turned-slope : (h : Form) (d : Vector) → slope (opposite_form h) d ≡ neg_ℤ (slope h d)
-turned-slope h d = ring (h.a ∷ h.b ∷ h.c ∷ d.x ∷ d.y ∷ d.z ∷ []) (neg (at 0) ⊗ at 3 ⊕ neg (at 1) ⊗ at 4 ⊕ neg (at 2) ⊗ at 5) (neg (at 0 ⊗ at 3 ⊕ at 1 ⊗ at 4 ⊕ at 2 ⊗ at 5)) tt
-
 given-slope : (h : Form) (turned : Bool) (d : Vector) → sign (slope (cond turned (opposite_form h) h) d) ≡ cond turned (sign_turned (sign (slope h d))) (sign (slope h d))
-given-slope h true d = ap sign (turned-slope h d) ∙ sign-neg (slope h d)
+given-slope h true d = ap sign (opposite-slope h d) ∙ sign-neg (slope h d)
 given-slope h false d = refl
 
 by-sides : (turned closed : Bool) (t : Sign) → by_side (inside_label turned) (inside_label closed) (inside_label (not turned)) t ≡ side_label closed (cond turned (sign_turned t) t)

@@ -5,6 +5,7 @@ use Rattle.nef_result.proofs.Walls.{Axis, on_x, on_y, on_z, wall, wall-listed, l
 use Rattle.nef_result.proofs.CornerVertices.{corner-vertex, vertex-corner}
 use Rattle.nef_result.proofs.CornerCones.{corner-cone}
 use Rattle.nef_result.proofs.InOrder.{sides-order, same-corner, vertex-at, corner-at, listed, corners-sorted}
+use Rattle.nef_smap.proofs.SortedOnce.{in-order_map}
 
 -- ---- the carriers
 -- the normal form of a side's plane
@@ -67,10 +68,7 @@ module _ (s : Set) (l : Label) (W : IsOneLabelSet s l) (hs : List Plane) (vs : L
       (n.0, vertex_of v.0, map-is_at vertex_of vs n.0 v.0 v.1, same-corner k.0 (point_of v.0.point) p v.2.place k.1)
 
   placed : InOrder (λ u v. IsPointBelow u.point v.point) (map vertex_of vs)
-  placed i k x y h a b =
-      let u = is-at_map vertex_of vs i x a in let v = is-at_map vertex_of vs k y b in
-      subst (λ (w : PlainVertex). IsPointBelow x.point w.point) v.2 (subst (λ (w : PlainVertex). IsPointBelow w.point (point_of v.0.point)) u.2
-      (corners-sorted l vs V i k u.0 v.0 h u.1 v.1))
+  placed = in-order_map (λ u v. IsPointBelow u.point v.point) vertex_of vs (corners-sorted l vs V)
 
   shown : (es : List PlainEdge) → Edges (map vertex_of vs) es → Shows s (record { carriers = map form_of hs; vertices = map vertex_of vs; edges = es })
   shown es E = record {

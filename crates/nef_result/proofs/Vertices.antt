@@ -1,5 +1,5 @@
 -- The vertices of a set among its candidates, with their maps, are all its vertices.
-use Rattle.nef_result.proofs.Prelude.{◌≡◌, ℕ, ◌<◌, ◌+◌, List, [], ◌∷◌, ◌++◌, length, map, arith, refl, ap, sym, subst, ◌∙◌, ◌⊎◌, inl, inr, FlatDim, IsVertex, SpacePoint, IsPointBelow, SamePoint, Set, point_of, form_of, Plane, Point, carriers, FlatDim-one, same-point_sym, Map, IsAt, is-at_one, Cone, Least, Ordered, InOrder, Carriers, map_of, IsLeastMap, SphereMap, contains-at, is-at_map, map-is_at, is-at_left, is-at_last, is-at_more, vertex_of, AreVerticesOf, AreHolders, AreInOrder, AreVertexHolders, Vertex, Outcome, MapSource, ArePointsInOrder, IsOtherOf, IsOutcomeAt, AreOutcomesOf, Begins, vertex_at, IsAdded, AreBegun, HasSourceAt, AreThere, IsFilled, AreFilledTo, is-at_none}
+use Rattle.nef_result.proofs.Prelude.{◌≡◌, ℕ, ◌<◌, ◌+◌, List, [], ◌∷◌, ◌++◌, length, map, arith, refl, ap, sym, subst, ◌∙◌, ◌⊎◌, inl, inr, FlatDim, IsVertex, SpacePoint, IsPointBelow, SamePoint, Set, point_of, Plane, Point, carriers, FlatDim-one, same-point_sym, Map, IsAt, is-at_one, Cone, Least, Ordered, InOrder, map_of, IsLeastMap, SphereMap, contains-at, is-at_map, map-is_at, is-at_left, is-at_last, is-at_more, vertex_of, AreVerticesOf, AreHolders, AreVertexHolders, Vertex, Outcome, MapSource, ArePointsInOrder, IsOtherOf, IsOutcomeAt, AreOutcomesOf, Begins, vertex_at, IsAdded, AreBegun, HasSourceAt, AreThere, IsFilled, AreFilledTo, is-at_none}
 use Rattle.law_sphere.proofs.Dimensions.{volume-dimension, facet-dimension, edge-dimension}
 use Rattle.law_complex.specs.Complexes.{Vertex as PlainVertex}
 use Rattle.nef_smap.proofs.SideLists.{is-at_some as element-at}
@@ -10,6 +10,7 @@ use Rattle.nef_result.specs.declared.outcome.Outcome.TheVariants as outcome
 use Rattle.nef_space.proofs.Lists.{is-at_within}
 use Rattle.std.proofs.lemmas.List.{length_push}
 use Rattle.law_near.proofs.Same.{IsVertex-same}
+use Rattle.nef_smap.proofs.SortedOnce.{in-order_map}
 
 -- ---- one point after another
 pub begun-none : (ps : List Point) → AreBegun ps [] [] []
@@ -92,10 +93,6 @@ module _ (M : Map) (s : Set) (p : SpacePoint) (L : Least M) (C : Cone M s p) whe
 point-same : (y : SpacePoint) (p q : Point) → q ≡ p → SamePoint (point_of p) y → SamePoint (point_of q) y
 point-same y p q e = subst (λ (r : Point). SamePoint (point_of r) y) (sym e)
 
--- ---- carriers
-pub carriers-in-order : (s : Set) (hs : List Plane) → Carriers s (map form_of hs) → AreInOrder hs
-carriers-in-order s hs C i j g h l a b = C.ordered i j (form_of g) (form_of h) l (map-is_at form_of hs i g a) (map-is_at form_of hs j h b)
-
 -- ---- what the outcome says of a vertex
 module _ (us vs : List Vertex) where
   there-by : (s : Set) (p : SpacePoint) (o : Outcome) (m : SphereMap) (f : MapSource) → IsOutcomeAt us vs s p o → Begins o m f → HasSourceAt us vs p f
@@ -176,9 +173,7 @@ module _ (s : Set) (hs : List Plane) (ps : List Point) (us vs : List Vertex) (os
     each-vertex P f n v a = let u = is-at_map vertex_of xs n v a in subst P u.2 (f n u.0 u.1)
 
     placed-plain : InOrder (λ u v. IsPointBelow u.point v.point) (map vertex_of xs)
-    placed-plain i k x y h a b =
-        let u = is-at_map vertex_of xs i x a in let v = is-at_map vertex_of xs k y b in
-        subst (λ (w : PlainVertex). IsPointBelow x.point w.point) v.2 (subst (λ (w : PlainVertex). IsPointBelow w.point (point_of v.0.point)) u.2 (placed i k u.0 v.0 h u.1 v.1))
+    placed-plain = in-order_map (λ u v. IsPointBelow u.point v.point) vertex_of xs placed
 
     pub are-vertices : AreVerticesOf s hs xs
     are-vertices = record {

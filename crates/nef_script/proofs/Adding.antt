@@ -81,6 +81,9 @@ module _ (number : ℕ) (v : Verb) (ws : List (List ℕ)) (old new : ReadState) 
         );
       }
 
+plus-none : (n : ℕ) → n ≡ n + 0
+plus-none n = omega arith
+
 -- a question
 pub AddsWords-ask : (number : ℕ) (v : Verb) (ws : List (List ℕ)) (old new : ReadState) (c : Command) → IsSoundState old → binds v ≡ false → IsQuestion old.names old.bound number v ws c → KeepsRayLimits c → new.names ≡ old.names → new.bound ≡ old.bound → new.table ≡ old.table → new.commands ≡ old.commands ++ c ∷ [] → AddsWords number v ws old new
 AddsWords-ask number v ws old new c sound e is rays names_are bound_are table_is commands_are =
@@ -142,9 +145,6 @@ AddsWords-turn number ws old new from t k sound count named number_is below turn
             (from, t, names-more old.names old.bound new.bound stays (get_or ws 1 []) from named, number_is, turn, copy, refl),
       );
     }
-  where
-    plus-none : (n : ℕ) → n ≡ n + 0
-    plus-none n = omega arith
 
 -- ---- a line that isn't refused
 
@@ -180,6 +180,3 @@ AddsLine-blank number text old sound passes none =
       sound = sound;
       command = subst (λ t. AddsCommand t number text old old) (sym blank) (refl, refl, refl);
     }
-  where
-    plus-none : (n : ℕ) → n ≡ n + 0
-    plus-none n = omega arith

@@ -3,6 +3,7 @@ use Rattle.nef_shell.proofs.Prelude.{◌≡◌, ◌∙◌, ℕ, ◌+◌, ◌<◌
 use Rattle.nef_script.specs.declared.script.Command.TheVariants as command
 use Rattle.nef_shell.proofs.Outputs.{grows-none}
 use Rattle.nef_shell.proofs.ShownAlike.{shown-alike}
+use Rattle.std.proofs.lemmas.Option.{none-some}
 
 -- what is right of a set is right of each that is alike
 held-alike : (version : TextVersion) (s t : Set) (h : Held) → AreAlike s t → IsHeld version s h → IsHeld version t h
@@ -65,9 +66,6 @@ asked-node nodes c P k is (n, e, h) =
     let both : Some n ≡ Some k = sym e ∙ is in
     let same : n ≡ k = cc in
     subst (λ z. P (node_set nodes z)) same h
-
-none-some : (n : ℕ) → None ≡ Some n → ⊥
-none-some n e = cc
 
 -- a command that asks about two sets says whether they are one
 pub same-written : (version : TextVersion) (nodes : List Node) (c : Command) (m n : ℕ) (piece : List ℕ) → first_asked c ≡ Some m → second_asked c ≡ Some n → IsSameAnswer (node_set nodes m) (node_set nodes n) piece → IsPiece version nodes c piece

@@ -1,6 +1,7 @@
 -- What is kept of values, and what goes.
 use Rattle.nef_shell.proofs.Prelude.{◌≡◌, ◌⊎◌, ◌∙◌, ℕ, zero, suc, ◌+◌, ◌<◌, Bool, true, false, arith, ap, refl, sym, subst, List, [], ◌∷◌, length, Option, Some, None, IsSomeAnd, slice_set, inl, inr, Box, is_some, option_and_then, cases_eq, length-set, slice_get_within, get_set_here, get_set_other, TextVersion, Set, ShowsSet, operand, Step, first_value, second_value, value_set, Held, IsHeld, IsHeldAt, IsNewlyHeld, IsThere, AreHeld, AreStill, complex_in, complex_at, IsShownAt, cleared, IsSpent, handed_complex, AreLess, IsLet, IsShown, IsLent}
 use Rattle.std.proofs.Common.{slice_get}
+use Rattle.std.proofs.lemmas.Option.{same_Some}
 
 module _ {X : Type 0} where
   -- whether something is there tells it
@@ -19,12 +20,9 @@ module _ {X : Type 0} where
   put-only list n o k x within at = elim (cases_eq k n) [
     | inl e ↦
         let here : slice_get (slice_set list n o) k ≡ Some o = subst (λ z. slice_get (slice_set list n o) z ≡ Some o) (sym e) (get_set_here list n o within) in
-        inl (e, some-same x o (sym at ∙ here))
+        inl (e, same_Some x o (sym at ∙ here))
     | inr other ↦ inr (other, sym (get_set_other list n k o other) ∙ at)
   ]
-    where
-      some-same : (a b : Option X) → Some a ≡ Some b → a ≡ b
-      some-same a b q = cc
 
   -- nothing goes; some goes, and then more; and more may go
   pub less-none : (P : ℕ → Type 0) (list : List (Option X)) → AreLess P list list

@@ -67,16 +67,16 @@ arounds-pass M n ls v b e A = record {
     none : {k : ℕ} (w : MapVertex) (m : Label) → IsAt M.svertices k w → w.around ≡ Some m → k ≡ n → ⊥
     none w m a q g = let r = is-at_one M.svertices n v w b (subst (λ (i : ℕ). IsAt M.svertices i w) g a) in let s = sym e ∙ ap (λ (x : MapVertex). x.around) r ∙ q in absurd cc
 
+only-one : (l : Link) (i : ℕ) (x : Link) → IsAt (l ∷ []) i x → l ≡ x
+only-one l zero x b = let e : ◌≡◌ {A = Option Link} (Some l) (Some x) = b in cc
+only-one l (suc i) x b = cc
+
 -- ---- links for the sloop
 pub sloops-some : (M : Map) (k : ℕ) (l : Link) → JoinsSloop M k l → AreSloops M (l ∷ [])
 sloops-some M k l (c, a, j) = record {
-  only = λ i x b. (k, subst (JoinsSloop M k) (only i x b) (c, a, j));
+  only = λ i x b. (k, subst (JoinsSloop M k) (only-one l i x b) (c, a, j));
   each = λ n d b. (zero, l, refl, subst (λ (i : ℕ). JoinsSloop M i l) (sloops-one M.arcs M.sloop k n c d a b) (c, a, j));
 }
-  where
-    only : (i : ℕ) (x : Link) → IsAt (l ∷ []) i x → l ≡ x
-    only zero x b = let e : ◌≡◌ {A = Option Link} (Some l) (Some x) = b in cc
-    only (suc i) x b = cc
 
 sloop-given : (as' : List Arc) (o : Option MapSloop) (k : ℕ) (c : MapSloop) → IsAt (items_then as' o) k (sloop_item c) → o ≡ None → ⊥
 sloop-given [] None k c a e = is-at_none a
@@ -89,11 +89,7 @@ sloops-none M e = record { only = λ i x b. cc; each = λ n d b. absurd (sloop-g
 
 -- ---- and for the side of a map without items
 pub grounds-some : (M : Map) (l : Link) → JoinsGround M l → AreGrounds M (l ∷ [])
-grounds-some M l j = record { only = λ i x b. subst (JoinsGround M) (only i x b) j; each = λ m q. (zero, l, refl, j) }
-  where
-    only : (i : ℕ) (x : Link) → IsAt (l ∷ []) i x → l ≡ x
-    only zero x b = let e : ◌≡◌ {A = Option Link} (Some l) (Some x) = b in cc
-    only (suc i) x b = cc
+grounds-some M l j = record { only = λ i x b. subst (JoinsGround M) (only-one l i x b) j; each = λ m q. (zero, l, refl, j) }
 
 -- ---- all links
 has-right : (P : Link → Type 0) (ls ms : List Link) → HasLink ms P → HasLink (ls ++ ms) P

@@ -1,5 +1,5 @@
 -- Labels of sides that agree at the joins are the same for all sides of one sface.
-use Rattle.nef_smap.proofs.Prelude.{◌≡◌, ℕ, ◌+◌, pos, ◌<ℤ◌, arith, refl, ap, sym, ◌∙◌, inl, inr, ⊎_elim, List, [], ◌∷◌, subst, Option, Some, None, ints, sign, nought-is, Lies, Vector, IsDirection, IsZero, cross, dot, opposite, Label, Out, IsStrictlyOn, IsAt, MapVertex, MapSloop, Map, Item, arc_item, sloop_item, items, item_normal, dir_of, OnItem, IsFree, Side, around_svertex, pos_item, neg_item, whole, HasArc, HasSide, Sees, Shaped, Labelling, Near, Plain, PlainAt, StraightAt, IsSmooth, straight, normal-is, on-direction, on-level, axes-forms, amount, past_source, arc-point, dir-at, arc-at, cross-self, Beside, same_way, other_way, beside, cross-direction_left, sloop-at, over_forms, IsFirst, Stands, met, BelowFirst, Firsts, Joins, zero-decided, cross-turned, apart, parallel-trans, is-at_none}
+use Rattle.nef_smap.proofs.Prelude.{◌≡◌, ℕ, ◌+◌, pos, ◌<ℤ◌, arith, refl, ap, sym, ◌∙◌, inl, inr, ⊎_elim, List, [], ◌∷◌, subst, Option, Some, None, ints, sign, nought-is, Lies, Vector, IsDirection, IsZero, cross, dot, opposite, Label, Out, IsStrictlyOn, IsAt, MapVertex, MapSloop, Map, Item, arc_item, sloop_item, items, item_normal, dir_of, OnItem, IsFree, Side, around_svertex, pos_item, neg_item, whole, HasArc, HasSide, Sees, Shaped, Labelling, Near, Plain, PlainAt, StraightAt, IsSmooth, straight, normal-is, on-direction, on-level, axes-forms, amount, past_source, arc-point, arc-at, cross-self, Beside, same_way, other_way, beside, cross-direction_left, sloop-at, over_forms, IsFirst, Stands, met, BelowFirst, Firsts, Joins, zero-decided, cross-turned, apart, parallel-trans, is-at_none}
 use Rattle.law_sphere.proofs.Flips.{Axial, directed-by, far_directed-by, sloop-along}
 use Rattle.law_sphere.proofs.ArcLabels.{arc-along}
 use Rattle.nef_smap.proofs.Rise.{form-over}
@@ -12,6 +12,8 @@ use Rattle.nef_smap.proofs.Pole.{plain-up, plain-down}
 use Rattle.nef_smap.proofs.Upper.{upper-arc, upper-sloop}
 use Rattle.nef_smap.proofs.Reached.{Sided, sides-agree}
 use Rattle.law_sphere.proofs.building.RayClose.{cross-last}
+use Rattle.std.proofs.lemmas.Option.{none-some}
+use Rattle.law_sphere.proofs.Arcs.{Ends, ends-of}
 
 module _ (M : Map) (V : Shaped M) (u : Vector) (ahead : (k : ℕ) (x : Item) → IsAt (items M) k x → pos 0 <ℤ dot (item_normal x) u)
     (across : (k : ℕ) (v : MapVertex) → IsAt M.svertices k v → IsDirection (cross u v.dir)) (G : Side → Label) (top : Label) (Z : Firsts M u) (J : Joins M u G top Z)
@@ -65,7 +67,7 @@ module _ (M : Map) (V : Shaped M) (u : Vector) (ahead : (k : ℕ) (x : Item) →
     proper p q = J.never_out (pos_item k) p
 
   straight-everywhere : (k : ℕ) (x : Item) (a : IsAt (items M) k x) (d : Vector) → OnItem M x d → StraightAt F (item_normal x) (G (pos_item k)) Out (G (neg_item k)) d
-  straight-everywhere k (arc_item r) a d o = arc-along gs F L (directed-by gs axial) (far_directed-by gs axial) m (G (pos_item k)) Out (G (neg_item k)) (proper k (arc_item r) a) hn s t hs ht ls lt
+  straight-everywhere k (arc_item r) a d o = arc-along gs F L (directed-by gs axial) (far_directed-by gs axial) m (G (pos_item k)) Out (G (neg_item k)) (proper k (arc_item r) a) hn s t ends.source_direction ends.target_direction ends.source_level ends.target_level
       (λ w p. smooth k (arc_item r) a w p) K (omega arith) start d o
     where
       m : Vector
@@ -80,17 +82,8 @@ module _ (M : Map) (V : Shaped M) (u : Vector) (ahead : (k : ℕ) (x : Item) →
       hn : IsDirection r.normal
       hn = normal-is V k (arc_item r) a
 
-      hs : IsDirection (dir_of M.svertices r.source)
-      hs = let b = V.arcs_between k r (arc-at M.arcs M.sloop k r a) in subst IsDirection (sym (dir-at M.svertices r.source b.source b.has_source)) (V.svertex_dirs r.source b.source b.has_source)
-
-      ht : IsDirection (dir_of M.svertices r.target)
-      ht = let b = V.arcs_between k r (arc-at M.arcs M.sloop k r a) in subst IsDirection (sym (dir-at M.svertices r.target b.target b.has_target)) (V.svertex_dirs r.target b.target b.has_target)
-
-      ls : dot r.normal (dir_of M.svertices r.source) ≡ pos 0
-      ls = let b = V.arcs_between k r (arc-at M.arcs M.sloop k r a) in subst (λ (v : Vector). dot r.normal v ≡ pos 0) (sym (dir-at M.svertices r.source b.source b.has_source)) b.level_source
-
-      lt : dot r.normal (dir_of M.svertices r.target) ≡ pos 0
-      lt = let b = V.arcs_between k r (arc-at M.arcs M.sloop k r a) in subst (λ (v : Vector). dot r.normal v ≡ pos 0) (sym (dir-at M.svertices r.target b.target b.has_target)) b.level_target
+      ends : Ends M r
+      ends = ends-of M V k r (arc-at M.arcs M.sloop k r a)
 
       K : ℕ
       K = amount (cross t m ∷ []) (cross m s) + amount (over_forms M u) (cross m s)
@@ -99,11 +92,11 @@ module _ (M : Map) (V : Shaped M) (u : Vector) (ahead : (k : ℕ) (x : Item) →
       z = past_source m s K
 
       on-z : IsStrictlyOn m s t z
-      on-z = arc-point m s t hn hs ht ls lt K (omega arith)
+      on-z = arc-point m s t hn ends.source_direction ends.target_direction ends.source_level ends.target_level K (omega arith)
 
       start : StraightAt F m (G (pos_item k)) Out (G (neg_item k)) z
       start = subst (λ (c : Label). StraightAt F m c Out (G (neg_item k)) z)
-          (upper-arc M V u ahead G top Z.svertices J.below k r a (Z.arcs k r (arc-at M.arcs M.sloop k r a)) (J.arcs k r (arc-at M.arcs M.sloop k r a)) hs ls K (omega arith) on-z (off-meridian k (arc_item r) a z on-z) (over_label z (off-meridian k (arc_item r) a z on-z))
+          (upper-arc M V u ahead G top Z.svertices J.below k r a (Z.arcs k r (arc-at M.arcs M.sloop k r a)) (J.arcs k r (arc-at M.arcs M.sloop k r a)) ends.source_direction ends.source_level K (omega arith) on-z (off-meridian k (arc_item r) a z on-z) (over_label z (off-meridian k (arc_item r) a z on-z))
           (let c = all-meet M V u ahead z (off-meridian k (arc_item r) a z on-z) G top Z.svertices J.below in c.1))
           (some-straight k (arc_item r) a z on-z)
   straight-everywhere k (sloop_item r) a d o =
@@ -122,10 +115,7 @@ module _ (M : Map) (V : Shaped M) (u : Vector) (ahead : (k : ℕ) (x : Item) →
       f = across k v a
 
       lone : HasArc M k → ⊥
-      lone t = none-some (sym (V.around_not k v a t) ∙ q)
-        where
-          none-some : ◌≡◌ {A = Option Label} None (Some m) → ⊥
-          none-some e = absurd cc
+      lone t = none-some m (sym (V.around_not k v a t) ∙ q)
 
       j : BelowFirst M u v.dir
       j = Z.arounds k v m a q

@@ -1,6 +1,7 @@
 -- What lies over a direction close to d lies over d, or ends over d.
 use Rattle.nef_smap.proofs.Prelude.{◌≡◌, ℕ, pos, ◌-ℤ◌, ◌*ℤ◌, ◌<ℤ◌, arith, refl, ap, sym, ◌∙◌, ◌⊎◌, inl, inr, ⊎_elim, [], ◌∷◌, subst, Option, Some, None, ints, ring, at, num, ◌⊕◌, ◌⊖◌, ◌⊗◌, follows, given, none, sign, by_order, sign-scaled, same-nought, Vector, IsDirection, dot, SameDirection, IsAt, MapVertex, Arc, Map, Item, arc_item, sloop_item, items, item_normal, dir_of, OnItem, Shaped, SameSigns, Keeps, forms, normal-is, same-minus, is-at_one, kept-nought, SameDirection-decided, Decided, item-forms, normal-form, on-level, OnItem-by_signs, dir-at, arc-at, IsStrictlyOn-back, rise, meridians, IsOver, IsFirst, dir-signs}
 use Rattle.nef_smap.proofs.Rise.{rise-is, rise_form-value, rise-same}
+use Rattle.law_sphere.proofs.Arcs.{ends-of}
 
 -- ---- an item close to y is met at y or has an end there
 pub data Touches (M : Map) (x : Item) (y : Vector) : Type 0 where
@@ -18,12 +19,9 @@ module _ (M : Map) (V : Shaped M) where
       by (inr n) (inl w) = let b = V.arcs_between i r (arc-at M.arcs M.sloop i r a) in
           ends r.target b.target r b.has_target refl (inr refl) (subst (λ (v : Vector). SameDirection v d) (dir-at M.svertices r.target b.target b.has_target) w)
       by (inr n) (inr m) =
-          let b = V.arcs_between i r (arc-at M.arcs M.sloop i r a) in
-          let s = sym (dir-at M.svertices r.source b.source b.has_source) in
-          let t = sym (dir-at M.svertices r.target b.target b.has_target) in
+          let E = ends-of M V i r (arc-at M.arcs M.sloop i r a) in
           meets (IsStrictlyOn-back r.normal (dir_of M.svertices r.source) (dir_of M.svertices r.target) d e (normal-is V i (arc_item r) a)
-          (subst IsDirection s (V.svertex_dirs r.source b.source b.has_source)) (subst IsDirection t (V.svertex_dirs r.target b.target b.has_target))
-          (subst (λ (v : Vector). dot r.normal v ≡ pos 0) s b.level_source) (subst (λ (v : Vector). dot r.normal v ≡ pos 0) t b.level_target)
+          E.source_direction E.target_direction E.source_level E.target_level
           (λ g l. k g (item-forms M i (arc_item r) g a l)) f n m o)
 
   -- no item but x touches a direction on x

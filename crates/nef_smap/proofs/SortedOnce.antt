@@ -1,16 +1,25 @@
 -- What is sorted by a total order and kept once stands in order, and what stands in order is sorted.
-use Rattle.nef_smap.proofs.Prelude.{◌≡◌, ℕ, ◌<◌, ◌+◌, List, get_or, Bool, true, false, Ordering, Less, Equal, Greater, arith, refl, sym, ap, subst, IsTotalOrder, Contains, dedup, eq_by_cmp, is_eq, is_lt, slice_get-get_or, IsAt, InOrder}
+use Rattle.nef_smap.proofs.Prelude.{◌≡◌, ℕ, ◌<◌, ◌+◌, List, get_or, Bool, true, false, Ordering, Less, Equal, Greater, arith, refl, sym, ap, subst, IsTotalOrder, Contains, dedup, eq_by_cmp, is_eq, is_lt, slice_get-get_or, IsAt, InOrder, map}
 use Rattle.std.specs.Cmp.{IsEquivalence}
 use Rattle.std.specs.List.Sorted.{IsSorted, IsPermutation}
 use Rattle.std.proofs.lemmas.Cmp.{tied_itself}
 use Rattle.std.proofs.lemmas.List.Kept.{Contains-from_dedup, IsStrictlySortedBy-dedup}
 use Rattle.std.proofs.lemmas.List.Sorted.{Contains-permutation, IsPermutation-sym}
 use Rattle.std.proofs.lemmas.Map.Keys.{Less-from_sorted}
-use Rattle.nef_space.proofs.Lists.{is-at_is, is-at_within}
+use Rattle.nef_space.proofs.Lists.{is-at_is, is-at_within, is-at_map, map-is_at}
 
 -- what holds of the elements that are read at two places holds of those that stand there
 pub both-at : {A : Type 0} (P : A → A → Type 0) (xs : List A) (i k : ℕ) (x y : A) → IsAt xs i x → IsAt xs k y → ((d : A) → P (get_or xs i d) (get_or xs k d)) → P x y
 both-at P xs i k x y a b h = subst (P x) (is-at_is xs k y x b) (subst (λ z. P z (get_or xs k x)) (is-at_is xs i x x a) (h x))
+
+-- what stands in order by its images has its images in order, and the other way round
+pub in-order_map : {A B : Type 0} (R : B → B → Type 0) (f : A → B) (xs : List A) → InOrder (λ x y. R (f x) (f y)) xs → InOrder R (map f xs)
+in-order_map R f xs h i k x y l a b =
+    let u = is-at_map f xs i x a in let v = is-at_map f xs k y b in
+    subst (R x) v.2 (subst (λ z. R z (f v.0)) u.2 (h i k u.0 v.0 l u.1 v.1))
+
+pub map-in_order : {A B : Type 0} (R : B → B → Type 0) (f : A → B) (xs : List A) → InOrder R (map f xs) → InOrder (λ x y. R (f x) (f y)) xs
+map-in_order R f xs h i k x y l a b = h i k (f x) (f y) l (map-is_at f xs i x a) (map-is_at f xs k y b)
 
 -- ---- a test for equality
 one_test : (b c : Bool) → (b ≡ true → c ≡ true) → (c ≡ true → b ≡ true) → b ≡ c

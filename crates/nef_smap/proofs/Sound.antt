@@ -1,5 +1,5 @@
 -- Joined sides are of one sface.
-use Rattle.nef_smap.proofs.Prelude.{◌≡◌, ℕ, ◌+◌, ◌<◌, ◌≤◌, ℤ, pos, ◌-ℤ◌, ◌*ℤ◌, ◌<ℤ◌, neg_ℤ, arith, refl, ap, sym, ◌∙◌, ◌⊎◌, inl, inr, [], ◌∷◌, length, subst, Option, Some, None, ints, ring, at, num, neg, ◌⊕◌, ◌⊖◌, ◌⊗◌, follows, given, none, sign, sign-plus, plus-is, nought-is, mul_pos, sign-scaled, Lies, Chained, Vector, IsDirection, IsZero, cross, triple, dot, opposite, SameDirection, blend, Label, IsAt, MapVertex, Arc, MapSloop, Map, Item, arc_item, sloop_item, items, item_normal, item_pos, dir_of, OnItem, IsFree, Side, around_svertex, pos_item, neg_item, whole, HasSide, IsClear, Sees, directly, HasArc, Shaped, Keeps, forms, normal-is, dot-comb, is-at_one, item-forms, normal-form, on-direction, on-level, amount, far-keeps, arc-point, cross-self, between-off_target, cross-between, dir-at, arc-at, direction-around, svertex-around, free-around, free-beside, at-arc, keeps-between, kept-not_opposite, clear-around, axes-forms, clear-self, sees_both, free-seen, sides_of, SideSees, SeeOneWay, side_number, meridians, over_forms, IsFirst, first_sign, Stands, FirstNear, BelowFirsts, BelowFirst, ArcFirst, SloopFirst, met_number, IsJoin, join_below, join_around, join_arc, join_sloop, join_ground, chain-link, chain-trans, chain-turned, cases_lt, zero-dot, self-pos, cross-turned, dir-self, opposite-turned, apart, blend-turned}
+use Rattle.nef_smap.proofs.Prelude.{◌≡◌, ℕ, ◌+◌, ◌<◌, ◌≤◌, ℤ, pos, ◌-ℤ◌, ◌*ℤ◌, ◌<ℤ◌, neg_ℤ, arith, refl, ap, sym, ◌∙◌, ◌⊎◌, inl, inr, [], ◌∷◌, length, subst, Option, Some, None, ints, ring, at, num, neg, ◌⊕◌, ◌⊖◌, ◌⊗◌, follows, given, none, sign, sign-plus, plus-is, nought-is, mul_pos, sign-scaled, Lies, Chained, Vector, IsDirection, IsZero, cross, triple, dot, opposite, SameDirection, blend, Label, IsAt, MapVertex, Arc, MapSloop, Map, Item, arc_item, sloop_item, items, item_normal, item_pos, dir_of, OnItem, IsFree, Side, around_svertex, pos_item, neg_item, whole, HasSide, IsClear, Sees, directly, HasArc, Shaped, Keeps, forms, normal-is, dot-comb, is-at_one, item-forms, normal-form, on-direction, on-level, amount, far-keeps, arc-point, cross-self, between-off_target, cross-between, arc-at, direction-around, svertex-around, free-around, free-beside, at-arc, keeps-between, kept-not_opposite, clear-around, axes-forms, clear-self, sees_both, free-seen, sides_of, SideSees, SeeOneWay, side_number, meridians, over_forms, IsFirst, first_sign, Stands, FirstNear, BelowFirsts, BelowFirst, ArcFirst, SloopFirst, met_number, IsJoin, join_below, join_around, join_arc, join_sloop, join_ground, chain-link, chain-trans, chain-turned, cases_lt, zero-dot, self-pos, cross-turned, dir-self, opposite-turned, apart, blend-turned}
 use Rattle.nef_smap.proofs.Rise.{form-over, meridian-over, meridian-level, svertex-meridian, meridian-turn, forms-kept}
 use Rattle.nef_smap.proofs.Over.{touches-back, touches-level}
 use Rattle.nef_smap.proofs.Stands.{first-none, first-last, dot-opposite, far-stands, stand, stands, stands-keeps, stands-second, stands-third}
@@ -11,6 +11,8 @@ use Rattle.nef_smap.proofs.SideNumbers.{side-number}
 use Rattle.nef_space.proofs.Lists.{is-at_within}
 use Rattle.law_sphere.proofs.building.RayClose.{cross-last}
 use Rattle.nef_space.proofs.Elementary.{nought-factor}
+use Rattle.std.proofs.lemmas.Option.{none-some}
+use Rattle.law_sphere.proofs.Arcs.{Ends, ends-of}
 
 -- the turn from s to r, both in the plane of n
 pub along-turn : (n s r u : Vector) → dot n s ≡ pos 0 → dot n r ≡ pos 0 → dot n n *ℤ dot (cross u s) r ≡ triple n s r *ℤ dot n u
@@ -256,10 +258,7 @@ module _ (M : Map) (V : Shaped M) (u : Vector) (ahead : (k : ℕ) (x : Item) →
         (inl (side-sees (around_svertex k) m c (v, a, q) (directly w clear (v, a, dir-self w hw)))) (sees-d j.aside j.off j.first j.is_first)
       where
         lone : HasArc M k → ⊥
-        lone t = none-some (sym (V.around_not k v a t) ∙ q)
-          where
-            none-some : ◌≡◌ {A = Option Label} None (Some m) → ⊥
-            none-some e = absurd cc
+        lone t = none-some m (sym (V.around_not k v a t) ∙ q)
 
         free : (z : Vector) → Keeps (forms M) w z → IsDirection (cross w z) → IsFree M z
         free z h f = record {
@@ -331,17 +330,8 @@ module _ (M : Map) (V : Shaped M) (u : Vector) (ahead : (k : ℕ) (x : Item) →
       hn : IsDirection r.normal
       hn = normal-is V k (arc_item r) a
 
-      hs : IsDirection (dir_of M.svertices r.source)
-      hs = let b = V.arcs_between k r (arc-at M.arcs M.sloop k r a) in subst IsDirection (sym (dir-at M.svertices r.source b.source b.has_source)) (V.svertex_dirs r.source b.source b.has_source)
-
-      ht : IsDirection (dir_of M.svertices r.target)
-      ht = let b = V.arcs_between k r (arc-at M.arcs M.sloop k r a) in subst IsDirection (sym (dir-at M.svertices r.target b.target b.has_target)) (V.svertex_dirs r.target b.target b.has_target)
-
-      ls : dot r.normal (dir_of M.svertices r.source) ≡ pos 0
-      ls = let b = V.arcs_between k r (arc-at M.arcs M.sloop k r a) in subst (λ (v : Vector). dot r.normal v ≡ pos 0) (sym (dir-at M.svertices r.source b.source b.has_source)) b.level_source
-
-      lt : dot r.normal (dir_of M.svertices r.target) ≡ pos 0
-      lt = let b = V.arcs_between k r (arc-at M.arcs M.sloop k r a) in subst (λ (v : Vector). dot r.normal v ≡ pos 0) (sym (dir-at M.svertices r.target b.target b.has_target)) b.level_target
+      ends : Ends M r
+      ends = ends-of M V k r (arc-at M.arcs M.sloop k r a)
 
       K : ℕ
       K = amount (cross t n ∷ []) (cross n s) + amount (over_forms M u) (cross n s)
@@ -353,19 +343,19 @@ module _ (M : Map) (V : Shaped M) (u : Vector) (ahead : (k : ℕ) (x : Item) →
       l = cross u z
 
       on-z : OnItem M (arc_item r) z
-      on-z = arc-point n s t hn hs ht ls lt K (omega arith)
+      on-z = arc-point n s t hn ends.source_direction ends.target_direction ends.source_level ends.target_level K (omega arith)
 
       off-z : IsDirection (cross u z)
       off-z = apart n u z (λ e. let h = ahead k (arc_item r) a in omega (arith, ints)) (on-level M (arc_item r) z on-z) (on-direction M (arc_item r) z on-z)
 
       y : Vector
-      y = arc-viewer M V u ahead k r a j hs ls K (omega arith)
+      y = arc-viewer M V u ahead k r a j ends.source_direction ends.source_level K (omega arith)
 
       near-z : Stands (over_forms M u) z u l y
       near-z g i = stands (l ∷ over_forms M u) z u l g (inr i)
 
       y-stands : Stands (over_forms M u) s j.along u y
-      y-stands = arc-viewer_stands M V u ahead k r a j hs ls K (omega arith)
+      y-stands = arc-viewer_stands M V u ahead k r a j ends.source_direction ends.source_level K (omega arith)
 
       above : pos 0 <ℤ dot n y
       above = plus-is (dot n y) (stands-second (over_forms M u) z u l y n near-z (form-over M u n (item-forms M k (arc_item r) n a (normal-form M (arc_item r)))) (on-level M (arc_item r) z on-z)
@@ -379,14 +369,14 @@ module _ (M : Map) (V : Shaped M) (u : Vector) (ahead : (k : ℕ) (x : Item) →
 
       off : dot (cross u s) j.along ≡ pos 0 → ⊥
       off e =
-          let i = along-turn n s j.along u ls j.level in
+          let i = along-turn n s j.along u ends.source_level j.level in
           let q = ap (λ x. dot n n *ℤ x) e in
           let o = ring (dot n n ∷ []) (at 0 ⊗ num (pos 0)) (num (pos 0)) tt in
           let h = mul_pos (triple n s j.along) (dot n u) j.forward (ahead k (arc_item r) a) in
           omega (arith, ints)
 
       generic : Generic M u y
-      generic = generic-by s j.along y off aside l (cross-self u z) (arc-viewer_off M V u ahead k r a j hs ls K (omega arith) off-z)
+      generic = generic-by s j.along y off aside l (cross-self u z) (arc-viewer_off M V u ahead k r a j ends.source_direction ends.source_level K (omega arith) off-z)
 
   -- ---- all joins
   between : (s t : ℕ) {a b : ℕ} → s ≡ a → t ≡ b → Together (root a) (root b) → Together (root s) (root t)

@@ -1,5 +1,5 @@
 -- The program's stars are well formed.
-use Rattle.nef_smap.proofs.Prelude.{◌≡◌, ℕ, zero, suc, List, [], ◌∷◌, length, map, Bool, true, false, cond, arith, refl, sym, ap, subst, ◌∙◌, inl, inr, IsBelow, Vector, opposite, direction_numbers, IsDirection, SameDirection, vector_of, Dir, IsPrimitive, VectorBelow, IsAt, Ray, Star, ray_of, star_of, left_of, left_at, IsRayBelow, IsRay, IsStar, each_has_one_label, dir-self, is-at_none, is-at_first}
+use Rattle.nef_smap.proofs.Prelude.{◌≡◌, ℕ, zero, suc, List, [], ◌∷◌, length, map, arith, refl, sym, ap, subst, ◌∙◌, inl, inr, IsBelow, Vector, direction_numbers, IsDirection, SameDirection, vector_of, IsPrimitive, VectorBelow, IsAt, Ray, Star, ray_of, star_of, left_of, left_at, IsRay, IsStar, each_has_one_label, is-at_none, is-at_first}
 use Rattle.law_sphere.specs.Stars.{Ray as PlainRay, LeavesAxis as IsPlainRay}
 use Rattle.law_sphere.specs.Raw.{IsWellFormed, RayBelow, sector_count as plain_count}
 use Rattle.nef_star.specs.Stars.{sector_count}
@@ -7,6 +7,7 @@ use Rattle.nef_smap.proofs.Primitive.{dir-primitive}
 use Rattle.nef_space.proofs.Lists.{is-at_is, is-at_map, is-at_within}
 use Rattle.law_sphere.proofs.cones.Lowest.{below-either}
 use Rattle.nef_star.proofs.RoundStars.{same-dirs}
+use Rattle.nef_star.proofs.Straight.{ahead_first}
 
 -- ---- the order of directions
 pub below-vectors : (u v : Vector) → IsBelow (direction_numbers u) (direction_numbers v) → VectorBelow u v
@@ -28,22 +29,6 @@ plain-counts (r ∷ rs) = lengths (r ∷ rs)
     lengths : (rs : List Ray) → length rs ≡ length (map ray_of rs)
     lengths [] = refl
     lengths (r ∷ rs) = ap suc (lengths rs)
-
-abbrev left : Dir → Bool → Vector
-left n b = cond b (vector_of n) (opposite (vector_of n))
-
--- of two rays with one normal that leave in different directions, one goes ahead
-one_ahead : (q r : Ray) → IsDirection (left_of q) → (SameDirection (left_of q) (left_of r) → ⊥) → (IsRayBelow r q → ⊥) → q.normal ≡ r.normal → (q.ahead ≡ true) × (r.ahead ≡ false)
-one_ahead q r d apart least e = by q.ahead r.ahead refl refl
-  where
-    alike : q.ahead ≡ r.ahead → ⊥
-    alike f = apart (subst (SameDirection (left_of q)) (ap (λ (n : Dir). left n q.ahead) e ∙ ap (left r.normal) f) (dir-self (left_of q) d))
-
-    by : (b c : Bool) → q.ahead ≡ b → r.ahead ≡ c → (q.ahead ≡ true) × (r.ahead ≡ false)
-    by true true f g = absurd (alike (f ∙ sym g))
-    by true false f g = (f, g)
-    by false true f g = absurd (least (inr (sym e, g, f)))
-    by false false f g = absurd (alike (f ∙ sym g))
 
 pub left-at : (rays : List Ray) (k : ℕ) (r : Ray) → IsAt rays k r → left_at rays k ≡ left_of r
 left-at [] k r h = absurd (is-at_none h)
@@ -70,7 +55,7 @@ module _ (t : Star) (T : IsStar t) where
       elim (below-either (vector_of q.normal) (vector_of r.normal)) [
         | inl b ↦ inl b
         | inr s ↦ elim s [
-          | inl e ↦ let a = one_ahead q r direction apart least (same-dirs q.normal r.normal e) in inr (e, a.0, a.1)
+          | inl e ↦ let a = ahead_first q r direction apart least (same-dirs q.normal r.normal e) in inr (e, a.0, a.1)
           | inr b ↦ absurd (least (inl (vectors-below (vector_of r.normal) (vector_of q.normal) b)))
         ]
       ]

@@ -1,17 +1,17 @@
 -- What lies over a direction: the item that the way from the direction to a fixed direction u first meets.
 use Rattle.std.specs.Prelude.{◌≡◌, ◌<◌, ◌-ℤ◌, ◌≤ℤ◌, ◌<ℤ◌, ◌∷◌, ◌++◌, ℕ, pos, List, [], Option, Some, None}
 use Rattle.nef_space.specs.Prelude.{Sign, minus, nought, plus, sign, Lies, Vector, dot, cross, IsAt}
-use Rattle.law_sphere.specs.Vectors.{comb}
+use Rattle.law_near.specs.Cones.{combination}
 use Rattle.law_sphere.specs.Maps.{Map, Item, items, item_normal, OnItem}
 use Rattle.law_sphere.specs.Forms.{gather, forms}
 
 -- where the way from d to u meets the plane of n, which parts d and u
 abbrev pub rise : Vector → Vector → Vector → Vector
-rise u n d = comb (dot n u) d (pos 0 -ℤ dot n d) u
+rise u n d = combination (dot n u) d (pos 0 -ℤ dot n d) u
 
 -- the form that has on d the value of g on rise u n d
 abbrev pub rise_form : Vector → Vector → Vector → Vector
-rise_form u n g = comb (dot n u) g (pos 0 -ℤ dot g u) n
+rise_form u n g = combination (dot n u) g (pos 0 -ℤ dot g u) n
 
 -- the way from d, below the item's plane, to u, above this plane, meets the item
 pub record IsOver (M : Map) (u : Vector) (x : Item) (d : Vector) : Type 0 where

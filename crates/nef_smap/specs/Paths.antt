@@ -1,7 +1,7 @@
 -- The way from one direction to another, and the item that the way meets first.
 use Rattle.std.specs.Prelude.{◌≡◌, ℕ, ◌<◌, pos, ◌-ℤ◌, ◌*ℤ◌, ◌<ℤ◌, ◌≤ℤ◌, length}
 use Rattle.nef_space.specs.Vectors.{Vector, IsDirection, dot, cross}
-use Rattle.law_sphere.specs.Vectors.{comb}
+use Rattle.law_near.specs.Cones.{combination}
 use Rattle.nef_space.specs.Lists.{IsAt}
 use Rattle.law_sphere.specs.Maps.{Item, Map, items, item_normal, OnItem}
 use Rattle.nef_smap.specs.declared.meets.SpherePath.{SpherePath}
@@ -10,7 +10,7 @@ use Rattle.nef_smap.specs.WideVectors.{start_at, end_at}
 
 -- (n.a)^2 b - (n.a)(n.b) a, a direction in the plane of n, on the way from a to b where the plane parts a and b
 abbrev pub way_meet : Vector → Vector → Vector → Vector
-way_meet n a b = comb (dot n a *ℤ dot n a) b (pos 0 -ℤ dot n a *ℤ dot n b) a
+way_meet n a b = combination (dot n a *ℤ dot n a) b (pos 0 -ℤ dot n a *ℤ dot n b) a
 
 -- the way from a to b meets the item strictly between
 pub record IsMetOnWay (M : Map) (a b : Vector) (x : Item) : Type 0 where

@@ -1,6 +1,7 @@
 -- What many proofs want of numbers, signs, points and answers, each stated once.
-use Rattle.nef_space.proofs.Prelude.{◌≡◌, ℕ, zero, suc, ◌+◌, ◌*◌, ◌<◌, ◌≤◌, ℤ, pos, negsuc, ◌+ℤ◌, ◌-ℤ◌, ◌*ℤ◌, neg_ℤ, ◌<ℤ◌, arith, refl, ap, ◌∙◌, nat_abs, List, [], ◌∷◌, inl, inr, ◌⊎◌, ⊎_elim, ints}
-use Rattle.std.proofs.Common.{Result, Ok, Err}
+use Rattle.nef_space.proofs.Prelude.{◌≡◌, ℕ, zero, suc, ◌+◌, ◌*◌, ◌<◌, ◌≤◌, ℤ, pos, negsuc, ◌+ℤ◌, ◌-ℤ◌, ◌*ℤ◌, neg_ℤ, ◌<ℤ◌, arith, refl, ap, ◌∙◌, nat_abs, List, [], ◌∷◌, inl, inr, ◌⊎◌, ⊎_elim, ints, sym, subst, ◌≤ℤ◌, true, false}
+use Rattle.std.specs.Option.{is_some}
+use Rattle.std.proofs.Common.{Option, Some, None, Result, Ok, Err}
 use Rattle.std.specs.Result.{IfOk}
 use Rattle.nef_space.proofs.Ring.{ring, at, num, neg, ◌⊖◌, ◌⊗◌}
 use Rattle.nef_space.proofs.Order.{by_order, mul_neg, mul_pos}
@@ -123,3 +124,19 @@ if-ok_both P Q R (Err e) f p q = tt
 -- ---- what is made of equals
 pub equal-pairs : {A B C : Type 0} (make : A → B → C) {a c : A} {b d : B} → a ≡ c → b ≡ d → make a b ≡ make c d
 equal-pairs {A} {B} {C} make {a} {c} {b} {d} e f = ap (λ x. make x b) e ∙ ap (make c) f
+
+-- a bound by a product, at equal numbers and the size of what is positive
+pub product-above : (m x y w v : ℤ) → (m *ℤ w) ≤ℤ x → x ≡ y → w ≡ v → pos (nat_abs v) ≡ v → (m *ℤ pos (nat_abs v)) ≤ℤ y
+product-above m x y w v l e f g = subst (λ (r : ℤ). (m *ℤ r) ≤ℤ y) (sym g) (subst (λ (r : ℤ). (m *ℤ r) ≤ℤ y) f (subst (λ (r : ℤ). (m *ℤ w) ≤ℤ r) e l))
+
+pub product-below : (m x y w v : ℤ) → x ≤ℤ (m *ℤ w) → x ≡ y → w ≡ v → pos (nat_abs v) ≡ v → y ≤ℤ (m *ℤ pos (nat_abs v))
+product-below m x y w v l e f g = subst (λ (r : ℤ). y ≤ℤ (m *ℤ r)) (sym g) (subst (λ (r : ℤ). y ≤ℤ (m *ℤ r)) f (subst (λ (r : ℤ). r ≤ℤ (m *ℤ w)) e l))
+
+-- what a test of an option tells
+pub some-told : {X : Type 0} (o : Option X) → is_some o ≡ true → (x : X) × (o ≡ Some x)
+some-told None e = absurd cc
+some-told (Some x) e = (x, refl)
+
+pub none-told : {X : Type 0} (o : Option X) → is_some o ≡ false → o ≡ None
+none-told None e = refl
+none-told (Some x) e = absurd cc

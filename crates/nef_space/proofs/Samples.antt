@@ -29,6 +29,10 @@ dot-stretch_right k [] u = sym (*ℤ-zero k)
 dot-stretch_right k (a ∷ f) [] = sym (*ℤ-zero k)
 dot-stretch_right k (a ∷ f) (x ∷ u) = ap (λ z. a *ℤ (k *ℤ x) +ℤ z) (dot-stretch_right k f u) ∙ ring (k ∷ a ∷ x ∷ dot_list f u ∷ []) (at 1 ⊗ (at 0 ⊗ at 2) ⊕ at 0 ⊗ at 3) (at 0 ⊗ (at 1 ⊗ at 2 ⊕ at 3)) tt
 
+dot-nil : (k : List ℤ) → dot_list k [] ≡ pos 0
+dot-nil [] = refl
+dot-nil (a ∷ k) = refl
+
 pub dot-comb : (a : ℤ) (f : List ℤ) (b : ℤ) (g u : List ℤ) → dot_list (comb_lists a f b g) u ≡ a *ℤ dot_list f u +ℤ b *ℤ dot_list g u
 dot-comb a [] b g u = dot-stretch_left b g u ∙ ring (a ∷ b ∷ dot_list g u ∷ []) (at 1 ⊗ at 2) (at 0 ⊗ num (pos 0) ⊕ at 1 ⊗ at 2) tt
 dot-comb a (x ∷ f) b [] u = dot-stretch_left a (x ∷ f) u ∙ ring (a ∷ b ∷ dot_list (x ∷ f) u ∷ []) (at 0 ⊗ at 2) (at 0 ⊗ at 2 ⊕ at 1 ⊗ num (pos 0)) tt
@@ -355,10 +359,6 @@ sample_of zero ks (w ∷ []) h = record { vector = pos 1 ∷ []; listed = inl re
         let e = ap (λ r. c *ℤ w +ℤ r) (dot-nil f) ∙ ring (c ∷ w ∷ []) (at 0 ⊗ at 1 ⊕ num (pos 0)) (at 1 ⊗ at 0) tt in
         let g = ap (λ r. c *ℤ pos 1 +ℤ r) (dot-nil f) ∙ ring (c ∷ []) (at 0 ⊗ num (pos 1) ⊕ num (pos 0)) (at 0) tt in
         ap sign e ∙ sign-scaled w c h ∙ sym (ap sign g)
-      where
-        dot-nil : (f : List ℤ) → dot_list f [] ≡ pos 0
-        dot-nil [] = refl
-        dot-nil (a ∷ f) = refl
 sample_of zero ks (w ∷ x ∷ u) h = absurd h
 sample_of (suc n) ks [] h = absurd h
 sample_of (suc n) ks (z ∷ u) h =
@@ -381,10 +381,6 @@ abbrev pub cut : ℕ → List ℤ → List ℤ
 cut zero u = []
 cut (suc n) [] = []
 cut (suc n) (x ∷ u) = x ∷ cut n u
-
-dot-nil : (k : List ℤ) → dot_list k [] ≡ pos 0
-dot-nil [] = refl
-dot-nil (a ∷ k) = refl
 
 dot-cut : (n : ℕ) (k u : List ℤ) → dot_list (cut n k) u ≡ dot_list k (cut n u)
 dot-cut zero k u = sym (dot-nil k)

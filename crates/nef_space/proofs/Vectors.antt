@@ -4,7 +4,8 @@ use lib.IntN.{*ℤ-zero}
 use Rattle.nef_space.proofs.Ring.{ring, Poly, at, num, neg, ◌⊕◌, ◌⊖◌, ◌⊗◌, value}
 use Rattle.nef_space.proofs.Combination.{follows, follows_times, GivenEquations, given, none}
 use Rattle.nef_space.proofs.Order.{sign, sign-plus, sign-scaled, plus-is, nought-is, by_order, square_nonneg, square_pos, nought-or}
-use Rattle.nef_space.specs.Vectors.{Vector, vector, blend, dot, cross, triple, opposite, IsZero, IsDirection, SameDirection, IsOpposite, beside_x, beside_y, beside_z}
+use Rattle.nef_space.specs.Vectors.{Vector, vector, blend, dot, cross, triple, opposite, IsZero, IsDirection, IsNormal, SameDirection, IsOpposite, beside_x, beside_y, beside_z}
+use Rattle.nef_space.specs.Points.{Form, SpacePoint, form_at, opposite_form, slope}
 
 -- ---- the vectors beside a normal, along the coordinate planes
 pub level-beside_x : (n : Vector) → dot n (beside_x n) ≡ pos 0
@@ -320,3 +321,15 @@ pub cross-blend : (d a b : Vector) (i j : ℕ) → cross d (blend i a j b) ≡ b
 cross-blend d a b i j =
     let xs = pos i ∷ pos j ∷ numbers d a b b in let p = cross_of (vec 2) (blend_of (at 0) (vec 5) (at 1) (vec 8)) in let q = blend_of (at 0) (cross_of (vec 2) (vec 5)) (at 1) (cross_of (vec 2) (vec 8)) in
     vector-same _ _ (ring xs p.0 q.0 tt) (ring xs p.1 q.1 tt) (ring xs p.2 q.2 tt)
+
+-- ---- normals
+pub normal-direction : (n : Vector) → IsNormal n → IsDirection n
+normal-direction n h z = let p = h.third z.0 z.1 in let q = z.2 in omega (arith, ints)
+
+-- ---- the form of a plane with its sides exchanged
+pub opposite-at : (h : Form) (p : SpacePoint) → form_at (opposite_form h) p ≡ neg_ℤ (form_at h p)
+opposite-at h p = ring (h.a ∷ h.b ∷ h.c ∷ h.d ∷ p.x ∷ p.y ∷ p.z ∷ pos p.w ∷ [])
+    (neg (at 0) ⊗ at 4 ⊕ neg (at 1) ⊗ at 5 ⊕ neg (at 2) ⊗ at 6 ⊕ neg (at 3) ⊗ at 7) (neg (at 0 ⊗ at 4 ⊕ at 1 ⊗ at 5 ⊕ at 2 ⊗ at 6 ⊕ at 3 ⊗ at 7)) tt
+
+pub opposite-slope : (h : Form) (d : Vector) → slope (opposite_form h) d ≡ neg_ℤ (slope h d)
+opposite-slope h d = ring (h.a ∷ h.b ∷ h.c ∷ d.x ∷ d.y ∷ d.z ∷ []) (neg (at 0) ⊗ at 3 ⊕ neg (at 1) ⊗ at 4 ⊕ neg (at 2) ⊗ at 5) (neg (at 0 ⊗ at 3 ⊕ at 1 ⊗ at 4 ⊕ at 2 ⊗ at 5)) tt

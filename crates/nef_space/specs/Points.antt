@@ -26,6 +26,10 @@ form a b c d = record { a = a; b = b; c = c; d = d }
 abbrev pub form_numbers : Form → List ℤ
 form_numbers h = h.a ∷ h.b ∷ h.c ∷ h.d ∷ []
 
+-- the form of the same plane with its sides exchanged
+abbrev pub opposite_form : Form → Form
+opposite_form h = form (neg_ℤ h.a) (neg_ℤ h.b) (neg_ℤ h.c) (neg_ℤ h.d)
+
 abbrev pub form_at : Form → SpacePoint → ℤ
 form_at h p = h.a *ℤ p.x +ℤ h.b *ℤ p.y +ℤ h.c *ℤ p.z +ℤ h.d *ℤ pos p.w
 

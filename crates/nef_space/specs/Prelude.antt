@@ -9,7 +9,7 @@ pub use Rattle.std.specs.Prelude.{All, Bool, IfErr, IfOk, IfSome, IsErrAnd, IsNo
 pub use Rattle.std.specs.declared.io.ErrorKind.TheVariants.{InvalidData}
 pub use Rattle.nef_space.specs.Limits.{direction_limit, half_side, most_stairs, normal_limit, number_limit, offset_limit, point_limit, svertex_limit, weight_limit}
 pub use Rattle.nef_space.specs.Numbers.{IsBelow, IsLowest}
-pub use Rattle.nef_space.specs.Points.{Form, InClosedFrame, InFrame, IsAhead, IsBetween, IsPointBelow, Ratio, SamePoint, SpacePoint, Within, form, form_at, form_numbers, normal_of, plane_through, slope, step, toward}
+pub use Rattle.nef_space.specs.Points.{Form, InClosedFrame, InFrame, IsAhead, IsBetween, IsPointBelow, Ratio, SamePoint, SpacePoint, Within, form, form_at, form_numbers, normal_of, opposite_form, plane_through, slope, step, toward}
 pub use Rattle.nef_space.specs.Sets.{Holds, Set, halves}
 pub use Rattle.nef_space.specs.Vectors.{IsAtMost, IsDirection, IsNormal, IsOpposite, IsParallel, IsZero, SameDirection, Vector, blend, cross, direction_numbers, dot, opposite, plane_axis, plane_dir, triple, up, vector}
 pub use Rattle.nef_space.specs.Lists.{Chained, IsAt, IsInTable, NumbersClasses}

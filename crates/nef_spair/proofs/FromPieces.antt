@@ -6,6 +6,7 @@ use Rattle.nef_spair.proofs.Places.{all-at}
 use Rattle.nef_spair.proofs.Built.{first-same, kept-stars, plain-from, plain-needed, plain-all, plain-ordered}
 use Rattle.law_sphere.proofs.building.BuiltAxes.{map-empty as map-none}
 use Rattle.nef_smap.proofs.MapLists.{sloop-was}
+use Rattle.nef_smap.proofs.SortedOnce.{in-order_map}
 
 module _ (q : RawStars) (p : Pieces) (m : SphereMap) (pieces : ArePiecesOf q p) (made : IsMadeOf q p m) where
   abbrev K : List PlainStar
@@ -24,9 +25,7 @@ module _ (q : RawStars) (p : Pieces) (m : SphereMap) (pieces : ArePiecesOf q p) 
       (o.0, arc_of o.1, map-is_at arc_of m.arcs o.0 o.1 o.2, o.3, ap vector_of o.4 ∙ ap (λ (x : PlainRay). x.normal) v.2)
 
   arcs-ordered : InOrder ArcBelow (map arc_of m.arcs)
-  arcs-ordered i k x y l a b =
-      let u = is-at_map arc_of m.arcs i x a in let v = is-at_map arc_of m.arcs k y b in
-      subst (ArcBelow x) v.2 (subst (λ (z : Arc). ArcBelow z (arc_of v.0)) u.2 (made.ordered i k u.0 v.0 l u.1 v.1))
+  arcs-ordered = in-order_map ArcBelow arc_of m.arcs made.ordered
 
   -- ---- the sloop
   chosen-from : (c : SLoop) → IsChosen p.kept p.circles q.sloop c → IsSloopFrom (raw_of q) K (sloop_of c)

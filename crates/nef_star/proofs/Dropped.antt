@@ -52,11 +52,6 @@ module _ (a : Vector) (axis : IsDirection a) (k : ℕ) (f : ℕ → Vector) (t :
   dropped-gives l (in_only_sector z e) = absurd (omega (arith, z))
 
 -- the one ray of a star
-pub only-gives : (a : Vector) (f : ℕ → Vector) (M S : ℕ → Label) → M 0 ≡ S 0 → (d : Vector) (l : Label) → Gives a 1 f M S d l → Gives a 0 f M S d l
-only-gives a f M S h d l (on_ray i k s e) = let z : i ≡ 0 = omega arith in in_only_sector refl (sym h ∙ ap M (sym z) ∙ e)
-only-gives a f M S h d l (in_sector i j k x p e) = let z : i ≡ 0 = omega arith in in_only_sector refl (ap S (sym z) ∙ e)
-only-gives a f M S h d l (in_only_sector z e) = absurd (omega (arith, z))
-
 pub only-label : (a : Vector) (f : ℕ → Vector) (M S : ℕ → Label) (d : Vector) (l : Label) → Gives a 0 f M S d l → S 0 ≡ l
 only-label a f M S d l (on_ray i k s e) = absurd (omega (arith, k))
 only-label a f M S d l (in_sector i j k x p e) = absurd (omega (arith, k))

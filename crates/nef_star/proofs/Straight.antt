@@ -19,13 +19,14 @@ some_two (x ∷ y ∷ []) n = (x, y, refl)
 some_two (x ∷ y ∷ z ∷ xs) n = absurd (omega (arith, n))
 
 -- one ray goes ahead and the other back
-abbrev Turned : Ray → Ray → Type 0
+abbrev pub Turned : Ray → Ray → Type 0
 Turned q r = (q.ahead ≡ true) × (r.ahead ≡ false)
 
 abbrev left : Dir → Bool → Vector
 left n b = cond b (vector_of n) (opposite (vector_of n))
 
-ahead_first : (q r : Ray) → IsDirection (left_of q) → (SameDirection (left_of q) (left_of r) → ⊥) → (IsRayBelow r q → ⊥) → q.normal ≡ r.normal → Turned q r
+-- of two rays with one normal that leave in different directions, one goes ahead
+pub ahead_first : (q r : Ray) → IsDirection (left_of q) → (SameDirection (left_of q) (left_of r) → ⊥) → (IsRayBelow r q → ⊥) → q.normal ≡ r.normal → Turned q r
 ahead_first q r d apart least e = by q.ahead r.ahead refl refl
   where
     alike : q.ahead ≡ r.ahead → ⊥

@@ -75,8 +75,12 @@ names-push [] name s = refl
 names-push (b ∷ bs) name s = ap (λ l. b.0 ∷ l) (names-push bs name s)
 
 -- the bindings with one more, if there is a set for it
-abbrev and_bound : Bindings → List ℕ → Option Set → Bindings
+abbrev pub and_bound : Bindings → List ℕ → Option Set → Bindings
 and_bound sets name o = sets ++ map (λ (s : Set). (name, s)) (option_to_list o)
+
+-- the name, if a line binds it
+abbrev pub name_if : Bool → List ℕ → List (List ℕ)
+name_if t name = if t then name ∷ [] else []
 
 -- ---- the set of a line
 module _ (ss : Sets) (ordered : IsOrdered ss.nodes) (sets : Bindings) (agree : Agree ss.nodes sets ss.bound) where
@@ -185,9 +189,6 @@ module _ (ss : Sets) (ordered : IsOrdered ss.nodes) (sets : Bindings) (agree : A
   -- the bindings after a line, and its name
   abbrev Follows : Bindings → List (List ℕ) → Type 0
   Follows after new = Agree ss.nodes after ss.bound × (names_in after ≡ names_in sets ++ new)
-
-  abbrev name_if : Bool → List ℕ → List (List ℕ)
-  name_if t name = if t then name ∷ [] else []
 
   stays : Follows sets []
   stays = (agree, sym (append-nil (names_in sets)))

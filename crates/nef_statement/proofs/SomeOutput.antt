@@ -1,14 +1,13 @@
 -- An accepted script has an output.
-use Rattle.nef_statement.proofs.Prelude.{◌≡◌, ℕ, zero, suc, ◌+◌, ◌^◌, ◌<◌, ◌≤◌, ℤ, pos, negsuc, ◌<ℤ◌, nat_abs, arith, refl, sym, ap, ◌∙◌, inl, inr, ⊎_elim, List, [], ◌∷◌, ◌++◌, length, take, get_or, Bool, true, false, not, nat_eq, ◌||◌, Option, Some, None, find, slice_get, if◌then◌else◌, subst, append-nil, append_assoc, length-append, nat_lt, int_le, option_map, option_to_list, codes, list_any, zip, bytes_eq, or_parts, and_parts, eqb-true, leb-true, leb-false, ltb-false, ints, normal_limit, offset_limit, query_weight_limit, ray_direction_limit, ray_point_limit, ray_weight_limit, SpacePoint, Form, form, InFrame, Set, Lies, Vector, vector, IsDirection, IsAtMost, lies-append, Out, IsPointAtMost, point_at, Decided, label_of, InFrame-decided, IsAt, line, numbers, text, TextVersion, IsSmallForm, AreSmallForms, AreTurnsOf, lines_of, words_of, line_refusal, bound_name, names_of, IsAccepted, verb_of, roles, binds, name_count_limit, line_limit, is_bad_byte, number_or_zero, is_zero, is_from, on_verb, word_test, has_zero_normal, has_zero_direction, command_tests, words_tests, Verb, ScriptKind, Bindings, set_named, made_of_both, bound_set, turned_set, bound_after, answer_of, framed, line_end, IsSameAnswer, IsJoinedAnswer, IsRayAnswer, IsSaid, IsSaidBy, AreSaid, IsText, CountTells, eq-decided, is-at_none, is-at_first}
+use Rattle.nef_statement.proofs.Prelude.{◌≡◌, ℕ, zero, suc, ◌+◌, ◌^◌, ◌<◌, ◌≤◌, ℤ, pos, negsuc, ◌<ℤ◌, nat_abs, arith, refl, sym, ap, ◌∙◌, inl, inr, ⊎_elim, List, [], ◌∷◌, ◌++◌, length, take, get_or, Bool, true, false, not, nat_eq, ◌||◌, Option, Some, None, find, slice_get, if◌then◌else◌, subst, append-nil, append_assoc, length-append, nat_lt, int_le, option_map, codes, list_any, zip, bytes_eq, or_parts, and_parts, eqb-true, leb-true, leb-false, ltb-false, ints, normal_limit, offset_limit, query_weight_limit, ray_direction_limit, ray_point_limit, ray_weight_limit, SpacePoint, Form, form, InFrame, Set, Lies, Vector, vector, IsDirection, IsAtMost, lies-append, Out, IsPointAtMost, point_at, Decided, label_of, InFrame-decided, IsAt, line, numbers, text, TextVersion, IsSmallForm, AreSmallForms, AreTurnsOf, lines_of, words_of, line_refusal, bound_name, names_of, IsAccepted, verb_of, roles, binds, name_count_limit, line_limit, is_bad_byte, number_or_zero, is_zero, is_from, on_verb, word_test, has_zero_normal, has_zero_direction, command_tests, words_tests, Verb, ScriptKind, Bindings, set_named, made_of_both, bound_set, turned_set, bound_after, answer_of, framed, line_end, IsSameAnswer, IsJoinedAnswer, IsRayAnswer, IsSaid, IsSaidBy, AreSaid, IsText, CountTells, eq-decided, is-at_none, is-at_first}
 use Rattle.std.proofs.Common.{drop, nat_le, ◌&&◌}
-use Rattle.std.specs.Prelude.{map}
 use Rattle.law_text.proofs.existence.Connected.{joined-is_decided, components-are_counted}
 use Rattle.law_text.proofs.existence.Parts.{parts-exist}
 use Rattle.law_text.proofs.existence.Scripts.{turns-half, turns-both, turns-turned, turns-more, carried-by, scripted-shown}
 use Rattle.nef_script.specs.declared.arguments.Verb.TheVariants as verb
 use Rattle.nef_script.specs.declared.script.ScriptKind.TheVariants as kind
 use Rattle.nef_script.proofs.Values.{zero-are}
-use Rattle.nef_statement.proofs.Bound.{names_in, names-push}
+use Rattle.nef_statement.proofs.Bound.{and_bound, name_if, names_in, names-push}
 use Rattle.nef_statement.proofs.RayPoints.{ray-answer}
 use Rattle.nef_statement.proofs.Texts.{one-text}
 use Rattle.nef_statement.proofs.Turning.{set-same}
@@ -131,13 +130,6 @@ find-set (c ∷ sets) word e = by (bytes_eq word c.0) refl (λ f. find-set sets 
     by false f more =
         let (b, l, g) = more (sym (ap (λ u. u || list_any (bytes_eq word) (names_in sets)) f) ∙ e) in
         (b, inr l, ap (λ u. if u then Some c.1 else set_named sets word) f ∙ g)
-
--- the bindings with one more, if there is a set for it
-abbrev and_bound : Bindings → List ℕ → Option Set → Bindings
-and_bound sets name o = sets ++ map (λ (s : Set). (name, s)) (option_to_list o)
-
-abbrev name_if : Bool → List ℕ → List (List ℕ)
-name_if t name = if t then name ∷ [] else []
 
 step-none : (names : List (List ℕ)) (sets : Bindings) (bs : List Form) (name : List ℕ) (t : Bool) (o : Option Set) → t ≡ false → o ≡ None → IsBound names sets bs → IsBound (names ++ name_if t name) (and_bound sets name o) bs
 step-none names sets bs name true o e f B = cc

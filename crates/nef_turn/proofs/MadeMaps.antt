@@ -2,6 +2,7 @@
 use Rattle.nef_turn.proofs.Prelude.{◌≡◌, ℕ, List, map, length, Some, option_map, ap, sym, ◌∙◌, subst, Vector, IsNormal, vector_of, IsPrimitive, VectorBelow, IsAt, MapVertex, Arc, MapSloop, Item, arc_item, sloop_item, items, item_normal, InOrder, ArcBelow, Ordered, arc-at, sloop-at, is-at_map, map-is_at, svertex_of, arc_of, sloop_of, map_of, SLoop, SphereMap, dir-primitive, turned_svertex, IsTurnedArc, IsTurnedOption, HasTurnedLists, Moved, AreImages, AreMoved, AreNewNumbers, IsOfMoved, AreTurnedArcs, number_in}
 use Rattle.nef_turn.proofs.MovedSvertices.{placed, number-is}
 use Rattle.nef_smap.proofs.MapLists.{sloop-was as sloop-from}
+use Rattle.nef_smap.proofs.SortedOnce.{in-order_map}
 
 -- what the steps of turning the map m make
 pub record IsMadeByTurning (k : ℕ) (m n : SphereMap) (us : List Moved) (ns : List ℕ) : Type 0 where
@@ -32,10 +33,7 @@ module _ (k : ℕ) (m n : SphereMap) (us : List Moved) (ns : List ℕ) (I : IsMa
   item-good j (sloop_item l) a = sloop-good l (sloop-at (map arc_of n.arcs) (option_map sloop_of n.sloop) j l a)
 
   arcs-in_order : InOrder ArcBelow (map arc_of n.arcs)
-  arcs-in_order i j a b l p q =
-      let (x, c, e) = is-at_map arc_of n.arcs i a p in
-      let (y, d, f) = is-at_map arc_of n.arcs j b q in
-      subst (λ (r : Arc). ArcBelow r b) e (subst (λ (r : Arc). ArcBelow (arc_of x) r) f (I.arcs.ordered i j x y l c d))
+  arcs-in_order = in-order_map ArcBelow arc_of n.arcs I.arcs.ordered
 
   ways-in_order : InOrder (λ (u v : MapVertex). VectorBelow u.dir v.dir) (map svertex_of n.svertices)
   ways-in_order i j u v l p q =

@@ -1,14 +1,8 @@
 -- The steps that lead from the complex of a set to that of the turned set.
-use Rattle.nef_turn.proofs.Prelude.{◌≡◌, ℕ, List, map, subst, Set, form_of, Plane, map-is_at, vertex_of, ShowsSet, AreSorted, AreVerticesOf, AreInOrder, Vertex, Complex, turned_set, AreTurnedPlanes, AreTurnedVertices, HaveLeastMaps}
+use Rattle.nef_turn.proofs.Prelude.{◌≡◌, ℕ, List, map, subst, Set, form_of, Plane, vertex_of, ShowsSet, AreVerticesOf, Vertex, Complex, turned_set, AreTurnedPlanes, AreTurnedVertices, HaveLeastMaps}
 use Rattle.nef_turn.proofs.Pairing.{paired-turned}
 
 module _ (s : Set) (c : Complex) (S : ShowsSet s c) where
-  pub carriers-in_order : AreInOrder c.carriers
-  carriers-in_order i j g h l a b = S.shows.carriers.ordered i j (form_of g) (form_of h) l (map-is_at form_of c.carriers i g a) (map-is_at form_of c.carriers j h b)
-
-  pub vertices-sorted : AreSorted c.vertices
-  vertices-sorted i j u v l a b = S.shows.ordered i j (vertex_of u) (vertex_of v) l (map-is_at vertex_of c.vertices i u a) (map-is_at vertex_of c.vertices j v b)
-
   pub maps-least : HaveLeastMaps c.vertices
   maps-least j v a = S.maps j v a
 

@@ -2,7 +2,7 @@
 use Rattle.nef_volumes.proofs.Prelude.{◌≡◌, ℕ, ◌<◌, List, [], ◌∷◌, length, map, arith, refl, sym, subst, IsAt, Chained, Label, Plane, Item, item_pos, item_neg, is-at_one, is-at_within, Vertex, Complex, Corner, IsCorner, VertexSide, HasSideLabel, corner_of, VolumeLink, IsCycle, Cycles, IsFacetOf, IsVolumeOf, VolumeNumbers, pos_of, neg_of, IsFacetAt, cycle_corners, IsFacet, shell_sides, IsParts, SfaceNumbers, Shells, Cycle, Facet, Parts, Shell, IsFacetParts, AreVolumeLabels, HasItem, IsFirstCorner, HasFirst, AreFacetsOf}
 use Rattle.nef_space.proofs.Lists.{is-at_none}
 use Rattle.nef_complex.specs.declared.complex.Corner.{Corner as ProgramCorner}
-use Rattle.nef_volumes.proofs.Components.{numbered-item}
+use Rattle.nef_facets.proofs.FirstCorners.{facet-item}
 use Rattle.nef_volumes.proofs.FacetSides.{chain-pos, chain-neg}
 use Rattle.nef_volumes.proofs.VolumeLabels.{numbered-side}
 
@@ -24,7 +24,7 @@ module _ (C : Complex) (planes : List Plane) (marks : List Label) (cycles : List
       first-corner n xs (F.cycles n xs a) j.0 j.1
 
   pub all-first : (n : ℕ) (xs : List Cycle) → IsAt cycles n xs → HasFirst C xs
-  all-first n xs a = let r = first-of n xs a in (r.0, r.1, numbered-item C facet_of F.numbers (corner_of r.0) n r.2)
+  all-first n xs a = let r = first-of n xs a in (r.0, r.1, facet-item C facet_of F.numbers (corner_of r.0) n r.2)
 
   module _ (rows : List (List ℕ)) (N : VolumeNumbers C rows) (ls : List Label) (L : AreVolumeLabels C rows ls) (fs : List Facet) (A : AreFacetsOf C rows planes marks cycles fs)
       (faces : List (List ℕ)) (S : SfaceNumbers C faces) (shells : List (List Shell)) (many : length shells ≡ length ls)

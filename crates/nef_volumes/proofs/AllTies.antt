@@ -1,5 +1,5 @@
 -- The ties of all links together.
-use Rattle.nef_volumes.proofs.Prelude.{◌≡◌, ℕ, ◌⊎◌, inl, inr, List, ◌++◌, refl, ◌∙◌, subst, ◌↔◌, Contains, Contains-append_left, Contains-append_right, Set, opposite, up, IsAt, Side, around_svertex, pos_item, neg_item, Sees, is-at_one, chain-trans, chain-turned, Vertex, Edge, Complex, Corner, Shows, VertexSide, RayDown, AreTied, Tie, FacetLink, IsSideOf, LinkInSface, AreSidesAlong, pos_arcs, neg_arcs, around_ends, LinkAcrossFacet, LinkDown, LinkOutside, VolumeLink, ShellLink, cell_of, outside_cell, IsCellOf, IsEndOf, AreLinks, AreTiedSides, AreTiesOf, AreTiesWithOutside, AreTiedOutside, AreTiesDown, AreVolumeTies, LinkOfItems, LinkOfEnds, LinkOfFacets, AreTiedCorners, AreItemTies}
+use Rattle.nef_volumes.proofs.Prelude.{◌≡◌, ℕ, ◌⊎◌, inl, inr, List, ◌++◌, refl, ◌∙◌, subst, ◌↔◌, Contains, Contains-append_left, Contains-append_right, Set, opposite, up, IsAt, Side, around_svertex, pos_item, neg_item, Sees, is-at_one, chain-trans, chain-turned, Vertex, Edge, Complex, Corner, Shows, VertexSide, RayDown, AreTied, Tie, FacetLink, IsSideOf, LinkInSface, AreSidesAlong, pos_arcs, neg_arcs, around_ends, LinkAcrossFacet, LinkDown, LinkOutside, VolumeLink, ShellLink, cell_of, outside_cell, IsCellOf, IsEndOf, AreLinks, AreTiedSides, AreTiesOf, AreTiesWithOutside, AreTiedOutside, AreTiesDown, AreVolumeTies, LinkOfItems, LinkOfEnds, AreTiedCorners, AreItemTies}
 use Rattle.nef_volumes.proofs.SideCells.{tie-chain, more-tied, more-sides, both-links, links-as, one-cell}
 use Rattle.nef_volumes.proofs.BelowTies.{linked, one-below}
 use Rattle.nef_volumes.proofs.FacetSides.{moved}
@@ -25,7 +25,7 @@ module _ (C : Complex) where
   as-side : (x : VertexSide) (i : ℕ) (o p : Side) → o ≡ p → IsSideOf C x i o → IsSideOf C x i p
   as-side x i o p e (l, f, g, h) = (l, f, g ∙ e, h)
 
-  of-items : (x y : VertexSide) → LinkOfItems C (LinkOfFacets C) x y → ShellLink C x y
+  of-items : (x y : VertexSide) → LinkOfItems C (FacetLink C) x y → ShellLink C x y
   of-items x y (j, k, inl A, inl (f, g)) = inr (inl (record {
     number = A.number;
     edge = A.edge;
@@ -52,7 +52,7 @@ module _ (C : Complex) where
   of-ends x y (k, e, a, f, g) = inr (inl (record { number = k; edge = e; is_edge = a; low_side = around_svertex e.low_svertex; high_side = around_svertex e.high_svertex; is_low = f; is_high = g; along = around_ends refl refl }))
 
   abbrev ItemsOrEnds : VertexSide → VertexSide → Type 0
-  ItemsOrEnds x y = LinkOfItems C (LinkOfFacets C) x y ⊎ LinkOfEnds C x y
+  ItemsOrEnds x y = LinkOfItems C (FacetLink C) x y ⊎ LinkOfEnds C x y
 
   from-along : (x y : VertexSide) (n : ℕ) (e : Edge) → IsAt C.edges n e → (o p : Side) → IsSideOf C x e.low o → IsSideOf C y e.high p → AreSidesAlong C e o p → ItemsOrEnds x y
   from-along x y n e a o p f g (pos_arcs i j A q r) = inl (
@@ -74,7 +74,7 @@ module _ (C : Complex) where
 
 module _ (C : Complex) (sface items ends : List Tie) (F : AreTiesOf C (LinkInSface C) sface) (I : AreItemTies C items) (E : AreTiesOf C (LinkOfEnds C) ends) where
   abbrev OfThree : VertexSide → VertexSide → Type 0
-  OfThree x y = (LinkInSface C x y ⊎ LinkOfItems C (LinkOfFacets C) x y) ⊎ LinkOfEnds C x y
+  OfThree x y = (LinkInSface C x y ⊎ LinkOfItems C (FacetLink C) x y) ⊎ LinkOfEnds C x y
 
   to-shell : (x y : VertexSide) → OfThree x y → ShellLink C x y
   to-shell x y (inl (inl l)) = inl l
@@ -93,7 +93,7 @@ module _ (C : Complex) (sface items ends : List Tie) (F : AreTiesOf C (LinkInSfa
   -- THE TIES OF SHELLS ARE THOSE OF THEIR LINKS
   pub shell-tied : AreTiesOf C (ShellLink C) (sface ++ items ++ ends)
   shell-tied = ties-as C OfThree (ShellLink C) (sface ++ items ++ ends) to-shell from-shell
-      (either-tied C (λ x y. LinkInSface C x y ⊎ LinkOfItems C (LinkOfFacets C) x y) (LinkOfEnds C) (sface ++ items) ends (either-tied C (LinkInSface C) (LinkOfItems C (LinkOfFacets C)) sface items F I) E)
+      (either-tied C (λ x y. LinkInSface C x y ⊎ LinkOfItems C (FacetLink C) x y) (LinkOfEnds C) (sface ++ items) ends (either-tied C (LinkInSface C) (LinkOfItems C (FacetLink C)) sface items F I) E)
 
 -- a link of a shell is one of a volume
 pub shell-volume : (C : Complex) (x y : VertexSide) → ShellLink C x y → VolumeLink C x y
@@ -158,4 +158,4 @@ module _ (s : Set) (C : Complex) (S : Shows s C) (outside down : List Tie) (O : 
 
 -- the ties of items that are linked
 pub items-linked : (C : Complex) (items ts : List Tie) → ((j k : Corner) → AreTied items (cell_of j) (cell_of k) ↔ FacetLink C j k) → AreTiesOf C (LinkOfItems C (AreTiedCorners items)) ts → AreItemTies C ts
-items-linked C items ts f A = ties-as C (LinkOfItems C (AreTiedCorners items)) (LinkOfItems C (LinkOfFacets C)) ts (λ x y (j, k, l, h). (j, k, (f j k).0 l, h)) (λ x y (j, k, l, h). (j, k, (f j k).1 l, h)) A
+items-linked C items ts f A = ties-as C (LinkOfItems C (AreTiedCorners items)) (LinkOfItems C (FacetLink C)) ts (λ x y (j, k, l, h). (j, k, (f j k).0 l, h)) (λ x y (j, k, l, h). (j, k, (f j k).1 l, h)) A

@@ -1,5 +1,5 @@
 -- Points at items are joined exactly where the items have one facet number, and points at sides where the sides have one volume number; so facets and volumes are the components of the points with two flat directions and with three.
-use Rattle.nef_volumes.proofs.Prelude.{◌≡◌, ◌↔◌, ℕ, ◌<◌, inr, List, length, arith, subst, length-map, FlatDim, Joined, SpacePoint, Set, Label, Item, items, is-at_within, is-at_some, side-has, Vertex, Complex as PlainComplex, Corner, IsCorner, VertexSide, HasSideLabel, Shows, vertex_of, edge_of, complex_of, IsAtItem, IsAtSide, IsUpright, sides-have_points, sides-joined, HasComponents, IsFacetOf, IsVolumeOf, FacetNumbers, IsParts, Parts, FacetsAreComponents, VolumesAreComponents, AreCounted, HasItem}
+use Rattle.nef_volumes.proofs.Prelude.{◌≡◌, ◌↔◌, ℕ, ◌<◌, inr, List, length, arith, subst, length-map, FlatDim, Joined, SpacePoint, Set, Label, Item, items, is-at_within, is-at_some, side-has, Vertex, Complex as PlainComplex, Corner, IsCorner, VertexSide, HasSideLabel, Shows, vertex_of, edge_of, complex_of, IsAtItem, IsAtSide, IsUpright, sides-have_points, sides-joined, HasComponents, IsFacetOf, IsVolumeOf, FacetNumbers, IsParts, Parts, FacetsAreComponents, VolumesAreComponents, AreCounted}
 use Rattle.nef_complex.specs.declared.complex.Complex.{Complex}
 use Rattle.law_complex.proofs.links.ItemLinks.{items-joined}
 use Rattle.law_complex.proofs.links.ItemPoints.{items-have_points}
@@ -11,20 +11,10 @@ use Rattle.nef_conn.proofs.Steps.{joined-items_linked}
 use Rattle.nef_volumes.proofs.SideLabels.{upright}
 use Rattle.nef_volumes.proofs.VolumeLabels.{numbered-side}
 use Rattle.nef_space.proofs.Elementary.{same-itself}
+use Rattle.nef_facets.proofs.FirstCorners.{facet-item}
 
 -- ---- the numbers of items
 module _ (C : PlainComplex) (rows : List (List ℕ)) (N : FacetNumbers C rows) where
-  -- what has a number is an item
-  pub numbered-item : (k : Corner) (n : ℕ) → IsFacetOf rows k n → HasItem C k
-  numbered-item k n (row, e, h) =
-      let S = N.shape in
-      let l = is-at_within rows k.vertex row e in
-      let v = is-at_some C.vertices k.vertex (let a = S.as_many in omega (arith, l, a)) in
-      let a = v.1 in
-      let c = S.row k.vertex v.0 row a e in
-      let x = is-at_some (items v.0.map) k.item (let w = is-at_within row k.item n h in omega (arith, w, c)) in
-      (v.0, x.0, record { vertex = a; item = x.1 })
-
   -- each item has a number
   pub item-numbered : (k : Corner) (v : Vertex) (x : Item) → IsCorner C k v x → (n : ℕ) × IsFacetOf rows k n
   item-numbered k v x K =
@@ -78,7 +68,7 @@ module _ (c : Complex) (p : Parts) (I : IsParts (complex_of c) p) where
             let f = is-at_some p.facets i l in
             let F = I.facets i f.0 f.1 in
             let k = F.some in
-            let x = numbered-item (complex_of c) p.facet_of I.facet_numbers k.0 i k.1 in
+            let x = facet-item (complex_of c) p.facet_of I.facet_numbers k.0 i k.1 in
             let q = items-have_points s (complex_of c) k.0 x.0 x.1 S x.2 in
             (q.0, (k.0, k.1, q.1))
 

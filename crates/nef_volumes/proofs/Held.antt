@@ -5,14 +5,6 @@ module _ {X : Type 0} (Number : X → ℕ → Type 0) where
   no-thing : (q : ℕ) (x : X) → IsAt {X = X} [] q x → ⊥
   no-thing q x a = let w = is-at_within {X = X} [] q x a in omega (arith, w)
 
-  -- empty rows hold nothing
-  pub held-none : (In : X → Type 0) (Below : X → X → Type 0) (rows : List (List X)) → ((m : ℕ) (row : List X) → IsAt rows m row → row ≡ []) → ((x : X) → In x → ⊥) → AreRowsByNumber Number In Below rows
-  held-none In Below rows none out = record {
-    each = λ m q row x a b. absurd (no-thing q x (subst (λ (r : List X). IsAt r q x) (none m row a) b));
-    all = λ x m n i. absurd (out x i);
-    ordered = λ m q r row x y l a b c. absurd (no-thing q x (subst (λ (w : List X). IsAt w q x) (none m row a) b));
-  }
-
   -- what is in, and the order, said otherwise
   pub held-as : (In Other : X → Type 0) (Below Over : X → X → Type 0) (rows : List (List X)) → ((x : X) (m : ℕ) → Number x m → In x → Other x) → ((x : X) (m : ℕ) → Number x m → Other x → In x) → ((x y : X) → Below x y → Over x y)
       → AreRowsByNumber Number In Below rows → AreRowsByNumber Number Other Over rows

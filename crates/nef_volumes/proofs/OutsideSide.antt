@@ -11,24 +11,18 @@ abbrev corner : SpacePoint
 corner = record { x = pos half_side; y = pos half_side; z = pos half_side; w = 1; proper = omega arith }
 
 -- ---- the directions in which the corner has the label Out
+past : (m : ℤ) (b : ℕ) → pos 0 <ℤ m → nat_abs (pos half_side *ℤ pos b +ℤ m) < half_side * (1 * b) → ⊥
+past m b h f = omega (arith, ints, h, f)
+
 -- one that leads beyond a side
 beyond-x : (s : Set) (d : Vector) → pos 0 <ℤ d.x → Germ s corner d Out
 beyond-x s d h = (1, omega arith, λ t k i. let m = mul_pos t.a d.x k.0 h in let f = i.along_x in past (t.a *ℤ pos 1 *ℤ d.x) t.b (let e : t.a *ℤ pos 1 *ℤ d.x ≡ t.a *ℤ d.x = grind (arith, ints) in omega (arith, ints, e, m)) f)
-  where
-    past : (m : ℤ) (b : ℕ) → pos 0 <ℤ m → nat_abs (pos half_side *ℤ pos b +ℤ m) < half_side * (1 * b) → ⊥
-    past m b h f = omega (arith, ints, h, f)
 
 beyond-y : (s : Set) (d : Vector) → pos 0 <ℤ d.y → Germ s corner d Out
 beyond-y s d h = (1, omega arith, λ t k i. let m = mul_pos t.a d.y k.0 h in let f = i.along_y in past (t.a *ℤ pos 1 *ℤ d.y) t.b (let e : t.a *ℤ pos 1 *ℤ d.y ≡ t.a *ℤ d.y = grind (arith, ints) in omega (arith, ints, e, m)) f)
-  where
-    past : (m : ℤ) (b : ℕ) → pos 0 <ℤ m → nat_abs (pos half_side *ℤ pos b +ℤ m) < half_side * (1 * b) → ⊥
-    past m b h f = omega (arith, ints, h, f)
 
 beyond-z : (s : Set) (d : Vector) → pos 0 <ℤ d.z → Germ s corner d Out
 beyond-z s d h = (1, omega arith, λ t k i. let m = mul_pos t.a d.z k.0 h in let f = i.along_z in past (t.a *ℤ pos 1 *ℤ d.z) t.b (let e : t.a *ℤ pos 1 *ℤ d.z ≡ t.a *ℤ d.z = grind (arith, ints) in omega (arith, ints, e, m)) f)
-  where
-    past : (m : ℤ) (b : ℕ) → pos 0 <ℤ m → nat_abs (pos half_side *ℤ pos b +ℤ m) < half_side * (1 * b) → ⊥
-    past m b h f = omega (arith, ints, h, f)
 
 -- but not the one into the frame
 not-inward : (s : Set) → Germ s corner (vector (negsuc 0) (negsuc 0) (negsuc 0)) Out → ⊥

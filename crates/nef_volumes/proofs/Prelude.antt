@@ -32,5 +32,5 @@ pub use Rattle.nef_volumes.specs.Joins.{AreCounted, FacetsAreComponents, IsPartA
 pub use Rattle.nef_volumes.specs.Labels.{AreLabelsOf, AreLabelsTo, AreVolumeLabels, HasAppeared}
 pub use Rattle.nef_volumes.specs.Parts.{AreFacetsOf, HasFirst, HasVolumesBeside, IsFirstCorner, side_beside}
 pub use Rattle.nef_volumes.specs.Shells.{AreGathered, AreNumberedNames, AreShellRows, AreShellsOf, HaveVolumes, IsNamedBefore, IsOfVolume, IsOneOf, IsPut, IsShellOf, StandsBefore}
-pub use Rattle.nef_volumes.specs.Ties.{AddsInSfaces, AreDownBetween, AreInOneSface, AreItemTies, AreLinks, AreTiedCorners, AreTiedOutside, AreTiedSides, AreTiesDown, AreTiesOf, AreTiesTo, AreTiesWithOutside, AreVolumeTies, HasSfaces, HasSvertex, IsAroundCell, IsCellOf, IsEndOf, IsFirstNumber, IsFloorCell, IsItemSide, IsSideTie, IsTieDown, IsTieInSface, IsTieNumbered, IsTieOfEnds, IsTieOfItems, IsTieOutside, LinkOfEnds, LinkOfFacets, LinkOfItems, outside_cell, row_counts, side_at, side_cell, tie_within}
+pub use Rattle.nef_volumes.specs.Ties.{AddsInSfaces, AreDownBetween, AreInOneSface, AreItemTies, AreLinks, AreTiedCorners, AreTiedOutside, AreTiedSides, AreTiesDown, AreTiesOf, AreTiesTo, AreTiesWithOutside, AreVolumeTies, HasSfaces, HasSvertex, IsAroundCell, IsCellOf, IsEndOf, IsFirstNumber, IsFloorCell, IsItemSide, IsSideTie, IsTieDown, IsTieInSface, IsTieNumbered, IsTieOfEnds, IsTieOfItems, IsTieOutside, LinkOfEnds, LinkOfItems, outside_cell, row_counts, side_at, side_cell, tie_within}
 pub use Rattle.nef_volumes.specs.declared.all.Part.TheVariants.{Volume}

@@ -10,7 +10,7 @@ use Rattle.law_complex.specs.Prelude.{Vertex, Edge, Complex, Corner, VertexSide,
 use Rattle.nef_facets.specs.Prelude.{AreTied, cell_of}
 use Rattle.nef_classes.specs.declared.table.Cell.{Cell}
 use Rattle.nef_classes.specs.declared.table.Tie.{Tie}
-use Rattle.law_complex.specs.links.Links.{IsSideOf, LinkAlong, LinkAcross, LinkDown, VolumeLink}
+use Rattle.law_complex.specs.links.Links.{FacetLink, IsSideOf, LinkDown, VolumeLink}
 use Rattle.nef_complex.specs.Numbers.{count_sides}
 use Rattle.nef_complex.specs.Shells.{ShellLink}
 
@@ -175,12 +175,8 @@ abbrev pub IsFloorCell : Complex → ℕ → Cell → Type 0
 IsFloorCell C i a = (x : VertexSide) × IsCellOf C x a × IsSideAtRayDown C i x
 
 -- ---- all together
--- the ties of the sides of items that are linked along edges or across facets
-abbrev pub LinkOfFacets : Complex → Corner → Corner → Type 0
-LinkOfFacets C j k = LinkAlong C j k ⊎ LinkAcross C j k
-
 abbrev pub AreItemTies : Complex → List Tie → Type 0
-AreItemTies C ts = AreTiesOf C (LinkOfItems C (LinkOfFacets C)) ts
+AreItemTies C ts = AreTiesOf C (LinkOfItems C (FacetLink C)) ts
 
 -- ties lead from the outside to each side that has the label Out
 abbrev pub AreTiedOutside : Complex → List Tie → Type 0

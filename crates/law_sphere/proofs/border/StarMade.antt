@@ -1,7 +1,7 @@
 -- The labels that directions close to the axis of a star get: on the axis by all rays and sectors, on a ray by the two sectors beside it, in a sector by the sector alone.
-use Rattle.law_sphere.proofs.border.Prelude.{◌≡◌, ℕ, zero, suc, ◌+◌, ◌≤◌, ℤ, pos, ◌<ℤ◌, arith, refl, ap, sym, ◌∙◌, ◌⊎◌, inl, inr, ⊎_elim, List, ◌∷◌, subst, length, map, [], ints, Lies, lies-left, lies-right, lies-append, Sign, minus, nought, plus, sign, sign-plus, sign-minus, sign-scaled, nought-or, Vector, IsDirection, triple, cross, dot, IsZero, blend, opposite, Label, IsAt, Map, NearLabel, Valid, SameSigns, axes, forms, arc_forms, by_side, Ray, Star, ray_dir, across, OnRay, PastRay, NextRay, StarLabel, on_ray, in_sector, in_only_sector, StarShows, Follows, axes-forms, across-side, across-same, next-ray, previous, ray-level, amount, far-keeps, far-level, IsStrictlyOn-stays, past_source, arc-point, circle-point, label-by_signs, near-from_far, far-from_near, IsStrictlyOn-same, far_directed-by, sector_count, IsWellFormed, at-other, is-at_map, map-is_at, Topology, TopologyLabel, label_from, face_label, ray_mark, star_labels, zero-decided, self-pos, triple-dot, dir-self, dir-signs, in-span, dot-opposite, cross-blend, lies-at, at-lies, is-at_none}
+use Rattle.law_sphere.proofs.border.Prelude.{◌≡◌, ℕ, zero, suc, ◌+◌, ◌≤◌, ℤ, pos, ◌<ℤ◌, arith, refl, ap, sym, ◌∙◌, ◌⊎◌, inl, inr, ⊎_elim, List, ◌∷◌, subst, length, map, [], ints, Lies, lies-left, lies-right, lies-append, Sign, minus, nought, plus, sign, sign-plus, sign-minus, sign-scaled, nought-or, Vector, IsDirection, triple, cross, dot, IsZero, blend, opposite, Label, IsAt, Map, NearLabel, Valid, SameSigns, axes, forms, arc_forms, by_side, Ray, Star, ray_dir, across, OnRay, PastRay, NextRay, StarLabel, on_ray, in_sector, in_only_sector, StarShows, Follows, axes-forms, across-side, across-same, next-ray, previous, amount, far-keeps, far-level, IsStrictlyOn-stays, past_source, arc-point, circle-point, label-by_signs, near-from_far, far-from_near, IsStrictlyOn-same, far_directed-by, sector_count, IsWellFormed, at-other, is-at_map, map-is_at, Topology, TopologyLabel, label_from, face_label, ray_mark, star_labels, zero-decided, self-pos, triple-dot, dir-self, dir-signs, in-span, dot-opposite, cross-blend, lies-at, at-lies, is-at_none}
 use Rattle.law_sphere.proofs.building.BuiltAround.{sector-there}
-use Rattle.law_sphere.proofs.building.RayStraight.{off-axis}
+use Rattle.law_sphere.proofs.Simplified.{made-level, off-axis, ray-label}
 use Rattle.law_sphere.proofs.building.RayClose.{across-level, ray-close}
 use Rattle.law_sphere.proofs.border.PlaceLabels.{near-onward, made-at, even-made, topology-labels}
 use Rattle.law_sphere.proofs.border.Across.{across-blend}
@@ -10,9 +10,6 @@ module _ (t : Star) (M : Map) (V : Valid M) (W : IsWellFormed t) (S : StarShows 
   abbrev d : Vector
   d = t.axis
 
-  dir-at : (k : ℕ) (r : Ray) → IsAt t.rays k r → (dot d (ray_dir t r) ≡ pos 0) × IsDirection (ray_dir t r)
-  dir-at k r a = ray-level t W.axis r (W.rays k r a)
-
   -- ---- near what is near the axis
   far-off_axis : (e c : Vector) (i : ℕ) → amount axes (cross d c) ≤ i → IsDirection (cross d e) → IsDirection (cross d (blend i e 1 c))
   far-off_axis e c i h f = subst IsDirection (sym (cross-blend d e c i 1)) (far_directed-by axes (λ g l. l) (cross d e) (cross d c) i h f)
@@ -20,10 +17,6 @@ module _ (t : Star) (M : Map) (V : Valid M) (W : IsWellFormed t) (S : StarShows 
   star-near : (e c : Vector) (l : Label) (low : ℕ) → IsDirection (cross d e) → ((i : ℕ) → low ≤ i → StarLabel t (blend i e 1 c) l) → (k : ℕ) → amount (forms M) e ≤ k → NearLabel M (blend k d 1 e) c l
   star-near e c l low f g k hk =
       near-onward M V d e c l k (low + amount axes (cross d c)) W.axis hk (λ i h. S.labels (blend i e 1 c) l (far-off_axis e c i (omega arith) f) (g i (omega arith)))
-
-  ray-found : (k : ℕ) (r : Ray) → IsAt t.rays k r → NearLabel M d (ray_dir t r) r.mark
-  ray-found k r a = let w = dir-at k r a in
-      S.labels (ray_dir t r) r.mark (off-axis d (ray_dir t r) W.axis w.1 w.0) (on_ray k r a (across-same d (ray_dir t r) W.axis w.1 w.0) refl)
 
   -- ---- a ray and the sectors beside it
   pub record Sides (k : ℕ) (r : Ray) : Type 0 where
@@ -52,7 +45,7 @@ module _ (t : Star) (M : Map) (V : Valid M) (W : IsWellFormed t) (S : StarShows 
     side = by_side D.after r.mark D.before
 
     s-off : IsDirection (cross d s)
-    s-off = let w = dir-at k r a in off-axis d s W.axis w.1 w.0
+    s-off = let w = made-level t W k r a in off-axis d s W.axis w.1 w.0
 
     -- close to the axis along the ray, whatever the side
     near-side : (i : ℕ) → amount (forms M) s ≤ i → (c : Vector) → NearLabel M (blend i d 1 s) c (side (sign (triple d s c)))
@@ -75,13 +68,13 @@ module _ (t : Star) (M : Map) (V : Valid M) (W : IsWellFormed t) (S : StarShows 
     side-found i h l (inr (inr q)) = absurd q
 
     way-made : (K : Topology) (i : ℕ) → amount (forms M) s ≤ i → TopologyLabel K M (blend i d 1 s) (label_from K r.mark sides)
-    way-made K i h = made-at M V K (blend i d 1 s) r.mark sides (far-from_near M V d s i h r.mark (ray-found k r a))
+    way-made K i h = made-at M V K (blend i d 1 s) r.mark sides (far-from_near M V d s i h r.mark (ray-label t M S k r a))
         (λ c. (side (sign (triple d s c)), near-side i h c, side-listed (sign (triple d s c)))) (side-found i h)
 
     -- the signs close to the axis are the same for all directions on the ray
     on-signs : (e : Vector) → OnRay t r e → (j i : ℕ) → amount (forms M) s ≤ j → amount (forms M) e ≤ i → SameSigns (forms M) (blend j d 1 s) (blend i d 1 e)
     on-signs e o j i hj hi g m = ⊎_elim
-        (λ z. far-level (forms M) d e i hi g z ∙ sym (sign-scaled (dot d d) (dot g e) (self-pos d W.axis)) ∙ ap sign (sym (across-side g d e z)) ∙ dir-signs s (across d e) g (let w = dir-at k r a in w.1) o ∙ sym (far-level (forms M) d s j hj g z))
+        (λ z. far-level (forms M) d e i hi g z ∙ sym (sign-scaled (dot d d) (dot g e) (self-pos d W.axis)) ∙ ap sign (sym (across-side g d e z)) ∙ dir-signs s (across d e) g (let w = made-level t W k r a in w.1) o ∙ sym (far-level (forms M) d s j hj g z))
         (λ f. far-keeps (forms M) d e i hi g m f ∙ sym (far-keeps (forms M) d s j hj g m f)) (nought-or (dot g d))
 
     pub ray-made : (e : Vector) → OnRay t r e → (i : ℕ) → amount (forms M) e ≤ i → (K : Topology) → TopologyLabel K M (blend i d 1 e) (label_from K r.mark sides)
@@ -124,8 +117,8 @@ module _ (t : Star) (M : Map) (V : Valid M) (W : IsWellFormed t) (S : StarShows 
   sector-found : (k : ℕ) (q : Ray) (l : Label) → IsAt t.rays k q → IsAt t.sectors k l → (e : Vector) × NearLabel M d e l
   sector-found k q l a b =
       let n = next-ray t.rays k q a in
-      let w = dir-at k q a in
-      let v = dir-at n.1 n.0 n.2 in
+      let w = made-level t W k q a in
+      let v = made-level t W n.1 n.0 n.2 in
       let s = ray_dir t q in
       let p = ray_dir t n.0 in
       let K = amount (cross p d ∷ []) (cross d s) in
@@ -164,6 +157,6 @@ module _ (t : Star) (M : Map) (V : Valid M) (W : IsWellFormed t) (S : StarShows 
 
       found : (l : Label) → Lies (star_labels t) l → (e : Vector) × NearLabel M d e l
       found l x = ⊎_elim
-          (λ y. let k = lies-at (map ray_mark t.rays) l y in let r = is-at_map ray_mark t.rays k.0 l k.1 in (ray_dir t r.0, subst (NearLabel M d (ray_dir t r.0)) r.2 (ray-found k.0 r.0 r.1)))
+          (λ y. let k = lies-at (map ray_mark t.rays) l y in let r = is-at_map ray_mark t.rays k.0 l k.1 in (ray_dir t r.0, subst (NearLabel M d (ray_dir t r.0)) r.2 (ray-label t M S k.0 r.0 r.1)))
           (λ y. let k = lies-at t.sectors l y in sectors-found k.0 l k.1)
           (lies-append (map ray_mark t.rays) t.sectors l x)

@@ -1,7 +1,7 @@
 -- A star that is kept stands at a direction that is neither plain nor straight.
 use Rattle.law_sphere.proofs.building.Prelude.{◌≡◌, ℕ, zero, ◌+◌, arith, refl, ap, sym, ◌∙◌, inl, inr, ⊎_elim, ◌↔◌, List, ◌∷◌, subst, length, [], sign, Vector, IsDirection, cross, dot, blend, Label, IsAt, MapVertex, Map, MapLabel, NearLabel, Valid, by_side, NearPlain, NearStraight, Least, Ordered, Near, PlainAt, StraightAt, IsSmooth, plain, straight, NoneSmooth, Star, in_only_sector, IsPlain, IsSimplified, StarShows, amount, circle-point, far_directed-by, built-valid, built-labels, plain-no_ray, straight-rays, RawMap, Of, IsLabelling, sector_count, ShowsLabels, IsRawOf, AreSimplified, IsBuiltFrom, square-cross, nought-if, level_cross_second, is-at_nowhere}
 use Rattle.law_sphere.proofs.building.BuiltLabels.{with_axes, labelling, axial, labels-build}
-use Rattle.law_sphere.proofs.building.RayStraight.{off-axis}
+use Rattle.law_sphere.proofs.Simplified.{off-axis}
 use Rattle.law_sphere.proofs.building.StarRays.{two-straight, rays-apart}
 use Rattle.law_sphere.proofs.building.BuiltAxes.{IsMadeOfStars, kept-shows, kept-simple, svertex-star}
 use Rattle.law_sphere.proofs.building.BuiltAround.{sector-there}

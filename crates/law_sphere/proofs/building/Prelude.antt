@@ -2,7 +2,7 @@
 pub use Rattle.law_sphere.proofs.Prelude.{Arc, ArcBelow, Bool, ByOp, Decided, Follows, HasArc, HasSide, IsAt, IsBuilt, IsDirection, IsFree, IsNormal, IsOnCircle, IsOpposite, IsPlain, IsPrimitive, IsSimplified, IsSmooth, IsStraight, IsStrictlyOn, IsZero, Item, Keeps, Label, Labelling, Least, LeavesAxis, List, Map, MapLabel, MapSloop, MapVertex, Near, NearLabel, NearPlain, NearStraight, NextRay, None, NoneSmooth, OnItem, OnRay, Option, Ordered, Plain, Proper, Ray, SameDirection, SameDirection-trans, SameDirection-turned, SameSigns, Shaped, Side, Sign, Some, Star, StarLabel, StarShows, StraightAfter, StraightAt, Valid, Vector, VectorBelow, [], across, ap, apart, arc_forms, arc_item, arith, around_svertex, at, at_svertex, axes, blend, by_order, by_side, cond, cross, cross-turned, cross_of, crossed, dir-self, dir-signs, dir_of, direction-left, direction-opposite, direction-right, dot, dot-comm, dot-opposite, dot-zero, dot_of, dot_poly, each, false, follows, forms, from-opposite, given, in-span, in_only_sector, in_sector, inl, inr, ints, is-at_first, is-at_none, item_mark, item_neg, item_normal, item_pos, items, length, level-blend, level-opposite, level_cross_second, lies-each, lies-left, lies-right, mul_pos, neg, neg_item, neg_ℤ, none, nought-if, nought-is, nought-or, num, numbers, on_item, on_ray, opposite, opposite-cross, opposite-dot, opposite-twice, opposites, parallel-in_plane, parallel-trans, plain, poly_triple, pos, pos_item, ray_dir, refl, ring, seen, self-pos, sign, sign-minus, sign-plus, sign-scaled, sloop_item, square-cross, straight, subst, suc, sym, triple, triple-dot, triple-middle, triple_poly, true, vec, vector-same, whole, zero, zero-decided, zero-dot, ℕ, ℤ, ⊎_elim, ◌*ℤ◌, ◌++◌, ◌+ℤ◌, ◌+◌, ◌-ℤ◌, ◌<ℤ◌, ◌<◌, ◌↔◌, ◌∙◌, ◌∷◌, ◌≡◌, ◌≤◌, ◌⊎◌, ◌⊕◌, ◌⊖◌, ◌⊗◌}
 pub use Rattle.std.proofs.Common.{map}
 pub use Rattle.std.specs.Prelude.{IsSome, MatchOption}
-pub use Rattle.nef_space.proofs.Vectors.{Polys, cross-opposite}
+pub use Rattle.nef_space.proofs.Vectors.{Polys, cross-opposite, normal-direction}
 pub use Rattle.law_sphere.proofs.Along.{near-near, near-one, not-even}
 pub use Rattle.law_sphere.proofs.Arcs.{at-sloop, ends-of, level-same, sloop-at}
 pub use Rattle.law_sphere.proofs.Around.{Beside, beside, other_way, same_way}
@@ -22,7 +22,7 @@ pub use Rattle.law_sphere.proofs.Simplified.{across-same, before, last-of, next-
 pub use Rattle.law_sphere.proofs.StarKinds.{across-side, straight_star-label, straight_star-level, straight_star-normal, turn-ahead}
 pub use Rattle.law_sphere.proofs.StraightStars.{RaysApart, TwoRays, straight-rays}
 pub use Rattle.law_sphere.proofs.Turn.{IsStrictlyOn-same, ends-together, whole-passes}
-pub use Rattle.law_sphere.proofs.Vectors.{below-itself, direction-by, dot-comb, even-side, normal-direction, op-side, same-plus}
+pub use Rattle.law_sphere.proofs.Vectors.{below-itself, direction-by, dot-comb, even-side, op-side, same-plus}
 pub use Rattle.law_sphere.specs.Forms.{point_forms}
 pub use Rattle.law_sphere.specs.Labelling.{PlainAt}
 pub use Rattle.law_sphere.specs.Maps.{ArcBetween}

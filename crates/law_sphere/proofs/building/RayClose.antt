@@ -1,7 +1,8 @@
 -- Close to a ray a star gives the ray's mark in the plane of the ray, and the labels of the sectors after and before it beside it.
-use Rattle.law_sphere.proofs.building.Prelude.{◌≡◌, ℕ, ◌≤◌, ℤ, pos, ◌*ℤ◌, ◌<ℤ◌, arith, refl, ap, sym, ◌∙◌, inl, inr, List, ◌∷◌, subst, [], ints, ring, at, num, ◌⊕◌, ◌⊖◌, ◌⊗◌, neg, sign, sign-plus, sign-minus, sign-scaled, by_order, nought-is, Vector, IsDirection, cross, triple, dot, SameDirection, blend, opposite, Label, IsStrictlyOn, IsAt, by_side, Ray, Star, ray_dir, across, NextRay, StarLabel, on_ray, in_sector, Follows, same-plus, amount, far-keeps, far-level, reversed, across-side, ray-level, last-of, before, next-ray, IsWellFormed, dot-comm, self-pos, vector-same, triple-dot, triple-middle, parallel-in_plane, cross_of, direction-opposite, level_cross_second, numbers, opposite-dot, opposite-twice, vec, Polys}
+use Rattle.law_sphere.proofs.building.Prelude.{◌≡◌, ℕ, ◌≤◌, ℤ, pos, ◌*ℤ◌, ◌<ℤ◌, arith, refl, ap, sym, ◌∙◌, inl, inr, List, ◌∷◌, subst, [], ints, ring, at, num, ◌⊕◌, ◌⊖◌, ◌⊗◌, neg, sign, sign-plus, sign-minus, sign-scaled, by_order, nought-is, Vector, IsDirection, cross, triple, dot, SameDirection, blend, opposite, Label, IsStrictlyOn, IsAt, by_side, Ray, Star, ray_dir, across, NextRay, StarLabel, on_ray, in_sector, Follows, same-plus, amount, far-keeps, far-level, reversed, across-side, last-of, before, next-ray, IsWellFormed, dot-comm, self-pos, vector-same, triple-dot, triple-middle, parallel-in_plane, cross_of, direction-opposite, level_cross_second, numbers, opposite-dot, opposite-twice, vec, Polys}
 use Rattle.law_sphere.proofs.Direct.{cross-self}
 use Rattle.law_sphere.proofs.ArcWays.{on-ahead}
+use Rattle.law_sphere.proofs.Simplified.{made-level}
 
 pub across-level : (d y : Vector) → dot d (across d y) ≡ pos 0
 across-level d y =
@@ -94,24 +95,21 @@ module _ (t : Star) (W : IsWellFormed t) (j k : ℕ) (r : Ray) (h : IsAt t.rays 
   abbrev w : Vector
   w = ray_dir t r
 
-  at-ray : (i : ℕ) (q : Ray) → IsAt t.rays i q → (dot d (ray_dir t q) ≡ pos 0) × IsDirection (ray_dir t q)
-  at-ray i q c = ray-level t W.axis q (W.rays i q c)
-
   close-minus : (e : Vector) → triple d w e <ℤ pos 0 → Close t w e b
   close-minus e l =
       let p = follows-at t.rays j k r f h in
-      let x = at-ray k r h in
-      let y = at-ray j p.0 p.1 in
+      let x = made-level t W k r h in
+      let y = made-level t W j p.0 p.1 in
       (amount (cross (ray_dir t p.0) (opposite d) ∷ []) e, λ i g. in_sector j p.0 r p.1 p.2 (close-before d w (ray_dir t p.0) e W.axis x.1 y.1 x.0 y.0 l i g) below)
 
   close-nought : (e : Vector) → triple d w e ≡ pos 0 → Close t w e r.mark
-  close-nought e z = let x = at-ray k r h in (amount (w ∷ []) e, λ i g. on_ray k r h (close-on d w w e W.axis x.1 x.1 x.0 x.0 i z g) refl)
+  close-nought e z = let x = made-level t W k r h in (amount (w ∷ []) e, λ i g. on_ray k r h (close-on d w w e W.axis x.1 x.1 x.0 x.0 i z g) refl)
 
   close-plus : (e : Vector) → pos 0 <ℤ triple d w e → Close t w e a
   close-plus e l =
       let p = next-ray t.rays k r h in
-      let x = at-ray k r h in
-      let y = at-ray p.1 p.0 p.2 in
+      let x = made-level t W k r h in
+      let y = made-level t W p.1 p.0 p.2 in
       (amount (cross (ray_dir t p.0) d ∷ []) e, λ i g. in_sector k r p.0 h p.3 (close-after d w (ray_dir t p.0) e W.axis x.1 y.1 x.0 y.0 i l g) above)
 
   pub ray-close : (e : Vector) → Close t w e (by_side a r.mark b (sign (triple d w e)))

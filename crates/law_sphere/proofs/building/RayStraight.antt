@@ -1,12 +1,10 @@
 -- Close to a ray of a star that shows labels they are straight; where labels are straight close to an axis there is a ray.
-use Rattle.law_sphere.proofs.building.Prelude.{◌≡◌, ℕ, ◌+◌, ◌≤◌, pos, arith, ap, sym, ◌∙◌, ◌⊎◌, inl, inr, ⊎_elim, List, ◌∷◌, subst, [], ints, ring, at, ◌⊕◌, ◌⊖◌, ◌⊗◌, each, lies-each, sign, sign-scaled, Vector, IsDirection, cross, triple, dot, SameDirection, blend, Label, IsAt, Keeps, point_forms, arc_forms, by_side, Near, StraightAfter, Proper, Ray, Star, ray_dir, across, OnRay, StarLabel, on_ray, in_sector, in_only_sector, Follows, amount, far-keeps, parallel-back, IsStrictlyOn-stays, near-near, not-even, directed-by, far_directed-by, turn-ahead, across-same, Of, IsLabelling, ShowsLabels, self-pos, square-cross, nought-if, SameDirection-turned, SameDirection-trans, apart, level_cross_second, level-blend}
+use Rattle.law_sphere.proofs.building.Prelude.{◌≡◌, ℕ, ◌+◌, ◌≤◌, pos, arith, ap, sym, ◌∙◌, ◌⊎◌, inl, inr, ⊎_elim, List, ◌∷◌, subst, [], ring, at, ◌⊕◌, ◌⊖◌, ◌⊗◌, each, lies-each, sign, sign-scaled, Vector, IsDirection, cross, triple, dot, SameDirection, blend, Label, IsAt, Keeps, point_forms, arc_forms, by_side, Near, StraightAfter, Proper, Ray, Star, ray_dir, across, OnRay, StarLabel, on_ray, in_sector, in_only_sector, Follows, amount, far-keeps, parallel-back, IsStrictlyOn-stays, near-near, not-even, directed-by, far_directed-by, turn-ahead, across-same, Of, IsLabelling, ShowsLabels, self-pos, square-cross, nought-if, SameDirection-turned, SameDirection-trans, level_cross_second, level-blend}
+use Rattle.law_sphere.proofs.Simplified.{off-axis}
 use Rattle.law_sphere.proofs.building.BuiltLabels.{with_axes, labelling, axial}
 use Rattle.law_sphere.proofs.building.RayClose.{Close, across-level, ray-close}
 
 -- what is at right angles to a direction isn't parallel to it
-pub off-axis : (d e : Vector) → IsDirection d → IsDirection e → dot d e ≡ pos 0 → IsDirection (cross d e)
-off-axis d e hd he z = apart d d e (λ y. let p = self-pos d hd in omega (arith, ints)) z he
-
 -- ---- sectors go on close to a direction
 across-swap : (d g y : Vector) → dot g (across d y) ≡ dot (across d g) y
 across-swap d g y =

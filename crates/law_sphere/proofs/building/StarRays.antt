@@ -1,8 +1,7 @@
 -- IsAt a straight direction the rays of a simplified star that is well formed go different ways, and two opposite ones make it a straight star.
-use Rattle.law_sphere.proofs.building.Prelude.{◌≡◌, ℕ, zero, suc, ◌<◌, pos, ◌-ℤ◌, ◌<ℤ◌, arith, refl, ap, sym, ◌∙◌, inl, ⊎_elim, List, ◌∷◌, subst, length, Bool, true, false, cond, [], ints, ring, num, ◌⊖◌, sign, sign-scaled, nought-is, Vector, IsDirection, cross, triple, dot, IsZero, SameDirection, IsOpposite, Label, VectorBelow, IsAt, Map, NearLabel, Valid, NearStraight, Ray, Star, ray_dir, across, in_sector, LeavesAxis, StarShows, IsStraight, IsSimplified, normal-direction, same-plus, direction-by, below-itself, Beside, same_way, other_way, beside, normals-not_opposite, whole-passes, lowest-same, across-side, ray-level, straight-level, RaysApart, TwoRays, sector_count, IsWellFormed, dot-comm, dot-zero, zero-dot, self-pos, cross-turned, nought-if, opposites, SameDirection-turned, dir-signs, parallel-trans, parallel-in_plane, crossed, cross_of, dot_of, poly_triple, vec, numbers, is-at_none}
-use Rattle.law_sphere.proofs.Simplified.{not-even}
+use Rattle.law_sphere.proofs.building.Prelude.{◌≡◌, ℕ, zero, suc, ◌<◌, pos, ◌-ℤ◌, ◌<ℤ◌, arith, refl, ap, sym, ◌∙◌, inl, ⊎_elim, List, ◌∷◌, subst, length, Bool, true, false, cond, [], ints, ring, num, ◌⊖◌, sign, sign-scaled, nought-is, Vector, IsDirection, cross, triple, dot, IsZero, SameDirection, IsOpposite, Label, VectorBelow, IsAt, Map, NearLabel, Valid, NearStraight, Ray, Star, ray_dir, across, in_sector, LeavesAxis, StarShows, IsStraight, IsSimplified, normal-direction, same-plus, direction-by, below-itself, Beside, same_way, other_way, beside, normals-not_opposite, whole-passes, lowest-same, across-side, straight-level, RaysApart, TwoRays, sector_count, IsWellFormed, dot-comm, dot-zero, zero-dot, self-pos, cross-turned, nought-if, opposites, SameDirection-turned, dir-signs, parallel-trans, parallel-in_plane, crossed, cross_of, dot_of, poly_triple, vec, numbers, is-at_none}
+use Rattle.law_sphere.proofs.Simplified.{made-level, not-even, off-axis}
 use Rattle.law_sphere.proofs.building.RayClose.{across-level}
-use Rattle.law_sphere.proofs.building.RayStraight.{off-axis}
 use Rattle.law_sphere.proofs.building.StarSmooth.{beside-turn}
 use Rattle.law_sphere.proofs.building.BuiltAxes.{number-order}
 use Rattle.law_sphere.proofs.building.BuiltAround.{sector-there}
@@ -114,9 +113,6 @@ module _ (t : Star) (W : IsWellFormed t) (M : Map) (V : Valid M) (S : StarShows 
   abbrev d : Vector
   d = t.axis
 
-  at-ray : (k : ℕ) (r : Ray) → IsAt t.rays k r → (dot d (ray_dir t r) ≡ pos 0) × IsDirection (ray_dir t r)
-  at-ray k r a = ray-level t W.axis r (W.rays k r a)
-
   -- all rays lie along one line
   one-line : (i k : ℕ) (q r : Ray) → IsAt t.rays i q → IsAt t.rays k r → IsZero (cross (ray_dir t q) (ray_dir t r))
   one-line i k q r a b = parallel-trans (ray_dir t q) w (ray_dir t r) (λ z. W.axis (nought-if P.normal d P.direction z P.level)) (cross-turned w (ray_dir t q) (along i q a)) (along k r b)
@@ -125,11 +121,11 @@ module _ (t : Star) (W : IsWellFormed t) (M : Map) (V : Valid M) (S : StarShows 
       w = cross P.normal d
 
       along : (k : ℕ) (r : Ray) → IsAt t.rays k r → IsZero (cross (cross P.normal d) (ray_dir t r))
-      along k r a = let x = at-ray k r a in crossed P.normal d (ray_dir t r) (straight-level t M V S simple P k r a) x.0
+      along k r a = let x = made-level t W k r a in crossed P.normal d (ray_dir t r) (straight-level t M V S simple P k r a) x.0
 
   -- all other rays go the other way
   other-rays : (k : ℕ) (q r : Ray) → IsAt t.rays zero q → IsAt t.rays (suc k) r → IsOpposite (ray_dir t q) (ray_dir t r)
-  other-rays k q r a b = by (beside (ray_dir t q) (ray_dir t r) (let x = at-ray zero q a in x.1) (let x = at-ray (suc k) r b in x.1) (one-line zero (suc k) q r a b))
+  other-rays k q r a b = by (beside (ray_dir t q) (ray_dir t r) (let x = made-level t W zero q a in x.1) (let x = made-level t W (suc k) r b in x.1) (one-line zero (suc k) q r a b))
     where
       by : Beside (ray_dir t q) (ray_dir t r) → IsOpposite (ray_dir t q) (ray_dir t r)
       by (same_way w) = absurd (first-alone t W k q r a b w)
@@ -143,13 +139,13 @@ module _ (t : Star) (W : IsWellFormed t) (M : Map) (V : Valid M) (S : StarShows 
       u = ray_dir t q
 
       x : (dot d (ray_dir t q) ≡ pos 0) × IsDirection (ray_dir t q)
-      x = at-ray zero q a
+      x = made-level t W zero q a
 
       y : (dot d (ray_dir t r) ≡ pos 0) × IsDirection (ray_dir t r)
-      y = at-ray (suc zero) r b
+      y = made-level t W (suc zero) r b
 
       z : (dot d (ray_dir t s) ≡ pos 0) × IsDirection (ray_dir t s)
-      z = at-ray (suc (suc zero)) s c
+      z = made-level t W (suc (suc zero)) s c
 
       l : (m : Label) × IsAt t.sectors (suc zero) m
       l = sector-there t W.as_many (suc zero) r b

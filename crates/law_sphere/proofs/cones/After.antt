@@ -1,10 +1,10 @@
 -- Close after a direction on a circle the labels above, in and below the circle stay.
-use Rattle.law_sphere.proofs.cones.Prelude.{◌≡◌, ℕ, ◌+◌, pos, ◌+ℤ◌, ◌*ℤ◌, ◌<ℤ◌, arith, ap, sym, ◌∙◌, List, ◌∷◌, subst, [], ints, ring, at, num, ◌⊕◌, ◌⊗◌, neg, follows, given, none, sign, sign-plus, sign-minus, mul_pos, Lies, Vector, IsDirection, cross, dot, SameDirection, opposite, Label, by_side, Labelling, Near, StraightAfter, Proper, dot-comb, amount, far-same, past_source, level-same, Axial, self-pos, square-cross, nought-if, dir-self, dir-signs, direction-left, cross_of, dot-opposite, dot_of, dot_poly, level_cross_second, numbers, parallel-in_plane, triple-dot, vec, zero-dot}
-use Rattle.law_sphere.proofs.cones.Signs.{leading, leading-nought, far-leading, far-direction, straight-carried, straight-pos, straight-neg}
+use Rattle.law_sphere.proofs.cones.Prelude.{◌≡◌, ℕ, ◌+◌, pos, ◌+ℤ◌, ◌*ℤ◌, ◌<ℤ◌, arith, ap, sym, ◌∙◌, List, ◌∷◌, subst, [], ints, ring, at, num, ◌⊕◌, ◌⊗◌, neg, follows, given, none, sign, sign-plus, sign-minus, mul_pos, Lies, Vector, IsDirection, cross, dot, SameDirection, opposite, Label, by_side, Labelling, Near, StraightAfter, Proper, dot-comb, amount, far-same, past_source, level-same, Axial, self-pos, square-cross, dir-self, dir-signs, direction-left, cross_of, dot-opposite, dot_of, dot_poly, level_cross_second, numbers, parallel-in_plane, triple-dot, vec, zero-dot}
+use Rattle.law_sphere.proofs.cones.Signs.{leading, leading-nought, far-leading, straight-carried, straight-pos, straight-neg}
 use Rattle.law_sphere.proofs.cones.Smooth.{FormOf, proper-form, parallel-by, straight-if}
 use lib.IntN.{*ℤ-zero}
 use Rattle.law_sphere.proofs.StarKinds.{turn-ahead}
-use Rattle.law_sphere.proofs.building.RayStraight.{off-axis}
+use Rattle.law_sphere.proofs.Flips.{far_directed-by}
 
 -- (n x d) x (u x d) = d (d.(n x u)), and (n x d).(u x d) = (n.u)(d.d) - (n.d)(u.d)
 pub cross-same : (n u d : Vector) → SameDirection n u → IsDirection d → dot n d ≡ pos 0 → SameDirection (cross n d) (cross u d)
@@ -34,7 +34,7 @@ module _ (gs : List Vector) (F : Vector → Label → Type 0) (L : Labelling gs 
       let c = cross n d in
       let k = amount gs c in
       let z = past_source n d k in
-      let hz = far-direction gs F L axial d c k (omega arith) hd in
+      let hz = far_directed-by gs axial d c k (omega arith) hd in
       let one = λ (g : Vector) (l : Lies gs g) (e : dot g z ≡ pos 0).
       let r = leading-nought (dot g d) (dot g c) (sym (far-leading gs d c k (omega arith) g l) ∙ ap sign e) in parallel-by n d g hd q r.0 r.1 in
       let p = straight-if gs F L axial n z hn hz (past-level n d k q) one in
@@ -42,7 +42,7 @@ module _ (gs : List Vector) (F : Vector → Label → Type 0) (L : Labelling gs 
         pos = _;
         mark = _;
         neg = _;
-        labels = (k, λ i l. straight-carried gs F L axial n n _ _ _ z (past_source n d i) hz (far-direction gs F L axial d c i l hd) (dir-self n hn) (past-level n d i q) (far-same gs d c k i (omega arith) l) p);
+        labels = (k, λ i l. straight-carried gs F L axial n n _ _ _ z (past_source n d i) hz (far_directed-by gs axial d c i l hd) (dir-self n hn) (past-level n d i q) (far-same gs d c k i (omega arith) l) p);
       }
 
   -- the same circle
@@ -52,7 +52,7 @@ module _ (gs : List Vector) (F : Vector → Label → Type 0) (L : Labelling gs 
     λ i l.
         let hn = direction-left n u w in
         let v = cross-same n u d w hd q in
-        straight-carried gs F L axial n u a m b (past_source n d i) (past_source u d i) (far-direction gs F L axial d (cross n d) i (omega arith) hd) (far-direction gs F L axial d (cross u d) i (omega arith) hd) w
+        straight-carried gs F L axial n u a m b (past_source n d i) (past_source u d i) (far_directed-by gs axial d (cross n d) i (omega arith) hd) (far_directed-by gs axial d (cross u d) i (omega arith) hd) w
         (past-level u d i (level-same n u d d w (dir-self d hd) q))
         (λ g j. far-leading gs d (cross u d) i (omega arith) g j ∙ ap (leading (sign (dot g d))) (dir-signs (cross n d) (cross u d) g (direction-left (cross n d) (cross u d) v) v) ∙ sym (far-leading gs d (cross n d) i (omega arith) g j))
         (f i (omega arith)),
@@ -62,7 +62,7 @@ module _ (gs : List Vector) (F : Vector → Label → Type 0) (L : Labelling gs 
   after-one n a m b d a' m' b' hn hd (j, f) (k, g) =
       let i = j + k + amount gs (cross n d) in
       let z = past_source n d i in
-      let hz = far-direction gs F L axial d (cross n d) i (omega arith) hd in
+      let hz = far_directed-by gs axial d (cross n d) i (omega arith) hd in
       let p = f i (omega arith) in
       let r = g i (omega arith) in
       let h = self-pos n hn in
@@ -76,4 +76,4 @@ module _ (gs : List Vector) (F : Vector → Label → Type 0) (L : Labelling gs 
   pub after-form : (n : Vector) (a m b : Label) (d : Vector) → IsDirection n → IsDirection d → Proper a m b → StraightAfter F n a m b d → FormOf gs F L axial n
   after-form n a m b d hn hd proper (k, f) =
       let i = k + amount gs (cross n d) in
-      proper-form gs F L axial n a m b (past_source n d i) hn (far-direction gs F L axial d (cross n d) i (omega arith) hd) proper (f i (omega arith))
+      proper-form gs F L axial n a m b (past_source n d i) hn (far_directed-by gs axial d (cross n d) i (omega arith) hd) proper (f i (omega arith))

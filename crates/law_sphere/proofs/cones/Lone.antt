@@ -1,9 +1,10 @@
 -- Where no circle through a direction is needed close to it, there is one label all around it.
 use Rattle.law_sphere.proofs.cones.Prelude.{◌≡◌, ℕ, ◌+◌, ◌<◌, pos, ◌*ℤ◌, arith, ap, sym, ◌∙◌, ⊎_elim, List, ◌∷◌, subst, [], ints, ring, at, num, ◌⊕◌, ◌⊖◌, ◌⊗◌, follows, given, none, sign, sign-scaled, nought-or, Lies, Vector, IsDirection, cross, triple, dot, IsZero, blend, Label, Labelling, Near, Plain, StraightAfter, amount, past_source, carried, cross-direction_right, Axial, dot-zero, zero-dot, self-pos, triple-dot, square-cross, nought-if, triple-turned}
 use Rattle.law_sphere.proofs.Direct.{cross-self, between-off}
-use Rattle.law_sphere.proofs.cones.Signs.{leading, leading-joined, leading-same, far-leading, far-direction, near-of, near-at, near-back, near-by_signs, near-one}
+use Rattle.law_sphere.proofs.cones.Signs.{leading, leading-joined, leading-same, far-leading, near-of, near-at, near-back, near-by_signs, near-one}
 use Rattle.law_sphere.proofs.cones.Smooth.{even-side}
 use Rattle.law_sphere.proofs.cones.After.{After, after-of}
+use Rattle.law_sphere.proofs.Flips.{far_directed-by}
 
 module _ (gs : List Vector) (F : Vector → Label → Type 0) (L : Labelling gs F) (axial : Axial gs) (d : Vector) (hd : IsDirection d)
     (even : (n : Vector) (a m b : Label) → IsDirection n → dot n d ≡ pos 0 → StraightAfter F n a m b d → (a ≡ m) × (b ≡ m)) where
@@ -52,13 +53,13 @@ module _ (gs : List Vector) (F : Vector → Label → Type 0) (L : Labelling gs 
             let ev = even n r.pos r.mark r.neg off level r.labels in
             let i = r.labels.0 + amount gs (cross n d) in
             let z = past_source n d i in
-            let hz = far-direction gs F L axial d (cross n d) i (omega arith) hd in
+            let hz = far_directed-by gs axial d (cross n d) i (omega arith) hd in
             let p = r.labels.1 i (omega arith) in
             let sz = λ (g : Vector) (l : Lies gs g). far-leading gs d (cross n d) i (omega arith) g l ∙ leading-same (dot g d) (sign (dot g (cross n d))) (sign (dot g y)) (λ w. across g w) in
             let mm = near-one gs F L axial d y r.mark m hd (near-at gs F L axial d y z r.mark hd hz sz p.at_d) f in
             let k = amount gs e in
             let u = blend k z 1 e in
-            let hu = far-direction gs F L axial z e k (omega arith) hz in
+            let hu = far_directed-by gs axial z e k (omega arith) hz in
             let su = λ (g : Vector) (l : Lies gs g). far-leading gs z e k (omega arith) g l in
             let at_u = subst (F u) (even-side r.pos r.mark r.neg (sign (dot n e)) ev.0 ev.1 ∙ mm) (near-back gs F L axial z e u _ hz hu su (p.near e)) in (
               k,

@@ -4,7 +4,7 @@ pub use Rattle.law_sphere.proofs.Prelude.{Arc, ArcBelow, ByOp, Cone, Decided, Ge
 pub use Rattle.std.proofs.lemmas.Option.{none-some, same_Some}
 pub use Rattle.nef_space.proofs.Lists.{lies-pairs, pairs, is-at_one, is-at_nowhere}
 pub use Rattle.nef_space.proofs.Order.{sign_times}
-pub use Rattle.nef_space.proofs.Vectors.{parallel-opposite}
+pub use Rattle.nef_space.proofs.Vectors.{parallel-opposite, normal-direction}
 pub use Rattle.law_near.proofs.Decided.{every, label_of}
 pub use Rattle.law_near.proofs.Decisions.{same-label_or}
 pub use Rattle.law_sphere.proofs.Arcs.{level-same, sloop-at}
@@ -19,7 +19,7 @@ pub use Rattle.law_sphere.proofs.Generic.{amount, far-keeps, far-level, far-same
 pub use Rattle.law_sphere.proofs.Lists.{Found, at-lies, lies-at, none-at, search_list}
 pub use Rattle.law_sphere.proofs.Parallel.{arc-point, circle-point, past_source}
 pub use Rattle.law_sphere.proofs.Places.{IsOpposite-decided, direction-decided}
-pub use Rattle.law_sphere.proofs.Vectors.{below-itself, dot-comb, normal-direction}
+pub use Rattle.law_sphere.proofs.Vectors.{below-itself, dot-comb}
 pub use Rattle.law_sphere.proofs.Walk.{carried, cross-direction_left, cross-direction_right}
 pub use Rattle.law_sphere.specs.Forms.{axis_x}
 pub use Rattle.law_sphere.specs.Labelling.{PlainAt}

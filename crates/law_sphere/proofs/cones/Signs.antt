@@ -1,5 +1,5 @@
 -- Near labels of a labelling: each direction has one toward each vector, which the signs of the forms determine.
-use Rattle.law_sphere.proofs.cones.Prelude.{◌≡◌, ℕ, ◌+◌, ◌≤◌, ℤ, pos, ◌<ℤ◌, arith, refl, ap, sym, ◌∙◌, ⊎_elim, List, subst, Sign, minus, nought, plus, sign, sign_times, sign-plus, sign-minus, sign-scaled, sign_of_product, by_order, nought-is, nought-or, Lies, Vector, IsDirection, cross, dot, IsZero, SameDirection, blend, Label, SameSigns, by_side, Labelling, Near, StraightAt, amount, far-keeps, far-level, Axial, far_directed-by, dot-comm, self-pos, dir-signs, direction-left, dot-scaled}
+use Rattle.law_sphere.proofs.cones.Prelude.{◌≡◌, ℕ, ◌+◌, ◌≤◌, ℤ, pos, ◌<ℤ◌, arith, refl, ap, sym, ◌∙◌, ⊎_elim, List, subst, Sign, minus, nought, plus, sign, sign_times, sign-plus, sign-minus, sign-scaled, sign_of_product, by_order, nought-is, nought-or, Lies, Vector, IsDirection, cross, dot, IsZero, SameDirection, blend, Label, SameSigns, by_side, Labelling, Near, StraightAt, amount, far-keeps, far-level, Axial, far_directed-by, dot-comm, self-pos, dot-scaled}
 use Rattle.law_sphere.proofs.building.SideLabels.{side-same_way}
 
 -- ---- signs
@@ -54,23 +54,20 @@ parallel-signs g h d e hg p s = one d ∙ ap (sign_times (sign (dot g h))) s ∙
 
 -- ---- near labels
 module _ (gs : List Vector) (F : Vector → Label → Type 0) (L : Labelling gs F) (axial : Axial gs) where
-  pub far-direction : (d e : Vector) (k : ℕ) → amount gs e ≤ k → IsDirection d → IsDirection (blend k d 1 e)
-  far-direction d e k l h = far_directed-by gs axial d e k l h
-
   -- from the label of a vector whose signs are those near d toward e
   pub near-at : (d e z : Vector) (m : Label) → IsDirection d → IsDirection z → ((g : Vector) → Lies gs g → sign (dot g z) ≡ leading (sign (dot g d)) (sign (dot g e))) → F z m → Near F d e m
-  near-at d e z m hd hz s f = (amount gs e, λ k l. L.cells z (blend k d 1 e) m hz (far-direction d e k l hd) (λ g i. far-leading gs d e k l g i ∙ sym (s g i)) f)
+  near-at d e z m hd hz s f = (amount gs e, λ k l. L.cells z (blend k d 1 e) m hz (far_directed-by gs axial d e k l hd) (λ g i. far-leading gs d e k l g i ∙ sym (s g i)) f)
 
   pub near-back : (d e z : Vector) (m : Label) → IsDirection d → IsDirection z → ((g : Vector) → Lies gs g → sign (dot g z) ≡ leading (sign (dot g d)) (sign (dot g e))) → Near F d e m → F z m
   near-back d e z m hd hz s (n, f) =
       let k = n + amount gs e in
-      L.cells (blend k d 1 e) z m (far-direction d e k (omega arith) hd) hz (λ g i. s g i ∙ sym (far-leading gs d e k (omega arith) g i)) (f k (omega arith))
+      L.cells (blend k d 1 e) z m (far_directed-by gs axial d e k (omega arith) hd) hz (λ g i. s g i ∙ sym (far-leading gs d e k (omega arith) g i)) (f k (omega arith))
 
   pub near-of : (d e : Vector) → IsDirection d → (m : Label) × Near F d e m
   near-of d e h =
       let k = amount gs e in
       let z = blend k d 1 e in
-      let hz = far-direction d e k (omega arith) h in
+      let hz = far_directed-by gs axial d e k (omega arith) h in
       let r = L.exists z hz in
       (r.0, near-at d e z r.0 h hz (λ g i. far-leading gs d e k (omega arith) g i) r.1)
 
@@ -79,12 +76,12 @@ module _ (gs : List Vector) (F : Vector → Label → Type 0) (L : Labelling gs 
   near-by_signs d e c u m hd hc s f =
       let k = amount gs u in
       let z = blend k c 1 u in
-      let hz = far-direction c u k (omega arith) hc in
+      let hz = far_directed-by gs axial c u k (omega arith) hc in
       let i = λ (g : Vector) (l : Lies gs g). far-leading gs c u k (omega arith) g l in
       near-at c u z m hc hz i (near-back d e z m hd hz (λ g l. i g l ∙ s g l) f)
 
   pub near-one : (d e : Vector) (k l : Label) → IsDirection d → Near F d e k → Near F d e l → k ≡ l
-  near-one d e k l h (i, f) (j, g) = let t = i + j + amount gs e in L.one (blend t d 1 e) k l (far-direction d e t (omega arith) h) (f t (omega arith)) (g t (omega arith))
+  near-one d e k l h (i, f) (j, g) = let t = i + j + amount gs e in L.one (blend t d 1 e) k l (far_directed-by gs axial d e t (omega arith) h) (f t (omega arith)) (g t (omega arith))
 
   -- straight about a plane at z, and at c with the same signs
   pub straight-carried : (n u : Vector) (a m b : Label) (z c : Vector) → IsDirection z → IsDirection c → SameDirection n u → dot u c ≡ pos 0 → SameSigns gs z c → StraightAt F n a m b z → StraightAt F u a m b c

@@ -1,6 +1,6 @@
 -- Whether two points of a set are joined is decided, and their components are finitely many: points on the same sides of all carriers are joined, and so are points of which one lies on the sides of the other, or on the carriers
 -- between, where both have as many flat directions. Along an even segment nothing else happens.
-use Rattle.law_text.proofs.existence.Prelude.{◌≡◌, ℕ, zero, suc, ◌<◌, false, refl, sym, ap, ◌∙◌, ◌⊎◌, inl, inr, ⊎_elim, ◌↔◌, List, ◌∷◌, length, subst, [], Sign, minus, nought, plus, Lies, IsChain, Chained, SpacePoint, Form, Within, IsBetween, Set, FlatDim, IsEven, IsEvenPath, Joined, sign_at, carriers, SameSigns, of_point, OnPoints, FlatDim-one, mixed-of, reach-some, keeps-all, is_nought, Decided, decided-both, decided-to, decided-not, every, joined-turned, joined-both, joined-itself, flat_dim-of, reach_all, dim-cell, joined-cell, joined-even, IsAt, is-at_one, lies-at, at-or, even-by, chain-here, chain-link, chain-trans, chain-turned, HasComponents, is-at_within, JoinedIsDecided, ComponentsAreCounted, eq-decided, is-at_none, is-at_first}
+use Rattle.law_text.proofs.existence.Prelude.{◌≡◌, ℕ, zero, suc, ◌<◌, false, refl, sym, ap, ◌∙◌, ◌⊎◌, inl, inr, ⊎_elim, ◌↔◌, List, ◌∷◌, length, subst, [], Sign, minus, nought, plus, Lies, IsChain, Chained, SpacePoint, Form, Within, IsBetween, Set, FlatDim, IsEven, IsEvenPath, Joined, sign_at, carriers, SameSigns, of_point, IsOnSegment, FlatDim-one, mixed-of, reach-some, keeps-all, is_nought, Decided, decided-both, decided-to, decided-not, every, joined-turned, joined-both, joined-itself, flat_dim-of, reach_all, dim-cell, joined-cell, joined-even, IsAt, is-at_one, lies-at, at-or, even-by, chain-here, chain-link, chain-trans, chain-turned, HasComponents, is-at_within, JoinedIsDecided, ComponentsAreCounted, eq-decided, is-at_none, is-at_first}
 use Rattle.law_near.proofs.Cells.{KeepsPointSigns}
 use Rattle.law_near.proofs.Crossings.{opposite_signs, joint, sign-mixed}
 use Rattle.law_near.proofs.FlatDecided.{flat_dim-decided}
@@ -101,10 +101,10 @@ module _ (s : Set) where
   even-chained : (k : ℕ) (p q : SpacePoint) → IsEven s k p q → Chained (Link k) (cell p).number (cell q).number
   even-chained k p q even = settled-segment_points (carriers s) (λ r. Chained (Link k) (cell p).number (cell r).number) p q cells settled (chain-here (Link k) (cell p).number)
     where
-      cells : (r t : SpacePoint) → OnPoints p r q → OnPoints p t q → ((h : Form) → Lies (carriers s) h → sign_at h r ≡ sign_at h t) → Chained (Link k) (cell p).number (cell r).number → Chained (Link k) (cell p).number (cell t).number
+      cells : (r t : SpacePoint) → IsOnSegment p r q → IsOnSegment p t q → ((h : Form) → Lies (carriers s) h → sign_at h r ≡ sign_at h t) → Chained (Link k) (cell p).number (cell r).number → Chained (Link k) (cell p).number (cell t).number
       cells r t a b same c = chain-trans (Link k) (cell p).number (cell r).number (cell t).number c (chain-link (Link k) (cell r).number (cell t).number (cell-link k r t (even r a) (even t b) (λ h l n. sym (same h l))))
 
-      settled : (r : SpacePoint) → OnPoints p r q → (n : ℕ) × (0 < n) × ((t : SpacePoint) → OnPoints p t q → Within n r t → Chained (Link k) (cell p).number (cell r).number ↔ Chained (Link k) (cell p).number (cell t).number)
+      settled : (r : SpacePoint) → IsOnSegment p r q → (n : ℕ) × (0 < n) × ((t : SpacePoint) → IsOnSegment p t q → Within n r t → Chained (Link k) (cell p).number (cell r).number ↔ Chained (Link k) (cell p).number (cell t).number)
       settled r a = (
         reach_all (carriers s) r,
         reach-some (carriers s) r,

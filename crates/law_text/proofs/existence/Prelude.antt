@@ -1,5 +1,5 @@
 -- The names that most proofs cite, passed on from one place. Declares nothing.
-pub use Rattle.law_near.proofs.Prelude.{IsMeet, OnPoints, SameSigns, parallel-both}
+pub use Rattle.law_near.proofs.Prelude.{IsMeet, IsOnSegment, SameSigns, parallel-both}
 pub use Rattle.nef_geo.proofs.Prelude.{DividesAll, IsGcd, IsGcd-from_sub, IsGcd-from_zero, IsGcd-swap, IsReduced, IsSameRatios, mul-le, offset_limit, point_limit, unsigned_abs-mul, weight_limit}
 pub use Rattle.law_turns.proofs.Prelude.{Carriers, Cone, Mapped, SamePlane, Sorted, Triple, at-lies, at-sloop, chain-order, form_numbers, is-at_first, is-at_none, lies-at, map-list, negated_if, signed, signed_form, sort, turned_plane, turned_set}
 pub use Rattle.law_sphere.proofs.Prelude.{crossed, decided-not}

@@ -1,12 +1,10 @@
 use Rattle.nef_geo.proofs.Prelude.{◌≡◌, ◌≤◌, ℤ, pos, neg_ℤ, ◌-ℤ◌, ◌<ℤ◌, nat_abs, arith, w64, to_z, of_z, ◌∙◌, ◌∷◌, [], rules, ints, to_z-of_z, point_limit, load, const, wrap, ◌⊟◌, exact_of}
 use Rattle.nef_geo.proofs.Cramer.{IsSameRatios-from_point, IsSameRatios-turned}
 use Rattle.nef_geo.proofs.sides.turned.Goals as goal
-
-minus_is : (n : ℤ) → pos 0 -ℤ n ≡ neg_ℤ n
-minus_is n = omega (arith, ints)
+use Rattle.nef_space.proofs.Elementary.{nought-less}
 
 negated : (n : ℤ) → nat_abs n ≤ point_limit → to_z w64 (of_z w64 (pos 0 -ℤ to_z w64 (of_z w64 n))) ≡ neg_ℤ n
-negated n h = exact_of (point_limit ∷ []) (n ∷ []) (wrap w64 (const (pos 0) ⊟ wrap w64 (load 0))) (h, tt) tt ∙ minus_is n
+negated n h = exact_of (point_limit ∷ []) (n ∷ []) (wrap w64 (const (pos 0) ⊟ wrap w64 (load 0))) (h, tt) tt ∙ nought-less n
 
 pub returns-then-w-lt0 : goal.returns-then-w-lt0
 returns-then-w-lt0 c =

@@ -1,22 +1,19 @@
-use Rattle.nef_geo.proofs.Prelude.{◌≡◌, pos, ◌<ℤ◌, arith, sym, subst, to_z, of_z, w64, lit≤, ints, normal_limit, direction_limit, normal_of, Vector, vector, IsAtMost, IsDirection, IsNormal, SameDirection, IsStretched, form_of, vector_of, Plane}
+use Rattle.nef_geo.proofs.Prelude.{◌≡◌, arith, sym, subst, to_z, of_z, w64, lit≤, normal_limit, direction_limit, normal_of, Vector, vector, IsAtMost, IsDirection, SameDirection, IsStretched, form_of, vector_of, Plane}
 use Rattle.nef_geo.proofs.Normals.{IsNormal-parts}
 use Rattle.nef_geo.proofs.Products.{kept, normal_within, IsAtMost-weaken}
 use Rattle.nef_geo.proofs.ways.plane_normal.Goals as goal
-use Rattle.nef_space.proofs.Vectors.{same-vector}
+use Rattle.nef_space.proofs.Vectors.{normal-direction, same-vector}
 
 -- the numbers of a normal that pass through the machine's type
 passed : (h : Plane) → vector (to_z w64 (of_z w64 h.a)) (to_z w64 (of_z w64 h.b)) (to_z w64 (of_z w64 h.c)) ≡ normal_of (form_of h)
 passed h = let s = normal_within h in same-vector _ _ _ _ _ _ (kept h.a (omega (arith, s.of_x))) (kept h.b (omega (arith, s.of_y))) (kept h.c (omega (arith, s.of_z)))
-
-direction : (n : Vector) → IsNormal n → IsDirection n
-direction n h z = let l : pos 0 <ℤ n.z = h.third z.0 z.1 in let e : n.z ≡ pos 0 = z.2 in omega (arith, ints)
 
 pub reduced-requires : goal.reduced-requires
 reduced-requires c =
     let h = c.args.h.now in
     record {
       small = subst (IsAtMost direction_limit) (sym (passed h)) (IsAtMost-weaken normal_limit direction_limit (normal_of (form_of h)) (lit≤ tt) (normal_within h));
-      some = subst IsDirection (sym (passed h)) (direction (normal_of (form_of h)) h.normal);
+      some = subst IsDirection (sym (passed h)) (normal-direction (normal_of (form_of h)) h.normal);
     }
 
 pub returns : goal.returns

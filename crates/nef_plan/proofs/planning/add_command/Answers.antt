@@ -1,11 +1,12 @@
 use Rattle.std.specs.Prelude.{◌⊎◌}
-use Rattle.nef_plan.proofs.Prelude.{◌≡◌, ◌∙◌, ℕ, None, Some, inl, inr, ⊎_elim, true, false, List, [], ◌∷◌, filter, ap, refl, sym, subst, length, arith, slice_get_within, on_ok_weaker, turned_set, names-wider, each-set, Node, Command, Binds, TurnsRight, SpeaksOfFirst, GoesOn, IsBoundIn, IsTurnedFrom, AsksAbout, is_question}
+use Rattle.nef_plan.proofs.Prelude.{◌≡◌, ◌∙◌, ℕ, inl, inr, ⊎_elim, true, false, List, [], ◌∷◌, filter, ap, refl, sym, subst, length, arith, slice_get_within, on_ok_weaker, turned_set, names-wider, each-set, Node, Command, Binds, TurnsRight, SpeaksOfFirst, GoesOn, IsBoundIn, IsTurnedFrom, AsksAbout, is_question}
 use Rattle.nef_expr.proofs.Turns.{node-turned}
 use Rattle.nef_script.specs.declared.script.Command.TheVariants.{Bind, Turn, Has, Joined, Ray, Same, Count, Print}
 use Rattle.nef_script.specs.Commands.{LooksAt}
 use Rattle.nef_plan.proofs.Growth.{set-more}
 use Rattle.nef_plan.proofs.planning.add_command.Goals as goal
 use Rattle.nef_script.proofs.Looking.{within-more}
+use Rattle.std.proofs.lemmas.Option.{none-some, same_Some}
 
 -- a command that binds nothing asks a question
 is-question : (c : Command) → ((line n : ℕ) → c ≡ Bind line n → ⊥) → ((line n j t : ℕ) → c ≡ Turn line n j t → ⊥) → is_question c ≡ true
@@ -29,21 +30,15 @@ question-alone (Count line n) asks = refl
 question-alone (Print line n name) asks = refl
 
 -- it looks at what it asks about
-some-same : (n k : ℕ) → Some n ≡ Some k → k ≡ n
-some-same n k e = cc
-
-nothing-some : (k : ℕ) → None ≡ Some k → ⊥
-nothing-some k e = absurd (cc)
-
 asked-looks : (nodes : List Node) (c : Command) (k : ℕ) → AsksAbout c k → LooksAt nodes c k
-asked-looks nodes (Bind line n) k asks = absurd (⊎_elim (nothing-some k) (nothing-some k) asks)
-asked-looks nodes (Turn line n j t) k asks = absurd (⊎_elim (nothing-some k) (nothing-some k) asks)
-asked-looks nodes (Has line n p) k asks = ⊎_elim (some-same n k) (λ e. absurd (nothing-some k e)) asks
-asked-looks nodes (Joined line n p q) k asks = ⊎_elim (some-same n k) (λ e. absurd (nothing-some k e)) asks
-asked-looks nodes (Ray line n p d) k asks = ⊎_elim (some-same n k) (λ e. absurd (nothing-some k e)) asks
-asked-looks nodes (Same line i j) k asks = ⊎_elim (λ e. inl (some-same i k e)) (λ e. inr (some-same j k e)) asks
-asked-looks nodes (Count line n) k asks = ⊎_elim (some-same n k) (λ e. absurd (nothing-some k e)) asks
-asked-looks nodes (Print line n name) k asks = ⊎_elim (some-same n k) (λ e. absurd (nothing-some k e)) asks
+asked-looks nodes (Bind line n) k asks = absurd (⊎_elim (none-some k) (none-some k) asks)
+asked-looks nodes (Turn line n j t) k asks = absurd (⊎_elim (none-some k) (none-some k) asks)
+asked-looks nodes (Has line n p) k asks = ⊎_elim (λ e. sym (same_Some n k e)) (λ e. absurd (none-some k e)) asks
+asked-looks nodes (Joined line n p q) k asks = ⊎_elim (λ e. sym (same_Some n k e)) (λ e. absurd (none-some k e)) asks
+asked-looks nodes (Ray line n p d) k asks = ⊎_elim (λ e. sym (same_Some n k e)) (λ e. absurd (none-some k e)) asks
+asked-looks nodes (Same line i j) k asks = ⊎_elim (λ e. inl (sym (same_Some i k e))) (λ e. inr (sym (same_Some j k e))) asks
+asked-looks nodes (Count line n) k asks = ⊎_elim (λ e. sym (same_Some n k e)) (λ e. absurd (none-some k e)) asks
+asked-looks nodes (Print line n name) k asks = ⊎_elim (λ e. sym (same_Some n k e)) (λ e. absurd (none-some k e)) asks
 
 pub bind-requires-clause-set : goal.bind-requires-clause-set
 bind-requires-clause-set c =

@@ -1,16 +1,9 @@
-use Rattle.nef_smap.proofs.Prelude.{◌≡◌, ◌+◌, List, arith, refl, sym, ap, ◌∙◌, subst, rules, Option, Some, None, is_some, true, false, Vec, Global, Label, Link, map_of, svertex_of, one_if_label, AreArounds}
+use Rattle.nef_smap.proofs.Prelude.{◌≡◌, ◌+◌, List, arith, sym, ap, ◌∙◌, subst, rules, is_some, true, false, Vec, Global, Link, map_of, svertex_of, one_if_label, AreArounds}
 use Rattle.nef_smap.proofs.Joining.{svertex-listed}
 use Rattle.nef_smap.proofs.LinkLists.{around-of_below, arounds-none, arounds-more, arounds-pass, arounds-start, arounds-next}
 use Rattle.nef_smap.proofs.sface.around_links.Goals as goal
 use Rattle.nef_smap.proofs.sface.around_links.Goals.{then-is_some+in_ok-push, else-is_some}
-
-some-of : (o : Option Label) → is_some o ≡ true → (m : Label) × (o ≡ Some m)
-some-of None e = absurd cc
-some-of (Some m) e = (m, refl)
-
-none-of : (o : Option Label) → is_some o ≡ false → o ≡ None
-none-of None e = refl
-none-of (Some m) e = absurd cc
+use Rattle.nef_space.proofs.Elementary.{none-told, some-told}
 
 pub loop-number-init : goal.loop-number-init
 loop-number-init c =
@@ -38,7 +31,7 @@ loop-number-preserved c =
     elim c.if-is_some.branch [
       | then-is_some+in_ok-push w ↦
           let some : is_some v.around ≡ true = search rules in
-          let m = some-of v.around some in
+          let m = some-told v.around some in
           let one : one_if_label v.around ≡ 1 = ap one_if_label m.1 in
           let items = ap (λ (x : Vec Link Global). x.items) w.links-is ∙ w.in_ok-push.ensures.items in
           record {
@@ -48,7 +41,7 @@ loop-number-preserved c =
           }
       | else-is_some w ↦
           let none : is_some v.around ≡ false = search rules in
-          let m = none-of v.around none in
+          let m = none-told v.around none in
           let zero_one : one_if_label v.around ≡ 0 = ap one_if_label m in
           let items = ap (λ (x : Vec Link Global). x.items) w.links-is in
           record {

@@ -1,15 +1,12 @@
-use Rattle.nef_smap.proofs.Prelude.{◌≡◌, ◌-◌, List, [], ◌∷◌, arith, refl, sym, subst, Option, Some, None, is_some, true, IfOk-weaker, Label, Link, map_of, AreGrounds}
+use Rattle.nef_smap.proofs.Prelude.{◌≡◌, ◌-◌, List, [], ◌∷◌, arith, sym, subst, IfOk-weaker, Link, map_of, AreGrounds}
 use Rattle.nef_smap.proofs.LinkLists.{grounds-some, whole-last}
 use Rattle.nef_smap.proofs.sface.ground_links.Goals as goal
-
-some-of : (o : Option Label) → is_some o ≡ true → (m : Label) × (o ≡ Some m)
-some-of None e = absurd cc
-some-of (Some m) e = (m, refl)
+use Rattle.nef_space.proofs.Elementary.{some-told}
 
 pub returns : goal.returns
 returns c =
     let M = map_of c.args.map.now in
-    let m = some-of c.args.map.now.ground c.if-is_none.ensures in
+    let m = some-told c.args.map.now.ground c.if-is_none.ensures in
     let count = c.sides-count.result in
     let l : Link = record { first = count - 1; second = count } in
     let w = whole-last M m.0 m.1 in

@@ -1,12 +1,14 @@
 -- The turned carriers and vertices, paired, show the turned set.
 use Rattle.nef_turn.proofs.Prelude.{List, sym, subst, Plane, AreSorted, AreInOrder, Vertex, turned_set, HaveLeastMaps}
-use Rattle.nef_turn.proofs.Steps.{carriers-in_order, vertices-sorted, maps-least, ready}
+use Rattle.nef_turn.proofs.Steps.{maps-least, ready}
 use Rattle.nef_turn.proofs.turning.turn_complex.Goals as goal
+use Rattle.nef_cand.proofs.Held.{carriers-ordered}
+use Rattle.nef_cand.proofs.Prelude.{vertices-sorted}
 
 pub turned_carriers-requires : goal.turned_carriers-requires
 turned_carriers-requires c =
     let (s, S) = c.requires.shows in
-    record { ordered = subst AreInOrder (sym {A = List Plane} c.as_slice.ensures.all) (carriers-in_order s c.args.c.now S) }
+    record { ordered = subst AreInOrder (sym {A = List Plane} c.as_slice.ensures.all) (carriers-ordered s c.args.c.now S) }
 
 pub turned_vertices-requires : goal.turned_vertices-requires
 turned_vertices-requires c =

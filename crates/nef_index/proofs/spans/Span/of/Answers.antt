@@ -1,5 +1,6 @@
-use Rattle.nef_index.proofs.Prelude.{arith, ◌≡◌, ◌<◌, ◌≤◌, ◌^◌, ℤ, pos, ◌*ℤ◌, ◌≤ℤ◌, nat_abs, w64, to_z, of_z, ap, sym, ◌∙◌, subst, to_z-of_z, fits_signed_from_abs, point_limit, weight_limit, pos-abs}
+use Rattle.nef_index.proofs.Prelude.{arith, ◌≡◌, ◌<◌, ◌≤◌, ◌^◌, ℤ, nat_abs, w64, to_z, of_z, ap, ◌∙◌, to_z-of_z, fits_signed_from_abs, point_limit, weight_limit, pos-abs}
 use Rattle.nef_index.proofs.spans.Span.of.Goals as goal
+use Rattle.nef_space.proofs.Elementary.{product-above, product-below}
 
 -- a number of the point, as it was read
 number : (r y : ℤ) → r ≡ y → nat_abs y < 2 ^ 63 → to_z w64 (of_z w64 r) ≡ y
@@ -11,13 +12,6 @@ coordinate r y e l = number r y e (omega (arith, l))
 weight : (r v : ℤ) → r ≡ v → nat_abs v ≤ weight_limit → to_z w64 (of_z w64 r) ≡ v
 weight r v e l = number r v e (omega (arith, l))
 
--- the bounds, for the numbers of the point
-above : (m x y w v : ℤ) → (m *ℤ w) ≤ℤ x → x ≡ y → w ≡ v → pos (nat_abs v) ≡ v → (m *ℤ pos (nat_abs v)) ≤ℤ y
-above m x y w v l e f g = subst (λ (r : ℤ). (m *ℤ r) ≤ℤ y) (sym g) (subst (λ (r : ℤ). (m *ℤ r) ≤ℤ y) f (subst (λ (r : ℤ). (m *ℤ w) ≤ℤ r) e l))
-
-below : (m x y w v : ℤ) → x ≤ℤ (m *ℤ w) → x ≡ y → w ≡ v → pos (nat_abs v) ≡ v → y ≤ℤ (m *ℤ pos (nat_abs v))
-below m x y w v l e f g = subst (λ (r : ℤ). y ≤ℤ (m *ℤ r)) (sym g) (subst (λ (r : ℤ). y ≤ℤ (m *ℤ r)) f (subst (λ (r : ℤ). r ≤ℤ (m *ℤ w)) e l))
-
 pub returns-clause-point : goal.returns-clause-point
 returns-clause-point c =
     let p = c.args.point.now in
@@ -28,7 +22,7 @@ returns-clause-point c =
     let w = weight c.w.result p.w c.w.ensures.w p.w_small in
     let w2 = weight c.w-2.result p.w c.w-2.ensures.w p.w_small in
     let w3 = weight c.w-3.result p.w c.w-3.ensures.w p.w_small in (
-      (above c.of.result.low _ p.x _ p.w c.of.ensures.low x w g, below c.of.result.high _ p.x _ p.w c.of.ensures.high x w g),
-      (above c.of-2.result.low _ p.y _ p.w c.of-2.ensures.low y w2 g, below c.of-2.result.high _ p.y _ p.w c.of-2.ensures.high y w2 g),
-      (above c.of-3.result.low _ p.z _ p.w c.of-3.ensures.low z w3 g, below c.of-3.result.high _ p.z _ p.w c.of-3.ensures.high z w3 g),
+      (product-above c.of.result.low _ p.x _ p.w c.of.ensures.low x w g, product-below c.of.result.high _ p.x _ p.w c.of.ensures.high x w g),
+      (product-above c.of-2.result.low _ p.y _ p.w c.of-2.ensures.low y w2 g, product-below c.of-2.result.high _ p.y _ p.w c.of-2.ensures.high y w2 g),
+      (product-above c.of-3.result.low _ p.z _ p.w c.of-3.ensures.low z w3 g, product-below c.of-3.result.high _ p.z _ p.w c.of-3.ensures.high z w3 g),
     )
