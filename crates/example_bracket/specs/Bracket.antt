@@ -1,7 +1,7 @@
 -- The bracket as a set of half-spaces, and by the coordinates of its points.
 use Rattle.std.specs.Prelude.{◌*ℤ◌, ◌≤ℤ◌, ◌<ℤ◌, ◌∷◌, ◌&&◌, ◌||◌, ◌⊎◌, ℤ, pos, negsuc, nat_abs, List, [], Bool, true, false, eqb, leb}
 use Rattle.nef_space.specs.Prelude.{SpacePoint, Form, form, Set}
-use Rattle.law_turns.specs.Turned.{turned_set}
+use Rattle.law_geometry.specs.turns.Turned.{turned_set}
 
 -- ---- sets by rows of numbers
 -- the numbers a, b, c and d of the form a x + b y + c z + d

@@ -1,6 +1,6 @@
 -- What the turn from an arc's source to its target says of the directions on it.
 use Rattle.nef_arc.proofs.Prelude.{◌≡◌, zero, suc, ℤ, pos, negsuc, ◌<ℤ◌, ◌⊎◌, inl, inr, arith, refl, ◌↔◌, ints, Vector, dot, triple, sign_of, IsOnCircle, Arc, normal_vector, source_vector, target_vector, IsOn, IsEndOfArc, PastAndBefore, IsPastSource, IsBeforeTarget, IsPassedByArc, self-pos}
-use Rattle.law_sphere.proofs.cyclic.Planar.{parallel_from_turn, turn_from_parallel, turn_or_dot}
+use Rattle.law_geometry.proofs.sphere.cyclic.Planar.{parallel_from_turn, turn_from_parallel, turn_or_dot}
 
 by_sign : {R : Type 0} (z : ℤ) → (z <ℤ pos 0 → R) → (z ≡ pos 0 → R) → (pos 0 <ℤ z → R) → R
 by_sign (pos zero) f g h = g refl

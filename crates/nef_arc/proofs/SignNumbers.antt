@@ -4,8 +4,8 @@ use Rattle.std.specs.Bool.{IsTrue}
 use lib.Dec.{T}
 use lib.Signed.{mag}
 use Rattle.nef_case.specs.Between.{between_of}
-use Rattle.law_sphere.specs.cyclic.Signs.{sign_of_number}
-use Rattle.law_sphere.proofs.cyclic.Signs.{sgn_is_sign}
+use Rattle.law_geometry.specs.sphere.cyclic.Signs.{sign_of_number}
+use Rattle.law_geometry.proofs.sphere.cyclic.Signs.{sgn_is_sign}
 
 number_of_sign-is : (z : ℤ) → number_of_sign (sign_of z) ≡ sign_of_number z
 number_of_sign-is (pos zero) = refl

@@ -1,6 +1,6 @@
 -- The way back along an arc, and the order of two directions on it.
 use Rattle.nef_arc.proofs.Prelude.{◌≡◌, Ordering, Less, Equal, Greater, refl, sym, subst, ◌↔◌, ◌⊎◌, inl, inr, MatchOrdering, Vector, opposite, IsDirection, SameDirection, IsOnCircle, IsStrictlyOn, way_back_passes_the_same, Arc, normal_vector, source_vector, IsOn, IsOnBefore, SameDirection-turned}
-use Rattle.law_sphere.proofs.cyclic.Cyclic.{one_is_first, never_both_ways}
+use Rattle.law_geometry.proofs.sphere.cyclic.Cyclic.{one_is_first, never_both_ways}
 use Rattle.nef_arc.proofs.Ends.{seen_from_source}
 
 pub back_passes_the_same : (n s t n' s' t' : Vector) → n' ≡ opposite n → s' ≡ t → t' ≡ s → IsDirection n → IsOnCircle n s → IsOnCircle n t → (d : Vector) → IsStrictlyOn n' s' t' d ↔ IsStrictlyOn n s t d

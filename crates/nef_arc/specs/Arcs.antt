@@ -3,7 +3,7 @@ use Rattle.std.specs.Prelude.{◌<ℤ◌, ◌⊎◌}
 use Rattle.nef_geo.specs.Prelude.{pos, IsBelow, Vector, SameDirection, triple, direction_numbers, vector_of, sign_of}
 use Rattle.nef_geo.specs.declared.sign.Sign.{Sign}
 use Rattle.nef_geo.specs.declared.sign.Sign.TheVariants.{Minus, Zero, Plus}
-use Rattle.law_sphere.specs.cyclic.Arcs.{IsStrictlyOn}
+use Rattle.law_geometry.specs.sphere.cyclic.Arcs.{IsStrictlyOn}
 use Rattle.nef_arc.specs.declared.arc.Arc.{Arc}
 use Rattle.nef_arc.specs.declared.arc.Crossing.{Crossing}
 use Rattle.nef_arc.specs.declared.arc.Crossing.TheVariants.{Nowhere, One, Two}

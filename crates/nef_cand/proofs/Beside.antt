@@ -1,6 +1,6 @@
 -- An edge reaches along x from its low end to its high end.
 use Rattle.nef_cand.proofs.Prelude.{ℕ, ℤ, pos, ◌*ℤ◌, ◌<ℤ◌, ◌≤ℤ◌, ◌≤◌, List, arith, sym, subst, inl, inr, ⊎_elim, eq-or-lt_of_le, ints, fraction-le-trans, IsAt, SpacePoint, IsPointBelow, IsBetween, Set, point_of, Plane, is-at_one, is-at_map, is-at_within, map-is_at, is-at_some, coordinate_x, IsWithin, Complex, Edge, Vertex, Bounds, Span, vertex_of, edge_of, ShowsSet, AreAlone, IsInSpan, within-both, weight-positive, CutsEdge, IsApart}
-use Rattle.law_complex.proofs.Spans.{within-between}
+use Rattle.law_geometry.proofs.complex.Spans.{within-between}
 use Rattle.nef_complex.proofs.Rising.{low-rises}
 
 -- ---- a point that is below another

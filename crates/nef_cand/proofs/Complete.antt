@@ -1,6 +1,6 @@
 -- What is listed, and that all vertices of a combination are.
 use Rattle.nef_cand.proofs.Prelude.{◌≡◌, ℕ, pos, List, [], ◌++◌, map, arith, refl, sym, subst, ◌⊎◌, inl, inr, ⊎_elim, Contains, IsVertex, SpacePoint, Form, form_at, SamePoint, IsPointBelow, IsBetween, Set, point_of, form_of, Plane, Point, point-decided, IsAt, InOrder, search_list, Found, is-at_within, is-at_is, map-is_at, is-at_map, contains-at, at-contains, HasEnds, Shows, IsCut, IsNearCut, HoldsEdge, IsVertexOfBoth, candidates-suffice, Complex as ProgramComplex, complex_of, ShowsSet, Named, First, Second, named_point, IsAmong, IsNamed, IsNamedIn, AreNamed, IsOnceEach, IsListed, AreExactly, IsVertexOf, AreCandidates, AddsPoints, AddsAll, CutsOne, ListsCandidates, HasTogether, IsCandidate, is-at_read}
-use Rattle.law_complex.specs.Complexes.{Vertex, Edge, Complex}
+use Rattle.law_geometry.specs.complex.Complexes.{Vertex, Edge, Complex}
 use Rattle.nef_cand.proofs.Adding.{adds-both, adds-with}
 use Rattle.nef_cand.proofs.Apart.{adds-after}
 use Rattle.nef_cand.proofs.Framed.{each-framed}

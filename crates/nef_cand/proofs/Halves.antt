@@ -1,13 +1,13 @@
 -- The vertices of a half are vertices of the frame, or points where its plane crosses an edge of the frame.
 use Rattle.nef_cand.proofs.Prelude.{◌≡◌, ℕ, zero, suc, ◌+◌, ◌<◌, ℤ, pos, neg_ℤ, ◌+ℤ◌, ◌-ℤ◌, ◌*ℤ◌, Bool, true, false, List, [], ◌∷◌, map, arith, ap, sym, ◌∙◌, ◌⊎◌, inl, inr, ⊎_elim, ◌↔◌, ints, sign, ring, Poly, at, num, neg, ◌⊕◌, ◌⊖◌, ◌⊗◌, given, none, follows, by_order, sign-minus, minus-is, sign-plus, plus-is, sign-scaled, nought-is, nought-or, square_pos, HasLabel, Flat, HasFlat, FlatDim, IsVertex, SpacePoint, Form, Ratio, step, Within, form_at, slope, toward, InFrame, Set, InHalf, Vector, cross, IsDirection, Label, Out, Not, In, Point, sign_at, combination, HasFlat-fewer, flat_dim-of, never-flat, Shows, SamePlane, IsEdgePoint, HoldsEdge, edge-points, edge-way, plane-turned, plane-point, plane-slope, plane-way, between-ends, Named, named_point, IsOnceEach, IsListed, IsVertexOf, IsCutBy, AreCutCandidates, AddsPoints, positive-factor}
 use Rattle.nef_space.specs.Sets.{Holds}
-use Rattle.law_near.proofs.Near.{reach, keeps, weaken, form-step}
-use Rattle.law_near.proofs.FlatOperations.{flat-combination}
-use Rattle.law_complex.specs.Complexes.{Complex}
-use Rattle.law_complex.proofs.Joining.{edges-complete}
+use Rattle.law_geometry.proofs.near.Near.{reach, keeps, weaken, form-step}
+use Rattle.law_geometry.proofs.near.FlatOperations.{flat-combination}
+use Rattle.law_geometry.specs.complex.Complexes.{Complex}
+use Rattle.law_geometry.proofs.complex.Joining.{edges-complete}
 use Rattle.nef_cand.proofs.Adding.{adds-both}
 use Rattle.nef_cand.proofs.Complete.{listed-decided, added-exactly, vertex-of}
-use Rattle.law_sphere.proofs.Walk.{cross-direction_left}
+use Rattle.law_geometry.proofs.sphere.Walk.{cross-direction_left}
 
 -- ---- what is flat for a half
 -- a half holds where its form has the sign

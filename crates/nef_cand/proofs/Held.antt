@@ -1,16 +1,16 @@
 -- Two carriers hold each edge, and where planes cut edges.
 use Rattle.nef_cand.proofs.Prelude.{◌≡◌, ℕ, pos, List, Option, Some, None, IsNone, IfSome, refl, sym, subst, ◌↔◌, MatchOption, Lies, nought-is, Flat, SpacePoint, Form, form_at, normal_of, toward, SamePoint, IsBetween, Set, IsDirection, HasDependentNormals, IsOnlyCommon, point_of, form_of, HasOppositeSigns, Plane, Point, carriers, EdgeSupport, start, start-between, edge-support, IsAt, is-at_one, map-is_at, is-at_map, HasEnds, SamePlane, IsVertexPoint, IsEdgePoint, edge-points, edge-way, plane-turned, plane-point, Vertex, Edge, Complex, vertex_of, edge_of, complex_of, ShowsSet, through-both, listed_edge, ends, apart, Named, Operand, IsVertexOf, IsCutBy, IsNamedIn, AreInOrder, HoldsBoth, IsCutBetween, CutsEdge, AddsPoints, parallel-both, map, IsBelow, form_numbers}
-use Rattle.law_complex.specs.Complexes.{Vertex as PlainVertex, Edge as PlainEdge}
-use Rattle.law_complex.specs.Complexes.{Complex as PlainComplex}
+use Rattle.law_geometry.specs.complex.Complexes.{Vertex as PlainVertex, Edge as PlainEdge}
+use Rattle.law_geometry.specs.complex.Complexes.{Complex as PlainComplex}
 use Rattle.nef_cand.specs.declared.named.CandidateName.TheVariants as name
 use Rattle.nef_cand.proofs.Adding.{adds-as, AnyAt}
 use Rattle.nef_cand.proofs.Crossing.{never-dependent, meet-crosses, never-crosses}
 use Rattle.nef_cand.proofs.EdgeLines.{AreHeldByTwo}
 use Rattle.nef_cand.proofs.Planes.{IsLineThrough}
-use Rattle.law_complex.proofs.Planes.{same-parallel}
+use Rattle.law_geometry.proofs.complex.Planes.{same-parallel}
 use Rattle.nef_space.proofs.Elementary.{same-itself}
 use Rattle.nef_smap.proofs.SortedOnce.{map-in_order}
-use Rattle.law_complex.specs.Shows.{Carriers}
+use Rattle.law_geometry.specs.complex.Shows.{Carriers}
 
 -- ---- the planes of a segment
 

@@ -1,7 +1,7 @@
 -- A plane that leaves the open frame on one side crosses no edge.
 use Rattle.nef_cand.proofs.Prelude.{◌≡◌, ℕ, ℤ, pos, neg_ℤ, ◌+◌, ◌*◌, ◌<◌, ◌≤◌, ◌+ℤ◌, ◌*ℤ◌, ◌≤ℤ◌, ◌<ℤ◌, nat_abs, [], ◌∷◌, arith, ap, sym, subst, ◌∙◌, inr, ⊎_elim, cases_lt, ints, by_lt_z, unsigned_abs-mul, mul-le-mul_right, ring, at, neg, ◌⊗◌, abs_plus, abs_times, mul_nonneg, mul_le_right, half_side, point_limit, SpacePoint, Form, form_at, InClosedFrame, Set, HasOppositeSigns, Shows, dim-framed, IsCutBy, MissesFrame}
 use lib.IntN.{zero-*ℤ}
-use Rattle.law_complex.specs.Complexes.{Complex}
+use Rattle.law_geometry.specs.complex.Complexes.{Complex}
 use Rattle.nef_cand.proofs.Crossing.{never-crosses}
 
 module _ (h : Form) (far : half_side * (nat_abs h.a + nat_abs h.b + nat_abs h.c) ≤ nat_abs h.d) where

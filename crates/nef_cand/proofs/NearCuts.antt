@@ -1,6 +1,6 @@
 -- Cuts where the other set has something in the carrier that cuts.
 use Rattle.nef_cand.proofs.Prelude.{◌≡◌, ℕ, ◌+◌, ◌<◌, pos, List, [], ◌∷◌, ◌++◌, length, map, None, arith, refl, sym, subst, ◌⊎◌, inl, inr, Contains, eq-or-lt_of_le, Contains-append_left, Contains-append_right, Contains-push, Contains-push_cases, IsAt, IsVertex, SpacePoint, Form, form_at, SamePoint, Set, point_of, form_of, Plane, Point, same-point_sym, is-at_one, is-at_within, is-at_map, at-contains, contains-at, IsNearCut, IsSkeletonIn, HoldsEdge, IsEdgePoint, candidates-suffice, same-point_trans, Complex, Edge, Span, complex_of, ShowsSet, AreAlone, IsInSpan, IsNarrower, span-between, spanned, span-wider, narrower-still, is-at_some, IsSkeletonAt, held-same, skeleton-same, Named, Operand, First, Second, Spanned, IsVertexOf, IsCutBy, named_point, IsNamedBetween, AddsAll, HasBoth, CutsEdge, MissesFrame, IsSpannedIn, AreSpannedIn, IsSpanned, AreSpannedCarriers, AreWithinSpan, AreThoseNear, IsApart, IsHeldIn, IsCarrierCut, IsHeldCut, CutsBy, CutsHeld, ListsCuts, CutsEdgeHeld, CutsEdgeByOne, CutsEdgeHeldOne, IsHeldCutOf, HasTogether, IsCandidate, ListsNear}
-use Rattle.law_complex.specs.Complexes.{Complex as PlainComplex}
+use Rattle.law_geometry.specs.complex.Complexes.{Complex as PlainComplex}
 use Rattle.nef_locate.specs.declared.point.Place.{Place as FoundPlace}
 use Rattle.nef_cand.specs.declared.named.CandidateName.TheVariants as name
 use Rattle.nef_cand.proofs.Adding.{AnyAt, adds-none, adds-as}

@@ -1,7 +1,7 @@
 -- The names that most proofs cite, passed on from one place. Declares nothing.
-pub use Rattle.law_near.proofs.Prelude.{HasFlat, HasLabel, In, InFrame, InHalf, IsVertex, Label, Not, Ratio, Within, abs_plus, by_lt_z, combination, mul_le_right, sign-scaled, sign_at, square_pos, step}
+pub use Rattle.law_geometry.proofs.near.Prelude.{HasFlat, HasLabel, In, InFrame, InHalf, IsVertex, Label, Not, Ratio, Within, abs_plus, by_lt_z, combination, mul_le_right, sign-scaled, sign_at, square_pos, step}
 pub use Rattle.nef_geo.proofs.Prelude.{IsNone, IsOnlyCommon, lit≤, ◌&&◌}
-pub use Rattle.law_complex.proofs.Prelude.{HasFlat-fewer, IsNearCut, IsVertexOfBoth, flat_dim-of, is-at_none}
+pub use Rattle.law_geometry.proofs.complex.Prelude.{HasFlat-fewer, IsNearCut, IsVertexOfBoth, flat_dim-of, is-at_none}
 pub use Rattle.nef_smap.proofs.Prelude.{eq_by_cmp, fraction-le-trans}
 pub use Rattle.nef_complex.proofs.Prelude.{AreInOrder, Contains, Contains-permutation, Equal, FlatDim, IfSome, IsBelow, IsEdgeBelow, IsPermutation, IsPermutation-sym, IsSamePlane, IsSkeletonIn, IsSorted, IsTotalOrder, IsWithin, Less, Ordering, Out, ShowsSet, append_assoc, coordinate_x, dedup, drop, form_numbers, length-drop, map, on_total, point_below-apart, point_below-same, point_below-trans, same-point_below, same_planes_equal, same_points_equal, take, take_all, ◌++◌}
 pub use Rattle.nef_plane.proofs.Prelude.{AreAlone, AreHolders, Bool, Complex, Decides-int_eq, Edge, EdgeSupport, Flat, Form, HasEnds, HasOppositeSigns, HoldsBoth, InClosedFrame, IsAt, IsBetween, IsDirection, IsEdgePoint, IsInSpan, IsNarrower, IsPointBelow, IsVertexPoint, IsZero, Lies, List, MatchOption, None, Option, Plane, Point, Poly, SamePlane, SamePoint, Set, Shows, Some, SpacePoint, Span, Vector, Vertex, [], abs_times, ap, apart, arith, at, is-at_map, between-ends, between-same, by_order, carriers, cases_lt, complex_of, cross, crossed-parted, edge-points, edge-support, edge_of, ends, eq-or-lt_of_le, false, follows, form_at, form_of, get_or, given, half_side, held-between, high-within, hit_point, holders-within, inl, inr, int_eq, ints, is-at_get, is-at_is, is-at_one, is-at_some, is-at_within, length, listed_edge, low-within, ltb-true, map-is_at, minus-is, mul-le-mul_right, mul_nonneg, nat_abs, neg, neg_ℤ, none, normal_of, nought-is, nought-or, num, parallel-both, parted-cut, plane-point, plane-slope, plane-turned, plane-way, plus-is, point_limit, point_of, pos, refl, ring, rules, same-point_sym, same-point_trans, sign, sign-minus, sign-plus, slope, span-between, span-wider, start, start-between, subst, suc, sym, through-both, positive-factor, toward, true, unsigned_abs-mul, vertex-same, vertex_of, zero, ℕ, ℤ, ⊎_elim, ◌*ℤ◌, ◌*◌, ◌+ℤ◌, ◌+◌, ◌-ℤ◌, ◌-◌, ◌<ℤ◌, ◌<◌, ◌^◌, ◌↔◌, ◌∙◌, ◌∷◌, ◌≡◌, ◌≤ℤ◌, ◌≤◌, ◌⊎◌, ◌⊕◌, ◌⊖◌, ◌⊗◌}
@@ -12,12 +12,12 @@ pub use Rattle.std.proofs.lemmas.List.Elements.{Contains-append_cases, Contains-
 pub use Rattle.std.proofs.lemmas.List.Sorted.{answers_always, ranks_by}
 pub use Rattle.std.proofs.lemmas.Result.{on_ok_weaker}
 pub use Rattle.std.specs.Bool.{IsTrue}
-pub use Rattle.law_near.proofs.Mixed.{point-decided}
+pub use Rattle.law_geometry.proofs.near.Mixed.{point-decided}
 pub use Rattle.nef_geo.specs.Meet.{HasDependentNormals}
-pub use Rattle.law_sphere.proofs.Lists.{Found}
-pub use Rattle.law_complex.proofs.Candidates.{candidates-suffice, never-flat}
-pub use Rattle.law_complex.proofs.Edges.{edge-way}
-pub use Rattle.law_complex.specs.Laws.{HoldsEdge, IsCut}
+pub use Rattle.law_geometry.proofs.sphere.Lists.{Found}
+pub use Rattle.law_geometry.proofs.complex.Candidates.{candidates-suffice, never-flat}
+pub use Rattle.law_geometry.proofs.complex.Edges.{edge-way}
+pub use Rattle.law_geometry.specs.complex.Laws.{HoldsEdge, IsCut}
 pub use Rattle.nef_classes.proofs.ClassLists.{take-more}
 pub use Rattle.nef_smap.proofs.Lists.{at-contains, contains-at}
 pub use Rattle.nef_smap.proofs.SideLists.{is-at_left, at-right, is-at_either}

@@ -3,9 +3,9 @@ use Rattle.std.specs.Prelude.{◌≡◌, ◌⊎◌}
 use Rattle.nef_complex.specs.Prelude.{ℕ, pos, List, point_of, Point, IsAt, IsVertexPoint}
 use Rattle.std.specs.List.{Contains}
 use Rattle.nef_space.specs.Points.{SpacePoint, Form, form_at, SamePoint, InClosedFrame, IsPointBelow, IsBetween}
-use Rattle.law_sphere.specs.Least.{InOrder}
-use Rattle.law_complex.specs.Complexes.{Vertex, Edge, Complex, HasEnds}
-use Rattle.law_complex.specs.Laws.{HoldsEdge, IsCut}
+use Rattle.law_geometry.specs.sphere.Least.{InOrder}
+use Rattle.law_geometry.specs.complex.Complexes.{Vertex, Edge, Complex, HasEnds}
+use Rattle.law_geometry.specs.complex.Laws.{HoldsEdge, IsCut}
 
 -- one of the points is y
 abbrev pub IsListed : List Point → SpacePoint → Type 0

@@ -2,8 +2,8 @@
 use Rattle.std.specs.Prelude.{◌≡◌}
 use Rattle.nef_complex.specs.Prelude.{List, SpacePoint, SamePoint, IsPointBelow, point_of, Point, IsVertexPoint, IsEdgePoint}
 use Rattle.std.specs.List.{Contains}
-use Rattle.law_sphere.specs.Least.{InOrder}
-use Rattle.law_complex.specs.Complexes.{Complex}
+use Rattle.law_geometry.specs.sphere.Least.{InOrder}
+use Rattle.law_geometry.specs.complex.Complexes.{Complex}
 use Rattle.nef_locate.specs.Places.{IsPlaceIn, IsPlaceAt}
 use Rattle.nef_cand.specs.declared.named.Operand.{Operand}
 use Rattle.nef_cand.specs.declared.named.Operand.TheVariants.{First, Second}

@@ -2,9 +2,9 @@
 use Rattle.std.specs.Prelude.{◌≡◌, ◌<◌, ◌≤◌, ◌⊎◌, ◌++◌, ℕ, List, [], take, map, Option}
 use Rattle.std.specs.List.{Contains}
 use Rattle.nef_complex.specs.Prelude.{MatchOption, IsAt, SpacePoint, SamePoint, IsPointBelow, Set, point_of, form_of, Plane, Point, complex_of, ShowsSet, IsInSpan, IsNarrower}
-use Rattle.law_sphere.specs.Least.{InOrder}
-use Rattle.law_complex.specs.Complexes.{Complex as PlainComplex}
-use Rattle.law_complex.specs.Laws.{IsCut, IsSkeletonIn, IsVertexOfBoth}
+use Rattle.law_geometry.specs.sphere.Least.{InOrder}
+use Rattle.law_geometry.specs.complex.Complexes.{Complex as PlainComplex}
+use Rattle.law_geometry.specs.complex.Laws.{IsCut, IsSkeletonIn, IsVertexOfBoth}
 use Rattle.nef_complex.specs.declared.complex.Complex.{Complex}
 use Rattle.nef_index.specs.declared.skeleton.Edge.{Edge}
 use Rattle.nef_complex.specs.declared.complex.Vertex.{Vertex}

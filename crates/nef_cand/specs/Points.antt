@@ -4,7 +4,7 @@ use Rattle.nef_complex.specs.Prelude.{ℕ, pos, List, map, point_of, form_of, Pl
 use Rattle.std.specs.List.{Contains}
 use Rattle.nef_space.specs.Points.{SpacePoint, Form, form_at, InClosedFrame, SamePoint, IsBetween}
 use Rattle.nef_geo.specs.Steps.{HasOppositeSigns}
-use Rattle.law_complex.specs.Complexes.{Complex as PlainComplex}
+use Rattle.law_geometry.specs.complex.Complexes.{Complex as PlainComplex}
 use Rattle.nef_complex.specs.declared.complex.Complex.{Complex}
 use Rattle.nef_index.specs.declared.skeleton.Edge.{Edge}
 use Rattle.nef_complex.specs.declared.complex.Vertex.{Vertex}

@@ -1,9 +1,9 @@
 -- Each item lies in a carrier.
 use Rattle.nef_complex.proofs.Prelude.{◌≡◌, ℕ, pos, List, map, sym, ◌∙◌, ⊎_elim, subst, sign, nought-is, nought-or, SpacePoint, Form, form_at, normal_of, Set, dot, IsNormal, SameDirection, form_of, point_of, Plane, step-within, reach_all, carriers, keeps-all, ahead, near-ahead, facet-support, by_side, IsAt, Item, item_normal, item_pos, item_mark, item_neg, near-item, item-point, map-is_at, is-at_map, Corner as PlainCorner, IsCorner, Shows, near-germ, in-facet, plane-turned, plane-point, plane-slope, Vertex, vertex_of, ItemsAreHeld, SameDirection-turned}
-use Rattle.law_near.proofs.Germs.{sample, sample-short}
-use Rattle.law_complex.specs.Complexes.{Vertex as PlainVertex, Edge as PlainEdge, Complex as PlainComplex}
-use Rattle.law_complex.proofs.Cones.{FlatAre}
-use Rattle.law_complex.proofs.FacetSides.{flats-one}
+use Rattle.law_geometry.proofs.near.Germs.{sample, sample-short}
+use Rattle.law_geometry.specs.complex.Complexes.{Vertex as PlainVertex, Edge as PlainEdge, Complex as PlainComplex}
+use Rattle.law_geometry.proofs.complex.Cones.{FlatAre}
+use Rattle.law_geometry.proofs.complex.FacetSides.{flats-one}
 
 -- a carrier that holds the vertex and has the item's normal, where its normal is one in normal form
 pub record IsCarried (C : PlainComplex) (v : PlainVertex) (x : Item) : Type 0 where

@@ -1,6 +1,6 @@
 -- The ends of an edge, and the planes that hold both.
 use Rattle.nef_complex.proofs.Prelude.{◌≡◌, ℕ, ◌<◌, length, pos, ap, ◌∙◌, subst, [], ◌∷◌, at, num, ◌⊖◌, ◌⊗◌, given, none, follows_times, SpacePoint, Form, form_at, slope, toward, SamePoint, IsBetween, Set, IsDirection, point_of, slope-toward, start, start-toward, IsAt, is-at_one, map-is_at, is-at_map, is-at_within, HasEnds, Shows, IsVertexPoint, IsEdgePoint, Vertex, Edge, Complex, vertex_of, edge_of, complex_of, HoldsBoth, direction-left}
-use Rattle.law_complex.specs.Complexes.{Vertex as PlainVertex, Edge as PlainEdge}
+use Rattle.law_geometry.specs.complex.Complexes.{Vertex as PlainVertex, Edge as PlainEdge}
 use Rattle.nef_space.proofs.Elementary.{weight-positive}
 
 -- a plane through a point between two others, which holds the direction from the one to the other, holds both

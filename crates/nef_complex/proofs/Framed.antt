@@ -1,8 +1,8 @@
 -- What stands on the skeleton lies in the closed frame.
 use Rattle.nef_complex.proofs.Prelude.{ℕ, ◌*◌, ◌<◌, ◌≤◌, nat_abs, arith, inl, inr, ⊎_elim, cases_lt, half_side, FlatDim, SpacePoint, Form, InClosedFrame, Set, FlatDim-one, IsSkeletonIn, Shows, IsVertexPoint, IsEdgePoint, meets_vertex, meets_edge, edge-points, Complex, complex_of, ShowsSet}
-use Rattle.law_near.proofs.Frames.{flat_dim-outside}
-use Rattle.law_complex.specs.Complexes.{Complex as PlainComplex}
-use Rattle.law_near.proofs.Same.{dim-same}
+use Rattle.law_geometry.proofs.near.Frames.{flat_dim-outside}
+use Rattle.law_geometry.specs.complex.Complexes.{Complex as PlainComplex}
+use Rattle.law_geometry.proofs.near.Same.{dim-same}
 
 -- outside the closed frame all directions are flat
 dim-outside : (s : Set) (y : SpacePoint) (n : ℕ) → n < 3 → (InClosedFrame y → ⊥) → FlatDim s y n → ⊥

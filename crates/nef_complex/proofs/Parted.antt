@@ -1,6 +1,6 @@
 -- Where a plane parts two points, it crosses the segment between them.
 use Rattle.nef_complex.proofs.Prelude.{◌≡◌, ◌<◌, ℤ, pos, ◌+ℤ◌, ◌-ℤ◌, ◌*ℤ◌, ◌<ℤ◌, arith, ap, sym, ◌∙◌, inl, inr, ⊎_elim, [], ◌∷◌, ints, ring, Poly, at, num, ◌⊕◌, ◌⊖◌, ◌⊗◌, given, none, follows, follows_times, mul_pos, mul_neg, by_order, SpacePoint, Form, form_at, slope, toward, IsBetween, Vector, dot, cross, triple, IsZero, IsDirection, HasOppositeSigns, IsMixed, of_point, form-sum, slope-toward, mixed-of, between-turned, slope-zero, HoldsBoth, cross-turned, in-span}
-use Rattle.law_complex.proofs.FacetAngles.{cut-at}
+use Rattle.law_geometry.proofs.complex.FacetAngles.{cut-at}
 use Rattle.nef_space.proofs.Order.{minus-of, plus-of}
 use Rattle.nef_space.proofs.Elementary.{weight-positive, counted-positive, positive-factor}
 

@@ -1,7 +1,7 @@
 -- Searching sorted vertices.
 use Rattle.nef_complex.proofs.Prelude.{◌≡◌, ℕ, zero, suc, ◌<◌, ◌≤◌, arith, refl, sym, subst, ⊎_elim, List, [], ◌∷◌, length, map, Ok, Err, Result, IfErr, HoldsAt, cases_lt, searchable_from_sorted, get_or_from_slice_get, slice_get_within, ordering_index, IsBinarySearchResult, IsNonDecreasingBy, IsSearchInRange, Ordering, Less, Equal, Greater, IsAt, SamePoint, IsPointBelow, point_of, Point, same-point_sym, point_below-apart, sorted-from_order, Vertex, vertex_of, AreSorted, AreBelow, AreAbove, is-at_none, is-at_first}
 use Rattle.std.proofs.Common.{IfOk}
-use Rattle.law_complex.specs.Complexes.{Vertex as PlainVertex}
+use Rattle.law_geometry.specs.complex.Complexes.{Vertex as PlainVertex}
 use Rattle.nef_complex.proofs.Order.{one-order, space_order, as-ordered, point_order, point-ordered, point_total}
 
 -- how a vertex stands to the point

@@ -1,7 +1,7 @@
 -- What lies within two spans, between two points of a span, and in a plane with a span of its vertices.
 use Rattle.nef_complex.proofs.Prelude.{◌≡◌, ℤ, pos, sym, subst, inl, inr, SpacePoint, Form, form_at, SamePoint, IsBetween, Set, point_of, is-at_map, meets_vertex, meets_edge, IsSkeletonIn, Coordinate, coordinate_x, coordinate_y, coordinate_z, EachVertexOn, EachPointOn, IsWithin, Complex, Bounds, Span, vertex_of, complex_of, ShowsSet, IsSpanOn, IsInSpan, IsNarrower}
-use Rattle.law_complex.specs.Complexes.{Vertex as PlainVertex}
-use Rattle.law_complex.proofs.Spans.{plane-within, within-same, within-between}
+use Rattle.law_geometry.specs.complex.Complexes.{Vertex as PlainVertex}
+use Rattle.law_geometry.proofs.complex.Spans.{plane-within, within-same, within-between}
 use Rattle.nef_index.proofs.Spanning.{span-wider}
 
 -- ---- at equal points, and between two points

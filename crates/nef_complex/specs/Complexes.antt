@@ -8,7 +8,7 @@ use Rattle.nef_smap.specs.Maps.{map_of, IsLeastMap}
 use Rattle.nef_index.specs.declared.skeleton.Edge.{Edge}
 use Rattle.nef_index.specs.declared.spans.Span.{Span}
 use Rattle.nef_index.specs.Spans.{IsInSpan}
-use Rattle.law_complex.specs.Prelude.{Vertex as PlainVertex, Edge as PlainEdge, Complex as PlainComplex, Corner as PlainCorner, Edges, IsSkeletonIn, Shows, PlaneMeet as PlainMeet, meets_vertex, meets_edge}
+use Rattle.law_geometry.specs.complex.Prelude.{Vertex as PlainVertex, Edge as PlainEdge, Complex as PlainComplex, Corner as PlainCorner, Edges, IsSkeletonIn, Shows, PlaneMeet as PlainMeet, meets_vertex, meets_edge}
 use Rattle.nef_complex.specs.declared.complex.Vertex.{Vertex}
 use Rattle.nef_complex.specs.declared.complex.Complex.{Complex}
 use Rattle.nef_complex.specs.declared.complex.Corner.{Corner}

@@ -1,8 +1,8 @@
 -- The next corner of a facet's corner, and cycles of corners.
 use Rattle.std.specs.Prelude.{◌≡◌, ◌∷◌, ◌⊎◌}
 use Rattle.nef_geo.specs.Prelude.{ℕ, pos, List, [], All, IsBelow, SameDirection}
-use Rattle.law_sphere.specs.Prelude.{InOrder, IsAt, Arc, MapSloop, sloop_item}
-use Rattle.law_complex.specs.Complexes.{Vertex, Edge, Complex, Corner, IsCorner}
+use Rattle.law_geometry.specs.sphere.Prelude.{InOrder, IsAt, Arc, MapSloop, sloop_item}
+use Rattle.law_geometry.specs.complex.Complexes.{Vertex, Edge, Complex, Corner, IsCorner}
 
 -- the edge leads from svertex s of vertex i to svertex t of vertex j
 abbrev pub Leads : Edge → ℕ → ℕ → ℕ → ℕ → Type 0

@@ -4,7 +4,7 @@ use Rattle.nef_space.specs.Prelude.{ℕ, pos, Bool, IsTrue, List, length, map, I
 use Rattle.nef_geo.specs.Shapes.{point_of, form_of}
 use Rattle.nef_geo.specs.declared.plane.Plane.{Plane}
 use Rattle.nef_geo.specs.declared.point.Point.{Point}
-use Rattle.law_sphere.specs.Maps.{Map, Item, items, item_normal}
+use Rattle.law_geometry.specs.sphere.Maps.{Map, Item, items, item_normal}
 use Rattle.nef_smap.specs.Maps.{map_of}
 use Rattle.nef_index.specs.declared.skeleton.Edge.{Edge}
 use Rattle.nef_index.specs.declared.spans.Span.{Span}

@@ -4,9 +4,9 @@ use Rattle.nef_geo.specs.Prelude.{ℕ, pos, List, [], length, map, IsBelow, form
 use Rattle.nef_space.specs.Lists.{IsAt, NumbersClasses, IsInTable}
 use Rattle.nef_space.specs.declared.label.Label.TheVariants.{Out}
 use Rattle.nef_smap.specs.Prelude.{Item, items, item_normal, item_mark, pos_item, neg_item, sides_of}
-use Rattle.law_complex.specs.Prelude.{Vertex, Complex, Corner, IsCorner, VertexSide, HasSideLabel}
+use Rattle.law_geometry.specs.complex.Prelude.{Vertex, Complex, Corner, IsCorner, VertexSide, HasSideLabel}
 use Rattle.nef_complex.specs.Complexes.{corner_of}
-use Rattle.law_complex.specs.links.Links.{FacetLink, VolumeLink}
+use Rattle.law_geometry.specs.complex.links.Links.{FacetLink, VolumeLink}
 use Rattle.nef_complex.specs.Cycles.{IsCornerBelow, Cycles}
 use Rattle.nef_complex.specs.Sides.{IsSideNumber}
 use Rattle.nef_complex.specs.Shells.{SfaceNumbers, Shells}

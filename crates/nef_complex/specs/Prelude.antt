@@ -17,14 +17,14 @@ pub use Rattle.nef_geo.specs.Shapes.{point_at}
 pub use Rattle.nef_geo.specs.Widths.{ratio_limit}
 pub use Rattle.nef_geo.specs.declared.plane.Plane.{Plane}
 pub use Rattle.nef_geo.specs.declared.point.Point.{Point}
-pub use Rattle.law_sphere.specs.Least.{Cone, Ordered}
-pub use Rattle.law_sphere.specs.Maps.{Shaped, dir_of}
-pub use Rattle.law_sphere.specs.Sectors.{BoundsSector}
-pub use Rattle.law_complex.specs.Complexes.{Corner, Edges, IsCorner}
-pub use Rattle.law_complex.specs.Laws.{IsFlatIn, IsSkeletonIn, IsVertexOfBoth}
-pub use Rattle.law_complex.specs.Shows.{Carriers, SamePlane}
-pub use Rattle.law_complex.specs.Skeleton.{HasCorner, IsCornerAt, IsEdgePoint, IsFirstInPlane, IsOnEdges, IsSkeletonPoint, IsVertexPoint, Meets, PlaneMeet}
-pub use Rattle.law_complex.specs.Spans.{coordinate_of}
+pub use Rattle.law_geometry.specs.sphere.Least.{Cone, Ordered}
+pub use Rattle.law_geometry.specs.sphere.Maps.{Shaped, dir_of}
+pub use Rattle.law_geometry.specs.sphere.Sectors.{BoundsSector}
+pub use Rattle.law_geometry.specs.complex.Complexes.{Corner, Edges, IsCorner}
+pub use Rattle.law_geometry.specs.complex.Laws.{IsFlatIn, IsSkeletonIn, IsVertexOfBoth}
+pub use Rattle.law_geometry.specs.complex.Shows.{Carriers, SamePlane}
+pub use Rattle.law_geometry.specs.complex.Skeleton.{HasCorner, IsCornerAt, IsEdgePoint, IsFirstInPlane, IsOnEdges, IsSkeletonPoint, IsVertexPoint, Meets, PlaneMeet}
+pub use Rattle.law_geometry.specs.complex.Spans.{coordinate_of}
 pub use Rattle.nef_index.specs.Carriers.{AreHolders, AreInOrder}
 pub use Rattle.nef_index.specs.Index.{AreClusters}
 pub use Rattle.nef_index.specs.Numbers.{AreNumbersOf, AreNumbersWith}

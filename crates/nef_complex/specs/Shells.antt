@@ -1,10 +1,10 @@
 -- The numbers of sfaces of sides, and the shells of a complex.
 use Rattle.std.specs.Prelude.{◌≡◌, ◌∷◌, ◌⊎◌, ◌↔◌}
 use Rattle.nef_space.specs.Prelude.{ℕ, pos, List, [], length, IsAt, Chained, IsBelow}
-use Rattle.law_sphere.specs.Prelude.{InOrder}
+use Rattle.law_geometry.specs.sphere.Prelude.{InOrder}
 use Rattle.nef_smap.specs.Sides.{AreSfaces}
-use Rattle.law_complex.specs.Prelude.{Vertex, Complex, VertexSide}
-use Rattle.law_complex.specs.links.Links.{LinkInSface, LinkAlongEdge, LinkAcrossFacet}
+use Rattle.law_geometry.specs.complex.Prelude.{Vertex, Complex, VertexSide}
+use Rattle.law_geometry.specs.complex.links.Links.{LinkInSface, LinkAlongEdge, LinkAcrossFacet}
 use Rattle.nef_complex.specs.Sides.{IsSideNumber}
 use Rattle.nef_complex.specs.declared.parts.Side.{Side}
 

@@ -1,7 +1,7 @@
 -- The numbers of sides.
 use Rattle.nef_smap.specs.Prelude.{ℕ, IsAt, IsSide}
 use Rattle.nef_space.specs.declared.label.Label.{Label}
-use Rattle.law_complex.specs.Prelude.{Vertex, Complex, VertexSide}
+use Rattle.law_geometry.specs.complex.Prelude.{Vertex, Complex, VertexSide}
 
 -- side x of a vertex has the number j among the vertex's sides
 pub record IsSideNumber (C : Complex) (x : VertexSide) (j : ℕ) : Type 0 where

@@ -16,7 +16,7 @@ use Rattle.nef_index.specs.declared.skeleton.Edge.{Edge}
 use Rattle.nef_complex.specs.declared.complex.Corner.{Corner}
 use Rattle.nef_complex.specs.declared.complex.Complex.{Complex}
 use Rattle.nef_complex.specs.Complexes.{vertex_of, edge_of, complex_of}
-use Rattle.law_complex.specs.Complexes.{Edges}
+use Rattle.law_geometry.specs.complex.Complexes.{Edges}
 use Rattle.nef_complex.specs.declared.parts.Cycle.{Cycle}
 use Rattle.nef_complex.specs.declared.parts.Facet.{Facet}
 use Rattle.nef_core.specs.declared.work.TextVersion.{TextVersion}

@@ -1,6 +1,6 @@
 -- From vertex to vertex along y's line, to the corner that z's ray names.
 use Rattle.nef_conn.proofs.Prelude.{◌≡◌, ℕ, ◌<◌, ◌≤◌, ◌+◌, zero, suc, pos, length, arith, ◌∙◌, ◌⊎◌, inl, inr, ⊎_elim, subst, cases_order, Chained, FlatDim, SpacePoint, Form, form_at, normal_of, SamePoint, toward, IsBetween, IsPointBelow, Set, Vector, opposite, cross, SameDirection, plane_dir, point-toward, IsAt, is-at_one, normal-direction, Vertex, Complex, Corner, Shows, RayNames, IsFlatIn, between-way, through-at, ahead-back, FacetLink, dot-zero, SameDirection-turned, SameDirection-trans, dir-self, direction-left}
-use Rattle.law_sphere.proofs.Builder.{normal-either}
+use Rattle.law_geometry.proofs.sphere.Builder.{normal-either}
 use Rattle.nef_conn.proofs.Reached.{Rises, never-both}
 use Rattle.nef_space.proofs.Chains.{chain-trans}
 use Rattle.nef_conn.proofs.Sector.{Through, Stops, turned}
@@ -12,7 +12,7 @@ use Rattle.nef_conn.proofs.OverEdge.{over-edge}
 use Rattle.nef_conn.proofs.AcrossFacet.{facet-ahead}
 use Rattle.nef_conn.proofs.FromFacet.{from-facet}
 use Rattle.nef_space.proofs.Lists.{is-at_within}
-use Rattle.law_near.proofs.Normals.{toward-normal}
+use Rattle.law_geometry.proofs.near.Normals.{toward-normal}
 use Rattle.nef_space.proofs.Elementary.{same-itself}
 
 module _ (s : Set) (C : Complex) (S : Shows s C) (h g : Form) (d : Vector) (y z : SpacePoint) (T : Strip s C h g d y z) (inward : SameDirection (opposite (plane_dir (normal_of h))) d) (l : Corner) (named : RayNames C h z d l) where

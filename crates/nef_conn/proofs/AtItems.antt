@@ -1,6 +1,6 @@
 -- A facet point is a point at its item: all points between it and the vertex that it sees are facet points of the item too.
 use Rattle.nef_conn.proofs.Prelude.{inl, inr, SpacePoint, toward, IsBetween, Set, between-inner, joined-itself, same-point_sym, Item, Vertex, Complex, Corner, IsCorner, Shows, IsFacetPoint, between-way, facet-point, facet-of, IsEvenAfter, on_item-way, PointsReachItems, SameDirection-turned}
-use Rattle.law_near.proofs.Same.{dim-same}
+use Rattle.law_geometry.proofs.near.Same.{dim-same}
 
 -- a point between the vertex and a facet point is a facet point
 facet-before : (C : Complex) (v : Vertex) (x : Item) (y r : SpacePoint) → IsFacetPoint C v x y → IsBetween v.point r y → IsFacetPoint C v x r

@@ -3,7 +3,7 @@
 use Rattle.nef_conn.proofs.Prelude.{◌≡◌, ℕ, zero, suc, ◌*◌, ℤ, pos, ◌+ℤ◌, ◌*ℤ◌, arith, refl, sym, inl, ◌∷◌, subst, [], ring, at, num, ◌⊕◌, ◌⊗◌, Germ, FlatDim, Joined, SpacePoint, SamePoint, toward, Set, Vector, zero_vector, blend, IsZero, IsDirection, Label, carriers, flat-germ, FlatDim-by_germs, FlatDim-one, label_of, ahead, near-ahead, joined-germs, flat_dim-of, sample, steep, signs-same, same-point_sym, near-germ_zero, NearPlain, IsAt, MapLabel, at_svertex, on_item, seen, SeenAs, on-direction, svertex-neither, Vertex, Complex, Shows, VertexSide, germ-label, near-label, edges-complete, facet-of, IsAtSide, ahead-cells, IsTied, tied-cell, tied-both, tied-ahead, tied-ray, facet-near, corner_of_numbers, edge-ways, tied-low, tied-turn, at-side, PointsReachSides, dir-self}
 use Rattle.nef_conn.proofs.AtItems.{facet-even}
 use Rattle.nef_conn.proofs.FirstMet.{all-flat, first-met}
-use Rattle.law_near.proofs.Same.{dim-same}
+use Rattle.law_geometry.proofs.near.Same.{dim-same}
 
 -- no way leads from a point to itself
 pub ahead-zero : (s : Set) (p : SpacePoint) (d : Vector) → IsZero d → SamePoint p (ahead s p d)

@@ -5,7 +5,7 @@ use Rattle.nef_conn.proofs.FacetStrip.{SideWithin}
 use Rattle.nef_conn.proofs.Sector.{sector_end, Through, Stops, turned}
 use Rattle.nef_conn.proofs.Leads.{LeadsFrom, leads}
 use Rattle.nef_conn.proofs.FacetStrip.{Strip, Near_line, Far_line, m-some, turn-k, strip, near-turn, short-of, turn-z, angle-ahead, angle-over, angle-under, On_far_line, at_start, ahead_of, behind_of, on-far_line, fan, not-at, not-behind}
-use Rattle.law_near.proofs.Same.{dim-same}
+use Rattle.law_geometry.proofs.near.Same.{dim-same}
 use Rattle.nef_space.proofs.Elementary.{same-itself}
 
 -- the same turns by the same ways

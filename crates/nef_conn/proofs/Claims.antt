@@ -13,7 +13,7 @@ use Rattle.nef_conn.proofs.RaysEnd.{tied-dim, free-toward}
 use Rattle.nef_conn.proofs.Silhouettes.{sliced-off, resliced, two-of, germs-of, three-of, no-vertices, some-flat, even-hit, flatness, two-along}
 use Rattle.nef_conn.proofs.SliceStrip.{lam, Clear}
 use Rattle.nef_space.proofs.Vectors.{neg-zero}
-use Rattle.law_near.proofs.Same.{dim-same}
+use Rattle.law_geometry.proofs.near.Same.{dim-same}
 use Rattle.nef_space.proofs.Elementary.{same-itself}
 
 module _ (s : Set) (C : Complex) (S : Shows s C) (upright : IsUpright C) (linked : AreLinkedWhereJoined s C) (h : Form) (hn : IsDirection (normal_of h)) (level : slope h up ≡ pos 0) where

@@ -2,7 +2,7 @@
 use Rattle.nef_conn.proofs.Prelude.{◌≡◌, ℕ, zero, suc, ◌<◌, arith, refl, ap, List, ◌∷◌, length, subst, [], FlatDim, Joined, SpacePoint, toward, Set, joined-itself, joined-both, IsAt, IsVertexPoint, IsEdgePoint, near_point, near-between, edge-points, edges-complete, HasComponents, VerticesCounted, EdgesCounted, direction-left, is-at_none, is-at_first}
 use Rattle.nef_conn.proofs.OnEdges.{joined-vertices, joined-edges}
 use Rattle.nef_space.proofs.Lists.{is-at_some, is-at_within}
-use Rattle.law_near.proofs.Same.{dim-same}
+use Rattle.law_geometry.proofs.near.Same.{dim-same}
 use Rattle.nef_space.proofs.Elementary.{same-itself}
 
 -- ---- a list with a point for each number

@@ -5,7 +5,7 @@ use Rattle.nef_conn.proofs.SidePaths.{side-label, inside-label}
 use Rattle.nef_conn.proofs.Leaves.{BesideVertex, toward-same}
 use Rattle.nef_conn.proofs.Touch.{no-way}
 use Rattle.nef_space.proofs.Elementary.{minor-opposite_back, same-itself}
-use Rattle.law_near.proofs.Same.{dim-same}
+use Rattle.law_geometry.proofs.near.Same.{dim-same}
 
 pub down-some : IsDirection (opposite up)
 down-some z = let e = z.2 in omega (arith, ints)

@@ -14,9 +14,9 @@ use Rattle.nef_conn.proofs.Silhouettes.{germs-inside, resliced, sliced-ahead, tw
 use Rattle.nef_conn.proofs.Slice.{unsliced}
 use Rattle.nef_conn.proofs.SliceStrip.{lam, up_line, lam-at, lam-turned, down-turn, slope-to, inside-level, Clear, clear-close}
 use Rattle.nef_conn.proofs.Touch.{Seer, bound, Touch, edge-frame, vertex-frame, same-seers, touched, no-way}
-use Rattle.law_near.proofs.Same.{dim-same}
+use Rattle.law_geometry.proofs.near.Same.{dim-same}
 use Rattle.nef_space.proofs.Elementary.{same-itself}
-use Rattle.law_complex.proofs.Edges.{inner-dim}
+use Rattle.law_geometry.proofs.complex.Edges.{inner-dim}
 
 -- the plane along up through two points
 abbrev pub plane_of : SpacePoint → SpacePoint → Form

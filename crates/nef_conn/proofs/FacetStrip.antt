@@ -3,8 +3,8 @@ use Rattle.nef_conn.proofs.Prelude.{◌≡◌, ℕ, ◌+◌, ℤ, pos, ◌+ℤ�
 use Rattle.nef_conn.proofs.Sweep.{minus-any, cut-of}
 use Rattle.nef_conn.proofs.Triangles.{half-to, never-along, third-side, at-corner, on-second}
 use Rattle.nef_conn.proofs.Sector.{Seen, seen-level}
-use Rattle.law_complex.proofs.FacetEnds.{level-normal}
-use Rattle.law_near.proofs.Same.{level-same_point, one-not_two, dim-same}
+use Rattle.law_geometry.proofs.complex.FacetEnds.{level-normal}
+use Rattle.law_geometry.proofs.near.Same.{level-same_point, one-not_two, dim-same}
 use Rattle.nef_space.proofs.Elementary.{same-itself}
 
 -- from a to c, both left out, the points lie within a facet, a itself being on no edge, or on an edge: on that of a, or a is on none

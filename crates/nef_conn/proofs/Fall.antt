@@ -5,7 +5,7 @@ use Rattle.nef_conn.proofs.Near.{Wedge}
 use Rattle.nef_conn.proofs.Triangles.{cut-up, half-to, around-halves, across-way, ends-level}
 use Rattle.nef_conn.proofs.SliceStrip.{lam, up_line, lam-at, lam-turned, lam-sum, down-turn, Clear}
 use Rattle.nef_space.proofs.Elementary.{positive-factor, same-itself}
-use Rattle.law_near.proofs.Same.{dim-same}
+use Rattle.law_geometry.proofs.near.Same.{dim-same}
 
 -- ---- where an edge comes to a corner of a triangle
 module _ (t : Set) (a x : SpacePoint) (apart : SamePoint a x → ⊥) (edge : (r : SpacePoint) → IsBetween x r a → FlatDim t r 1) where

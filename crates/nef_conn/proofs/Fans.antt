@@ -1,6 +1,6 @@
 -- Between two points close to a third, all points lie toward the blends of their directions: so what is as flat between them is as flat toward all blends.
 use Rattle.nef_conn.proofs.Prelude.{◌≡◌, ℕ, ◌+◌, ◌*◌, ◌<◌, ℤ, pos, ◌+ℤ◌, ◌-ℤ◌, ◌*ℤ◌, arith, sym, ◌∙◌, ◌∷◌, subst, [], mul-pos, nought, Lies, ring, at, ◌⊕◌, ◌⊖◌, ◌⊗◌, FlatDim, SpacePoint, Form, Within, toward, IsBetween, Set, Vector, blend, IsDirection, sign_at, carriers, between-of, keeps-all, ahead, sign-toward, of_point, reach_all, mixed-mix, beside-ahead, beside-cell, same-between, dim-cell, ahead-close, vector-same}
-use Rattle.law_near.specs.Cells.{SameSigns}
+use Rattle.law_geometry.specs.near.Cells.{SameSigns}
 
 pub mixed-proper : (i j a b : ℕ) → 0 < i → 0 < a → 0 < i * a + j * b
 mixed-proper i j a b si sa = let m = mul-pos si sa in omega arith

@@ -1,6 +1,6 @@
 -- From a point with three flat directions the way to a side of the frame first meets a point with fewer.
 use Rattle.nef_conn.proofs.Prelude.{ℕ, ◌+◌, ◌*◌, ◌<◌, pos, negsuc, ◌+ℤ◌, ◌*ℤ◌, nat_abs, arith, ⊎_elim, ints, half_side, Germ, Flat, FlatDim, SpacePoint, Ratio, toward, IsBetween, Set, Vector, vector, IsDirection, Out, Drop, flat-germ, FlatDim-one, between-turned, even-until, span-3, same-point_sym, toward-point, IsEvenAfter}
-use Rattle.law_near.proofs.Same.{dim-same}
+use Rattle.law_geometry.proofs.near.Same.{dim-same}
 
 -- where three directions are flat, all are
 pub all-flat : (s : Set) (p : SpacePoint) → FlatDim s p 3 → (d : Vector) → Flat s p d

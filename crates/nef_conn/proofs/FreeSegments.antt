@@ -14,7 +14,7 @@ use Rattle.nef_conn.proofs.Silhouettes.{germs-inside, two-of}
 use Rattle.nef_conn.proofs.Slice.{germ-on, germ-off}
 use Rattle.nef_conn.proofs.SliceStrip.{lam, up_line, lam-at, lam-turned, lam-sum, Clear, lam-plus}
 use Rattle.nef_space.proofs.Vectors.{neg-zero, opposite-at, opposite-slope}
-use Rattle.law_near.proofs.Same.{dim-same}
+use Rattle.law_geometry.proofs.near.Same.{dim-same}
 use Rattle.nef_space.proofs.Elementary.{same-itself}
 
 -- ---- the slice by a plane and by its opposite form have one cone at each point of the plane

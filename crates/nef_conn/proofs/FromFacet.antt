@@ -7,7 +7,7 @@ use Rattle.nef_conn.proofs.OneNamed.{one-named}
 use Rattle.nef_conn.proofs.FacetStrip.{Strip, m-some, level-m, strip, near-turn, beyond, short-of, angle-ahead, angle-over, On_far_line, at_start, ahead_of, behind_of, on-far_line, fan, not-at, not-behind}
 use Rattle.nef_conn.proofs.Beside.{near, far, near-onward, Beside, beside-facet, vertex-not}
 use Rattle.nef_conn.proofs.OverEdge.{first-on}
-use Rattle.law_near.proofs.Same.{dim-same}
+use Rattle.law_geometry.proofs.near.Same.{dim-same}
 use Rattle.nef_space.proofs.Elementary.{same-itself}
 
 module _ (s : Set) (C : Complex) (S : Shows s C) (h g : Form) (d : Vector) (y z : SpacePoint) (T : Strip s C h g d y z) where

@@ -46,8 +46,8 @@ use Rattle.nef_conn.proofs.Touch.{edge-frame}
 use Rattle.nef_conn.proofs.UprightVertex.{down-edge}
 use Rattle.nef_conn.proofs.Vertices.{claim-at}
 use Rattle.nef_space.proofs.Elementary.{minor-opposite, same-itself}
-use Rattle.law_near.proofs.Normals.{toward-normal, normal-kept}
-use Rattle.law_near.proofs.Same.{dim-same}
+use Rattle.law_geometry.proofs.near.Normals.{toward-normal, normal-kept}
+use Rattle.law_geometry.proofs.near.Same.{dim-same}
 
 -- ---- the measures
 abbrev pub slice_events : Set → SpacePoint → SpacePoint → List SpacePoint

@@ -2,7 +2,7 @@
 use Rattle.nef_conn.proofs.Prelude.{◌≡◌, ℕ, ◌+◌, pos, arith, refl, sym, ◌∙◌, ◌⊎◌, inl, inr, ⊎_elim, List, ◌∷◌, subst, [], IsChain, Chained, Joined, SpacePoint, form_at, SamePoint, toward, IsBetween, Set, Vector, blend, up, plane_axis, Label, ahead, joined-turned, joined-both, IsAt, Item, item_normal, item_pos, pos_item, OnItem, Side, HasSide, Sees, on-level, is-at_one, bounds-sees, dir-at, normal-is, Vertex, Edge, Complex, Corner, HasEnds, IsCorner, Shows, item_plane, Spot, at_vertex, on_edge, in_facet, IsSpot, VertexSide, HasSideLabel, IsAbove, RayDown, IsFlatIn, through-at, through-level, axis-in, facet-point, FacetLink, VolumeLink, pos_arcs, across, edge-ways, AreTiedItems, at-item, IsTied, AreLinkedWhereJoined}
 use Rattle.nef_space.proofs.Chains.{chain-trans, chain-link, chain-turned, chain-here}
 use Rattle.nef_conn.proofs.Touch.{bound, Touch, vertex-frame, edge-frame, no-way}
-use Rattle.law_complex.proofs.links.ItemLinks.{facet-link}
+use Rattle.law_geometry.proofs.complex.links.ItemLinks.{facet-link}
 
 -- ---- the upper sides of linked items are linked
 abbrev pub above : Corner → VertexSide

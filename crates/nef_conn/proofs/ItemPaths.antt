@@ -3,7 +3,7 @@ use Rattle.nef_conn.proofs.Prelude.{◌≡◌, ℕ, pos, List, ◌∷◌, inl, i
 use Rattle.nef_conn.proofs.WayInward.{names-same, dir-level, dir-same}
 use Rattle.nef_conn.proofs.Reached.{items-name}
 use Rattle.nef_space.proofs.Chains.{chain-trans, chain-turned}
-use Rattle.law_complex.proofs.FacetEnds.{level-normal}
+use Rattle.law_geometry.proofs.complex.FacetEnds.{level-normal}
 use Rattle.nef_space.proofs.Elementary.{same-itself}
 
 -- ---- an even segment from a point of a facet stays in its plane

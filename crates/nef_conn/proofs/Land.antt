@@ -6,7 +6,7 @@ use Rattle.nef_conn.proofs.Near.{Wedge, wedge-of, wedge-way}
 use Rattle.nef_conn.proofs.Fans.{IsOff, off-close, off-ahead, off-between, off-dim}
 use Rattle.nef_conn.proofs.NearOver.{up-some, blend-rises}
 use Rattle.nef_conn.proofs.SliceStrip.{lam, up_line, lam-at, lam-turned, lam-sum, down-turn, Clear, slope-to, along-start, along-end, along-back}
-use Rattle.law_near.proofs.Same.{one-not_two, dim-same}
+use Rattle.law_geometry.proofs.near.Same.{one-not_two, dim-same}
 
 module _ (t : Set) (h : Form) (hn : IsDirection (normal_of h)) (level : slope h up ≡ pos 0) where
   abbrev n : Vector

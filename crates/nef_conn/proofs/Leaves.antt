@@ -1,6 +1,6 @@
 -- What lies above a vertex or an edge is linked with what lies above the edge or facet that leaves it in the first direction, down from up, that isn't free.
 use Rattle.nef_conn.proofs.Prelude.{ℕ, ◌+◌, ◌<◌, ◌≤◌, arith, sym, ◌∙◌, ◌⊎◌, inl, inr, ⊎_elim, List, subst, Chained, Flat, FlatDim, Joined, SpacePoint, SamePoint, toward, IsBetween, Set, Vector, blend, dot, cross, opposite, IsZero, IsDirection, SameDirection, up, FlatDim-one, between-turned, between-inner, between-mix, ahead, joined-both, same-point_sym, toward-point, between-same, forms, SameSigns, same-nought, is-at_one, IsAt, Beside, same_way, other_way, beside, amount, far-keeps, far-level, Vertex, Edge, Complex, Corner, HasEnds, Shows, VertexSide, edge-points, edge-way, ahead-back, between-way, between-ends, between-outer, same-point_trans, VolumeLink, IsUpright, IsEvenAfter, EdgeWays, edge-ways, tied-ray, AreLinkedWhereJoined, nought-or, zero-decided, SameDirection-turned, SameDirection-trans, dir-signs, opposite-way, direction-left}
-use Rattle.law_near.proofs.Points.{mix_point}
+use Rattle.law_geometry.proofs.near.Points.{mix_point}
 use Rattle.nef_conn.proofs.SameRay.{on-ray}
 use Rattle.nef_space.proofs.Chains.{chain-trans, chain-turned}
 use Rattle.nef_conn.proofs.Hits.{OverEdge, OverFacet, Over, ItemAt, over-item, above}
@@ -11,9 +11,9 @@ use Rattle.nef_conn.proofs.OneNamed.{one-vertex}
 use Rattle.nef_conn.proofs.Triangles.{half-to}
 use Rattle.nef_conn.proofs.RaysEnd.{tied-dim}
 use Rattle.nef_conn.proofs.Touch.{Seer, bound, Frame, Touch, vertex-frame, edge-frame, touched, turn-touch, same-seers, no-way}
-use Rattle.law_near.proofs.Same.{one-not_zero, dim-same}
+use Rattle.law_geometry.proofs.near.Same.{one-not_zero, dim-same}
 use Rattle.nef_space.proofs.Elementary.{same-itself}
-use Rattle.law_complex.proofs.Edges.{inner-dim}
+use Rattle.law_geometry.proofs.complex.Edges.{inner-dim}
 
 -- the way from an equal point
 pub toward-same : (y c z : SpacePoint) → SamePoint y c → IsDirection (toward y z) → SameDirection (toward y z) (toward c z)

@@ -1,6 +1,6 @@
 -- The order of points: what lies below another point on a line along up comes before it, and so does what lies between two points that do.
 use Rattle.nef_conn.proofs.Prelude.{◌≡◌, ℕ, ◌+◌, ◌<◌, ℤ, pos, ◌+ℤ◌, ◌-ℤ◌, ◌*ℤ◌, ◌<ℤ◌, ◌≤ℤ◌, arith, ap, inl, inr, ◌∷◌, subst, [], ints, at, num, ◌⊕◌, ◌⊖◌, ◌⊗◌, given, none, follows, by_order, mul_pos, mul_nonneg, mul_neg, SpacePoint, toward, IsBetween, IsPointBelow, Vector, opposite, IsNormal, SameDirection, up, mixed-of, Decided, ahead-back, SameDirection-turned, opposite-twice}
-use Rattle.law_near.proofs.Normals.{toward-normal, normal-kept}
+use Rattle.law_geometry.proofs.near.Normals.{toward-normal, normal-kept}
 
 pub normal-below : (p q : SpacePoint) → IsNormal (toward p q) → IsPointBelow p q
 normal-below p q n = by_order (toward p q).x (pos 0)

@@ -7,11 +7,11 @@
 -- * an arc ends at the svertex of d. Then the arc at the other end of the edge is linked with it, has the same plane, and lies further along d, where
 --   the number of its vertex is greater for each such step, or smaller for each. So this comes to an end, by induction on the vertices left.
 use Rattle.nef_conn.proofs.Prelude.{◌≡◌, ℕ, pos, ◌<ℤ◌, sym, ◌∙◌, ◌⊎◌, inl, inr, ⊎_elim, subst, Chained, FlatDim, SpacePoint, Form, form_at, normal_of, plane_through, SamePoint, toward, IsBetween, Set, Vector, opposite, dot, triple, IsDirection, SameDirection, plane_dir, SameGerms, FlatDim-by_germs, ahead, joined-germs, joined-turned, joined-both, between-turned, point-toward, IsAt, Arc, Item, arc_item, item_normal, dir_of, OnItem, normal-is, same-plus, same-minus, on-direction, on-level, dir-at, arc-at, turn-same, turn-last, Vertex, Edge, Complex, Corner, HasEnds, IsCorner, Shows, item_plane, PlaneMeet, meets_edge, Meets, IsFirstInPlane, IsArcOnSide, IsCornerAt, IsFlatIn, FlatAre, between-way, between-cases, near_point, near-between, flats-carried, plane-ahead, two-off, meets-on, IsInFacetOf, ahead-back, through-at, weight-positive, normal-scaled, through-level, facet-behind, LinkAcross, FacetLink, ahead-toward, even-after, IsTied, tied-both, tied-ahead, facet-near, at-item, item-has_point, one-item, EdgeWays, edge-ways, tied-low, EndsOnSide, end-level, close_way, on-close, tied-close_way, through-same, way_inward, NamesFor, dot-zero, SameDirection-turned, SameDirection-trans, dir-self, opposite-same, level-way, opposite-twice, direction-left, direction-right}
-use Rattle.law_complex.proofs.links.ItemLinks.{items-joined}
+use Rattle.law_geometry.proofs.complex.links.ItemLinks.{items-joined}
 use Rattle.nef_space.proofs.Chains.{chain-here, chain-before}
 use Rattle.nef_conn.proofs.SamePlanes.{on-too}
 use Rattle.nef_conn.proofs.WayInward.{names-same, dir-level, dir-some, dir-same}
-use Rattle.law_complex.proofs.FacetEnds.{level-normal}
+use Rattle.law_geometry.proofs.complex.FacetEnds.{level-normal}
 use Rattle.nef_space.proofs.Elementary.{same-itself}
 
 -- ---- planes

@@ -6,7 +6,7 @@ use Rattle.nef_conn.proofs.Fans.{IsOff, fan}
 use Rattle.nef_conn.proofs.Hits.{ItemAt, above}
 use Rattle.nef_conn.proofs.RaysEnd.{tied-dim}
 use Rattle.nef_conn.proofs.Touch.{bound, Frame, Touch, same-seers, touched, turn-touch}
-use Rattle.law_near.proofs.Same.{dim-same}
+use Rattle.law_geometry.proofs.near.Same.{dim-same}
 
 -- ---- wedges
 -- all directions between f and g are free

@@ -8,7 +8,7 @@ use Rattle.nef_conn.proofs.Hits.{items-above, above}
 use Rattle.nef_conn.proofs.Near.{Wedge, wedge-way, wedge-of, slot, to-slot}
 use Rattle.nef_conn.proofs.RaysEnd.{tied-dim}
 use Rattle.nef_conn.proofs.Touch.{Frame, Touch, edge-frame, tied-frame, same-seers}
-use Rattle.law_near.proofs.Same.{dim-same}
+use Rattle.law_geometry.proofs.near.Same.{dim-same}
 
 pub up-some : IsDirection up
 up-some z = let e = z.2 in omega (arith, ints)

@@ -2,9 +2,9 @@
 use Rattle.nef_conn.proofs.Prelude.{◌≡◌, ℕ, sym, ◌⊎◌, inl, inr, ⊎_elim, List, ◌∷◌, subst, arith, [], Flat, FlatDim, IsEven, IsEvenPath, Joined, SpacePoint, SamePoint, toward, IsBetween, Set, Vector, opposite, cross, IsZero, IsDirection, SameDirection, carriers, FlatDim-one, FlatDim-by_germs, between-turned, between-inner, start-close, flat-way, joined-germs, signs-same, same-point_sym, toward-point, point-toward, between-same, reach_all, IsAt, Beside, same_way, other_way, beside, is-at_one, Vertex, Edge, Complex, HasEnds, Shows, near_point, near-between, edge-points, edge-way, ahead-back, between-way, between-outer, between-ends, between-start, same-point_trans, joined-even, joined-cell, JoinedAreAsFlat, JoinedVertices, JoinedEdges, zero-decided, SameDirection-turned, SameDirection-trans, opposite-way}
 use Rattle.nef_conn.proofs.OneNamed.{one-vertex, one-edge}
 use Rattle.nef_conn.proofs.SameRay.{on-ray}
-use Rattle.law_near.proofs.Same.{dim-same}
+use Rattle.law_geometry.proofs.near.Same.{dim-same}
 use Rattle.nef_space.proofs.Elementary.{same-itself}
-use Rattle.law_complex.proofs.Edges.{inner-dim}
+use Rattle.law_geometry.proofs.complex.Edges.{inner-dim}
 
 pub joined-as_flat : JoinedAreAsFlat
 joined-as_flat s p q k j f = FlatDim-by_germs s s p q (joined-germs s p q j) k f

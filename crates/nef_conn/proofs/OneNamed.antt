@@ -3,9 +3,9 @@ use Rattle.nef_conn.proofs.Prelude.{◌≡◌, ℕ, ◌<◌, pos, ◌<ℤ◌, �
 use Rattle.nef_space.specs.Numbers.{IsBelow}
 use Rattle.nef_conn.proofs.SamePlanes.{side-turned}
 use Rattle.nef_conn.proofs.SameRay.{on-ray}
-use Rattle.law_complex.proofs.FacetEnds.{level-normal}
-use Rattle.law_near.proofs.Normals.{toward-normal}
-use Rattle.law_complex.proofs.Equal.{edges-equal, corners-equal}
+use Rattle.law_geometry.proofs.complex.FacetEnds.{level-normal}
+use Rattle.law_geometry.proofs.near.Normals.{toward-normal}
+use Rattle.law_geometry.proofs.complex.Equal.{edges-equal, corners-equal}
 use Rattle.nef_space.proofs.Elementary.{same-itself}
 
 -- ---- arcs beside a svertex

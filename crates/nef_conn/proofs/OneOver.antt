@@ -6,10 +6,10 @@ use Rattle.nef_conn.proofs.Hits.{OverVertex, OverEdge, OverFacet, Over, over-ite
 use Rattle.nef_conn.proofs.Triangles.{half-to}
 use Rattle.nef_conn.proofs.RaysEnd.{tied-dim}
 use Rattle.nef_conn.proofs.Touch.{Seer, bound, same-seers, no-way}
-use Rattle.law_near.proofs.Normals.{toward-normal}
-use Rattle.law_near.proofs.Same.{one-not_zero, dim-same}
+use Rattle.law_geometry.proofs.near.Normals.{toward-normal}
+use Rattle.law_geometry.proofs.near.Same.{one-not_zero, dim-same}
 use Rattle.nef_space.proofs.Elementary.{same-itself}
-use Rattle.law_complex.proofs.Edges.{inner-dim}
+use Rattle.law_geometry.proofs.complex.Edges.{inner-dim}
 
 -- ---- directions close to two vectors of one way
 pub ways-same : (gs : List Vector) (d e f : Vector) (k l : ℕ) → SameDirection d e → amount gs f ≤ k → amount gs f ≤ l → SameSigns gs (blend k d 1 f) (blend l e 1 f)

@@ -1,7 +1,7 @@
 -- An arc that ends at an edge goes on along it: at the edge's other end there is an arc of the same plane on the same side, and the two are linked.
 use Rattle.nef_conn.proofs.Prelude.{◌≡◌, ℕ, ◌+◌, pos, ◌<ℤ◌, ◌+ℤ◌, ◌*ℤ◌, neg_ℤ, arith, ap, ◌∙◌, ◌⊎◌, inl, inr, ⊎_elim, ◌∷◌, subst, refl, [], ints, sign, ring, at, num, ◌⊕◌, ◌⊗◌, Germ, SpacePoint, toward, Set, Vector, opposite, blend, dot, cross, triple, IsDirection, SameDirection, IsOpposite, Label, carriers, SameGerms, FlatDim-by_germs, ahead, near-ahead, joined-germs, steep, forms, IsAt, MapVertex, Arc, Item, arc_item, sloop_item, items, item_normal, Map, OnItem, NearLabel, Valid, normal-is, dot-comb, same-plus, same-minus, amount, far-keeps, arc-at, direction-around, turn-same, at-arc, Vertex, Edge, Complex, Corner, HasEnds, IsCorner, Shows, near-label, flats-carried, IsInFacetOf, source-met, target-met, ahead-back, LinkAlong, facet-near, IsTied, tied-turned, tied-both, tied-ahead, EdgeWays, edge-ways, ends-tied, EndsOnSide, end-level, close_way, on-close, tied-close_way, tied-turn, corner_of_numbers, left-turn, EndsAt, ArcsGoOn, dot-comm, square-cross, level-of_opposite, nought-if, SameDirection-turned, SameDirection-trans, dir-self, opposite-turned, level-way, opposite-way, direction-right, right-turn, back-triple}
-use Rattle.law_complex.proofs.FacetCorners.{ItemAt, item-at}
-use Rattle.law_complex.proofs.FacetEnds.{level-normal}
+use Rattle.law_geometry.proofs.complex.FacetCorners.{ItemAt, item-at}
+use Rattle.law_geometry.proofs.complex.FacetEnds.{level-normal}
 
 -- ---- an edge seen from one of its ends
 -- an edge leads from svertex a of vertex i, which is v, to svertex b of vertex j, which is w

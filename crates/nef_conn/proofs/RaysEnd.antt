@@ -2,7 +2,7 @@
 use Rattle.nef_conn.proofs.Prelude.{◌≡◌, ℕ, ◌+◌, ◌≤◌, ℤ, pos, ◌+ℤ◌, ◌-ℤ◌, ◌*ℤ◌, ◌<ℤ◌, arith, refl, ◌∙◌, ⊎_elim, ◌∷◌, subst, [], ints, ring, at, num, ◌⊕◌, ◌⊖◌, ◌⊗◌, FlatDim, SpacePoint, form_at, InFrame, toward, IsAhead, IsBetween, Set, Vector, opposite, blend, dot, cross, IsZero, IsDirection, SameDirection, up, plane_axis, Label, carriers, flat-germ, FlatDim-by_germs, between-turned, label_of, ahead, joined-germs, steep, signs-same, same-point_sym, forms, BoundsSector, IsAt, MapVertex, Arc, Item, arc_item, item_normal, item_pos, IsFree, Side, pos_item, HasSide, SeenAs, Shaped, at-arc, Beside, same_way, other_way, beside, axes-forms, on-level, amount, far-keeps, kept-not_opposite, bounded, unrayed-ahead, normal-is, Vertex, Complex, Corner, IsCorner, Shows, item_plane, IsVertexPoint, IsEdgePoint, IsFacetPoint, Spot, at_vertex, on_edge, in_facet, IsSpot, IsSkeletonPoint, HasCorner, VertexSide, HasSideLabel, IsAbove, RayDown, IsFlatIn, through-at, ahead-back, weight-positive, normal-scaled, through-level, axis-in, facet-of, facets-complete, facet-point, way-ends, skeleton-not_flat, skeleton-or_flat, IsEvenAfter, IsUpright, across, facet-at, edge-ways, tied-low, tied-turn, seen-free, ahead-cells, dim-cell, IsTied, tied-both, tied-ahead, tied-ray, RaysEnd, opposite-twice, inl, inr, dir-self}
 use Rattle.nef_conn.proofs.AtSides.{side-toward}
 use Rattle.nef_conn.proofs.FirstMet.{all-flat}
-use Rattle.law_near.proofs.Same.{dim-same}
+use Rattle.law_geometry.proofs.near.Same.{dim-same}
 
 -- what is tied is as flat
 pub tied-dim : (s : Set) (p q : SpacePoint) (k : ℕ) → IsTied s p q → FlatDim s p k → FlatDim s q k

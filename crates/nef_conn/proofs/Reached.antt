@@ -5,7 +5,7 @@ use Rattle.nef_conn.proofs.WayInward.{dir-level, dir-some, dir-same}
 use Rattle.nef_conn.proofs.Named.{ReachesItem, carried, onward-named, edge-named, side-same}
 use Rattle.nef_conn.proofs.Faces.{leads-away}
 use Rattle.nef_space.proofs.Lists.{is-at_within}
-use Rattle.law_near.proofs.Normals.{toward-normal}
+use Rattle.law_geometry.proofs.near.Normals.{toward-normal}
 
 -- the far end of an edge at which an arc ends lies in the arc's plane
 far-on : (s : Set) (C : Complex) (S : Shows s C) (i a : ℕ) (v : Vertex) (j b : ℕ) (w : Vertex) (V : EdgeAway s C i a v j b w) (k : Corner) (c : Arc) (K : IsCorner C k v (arc_item c)) → EndsAt c a

@@ -1,6 +1,6 @@
 -- A point in a facet is joined to a point at the item of its corner, and a point in a volume to one at the side that it has.
 use Rattle.nef_conn.proofs.Prelude.{inl, inr, opposite, up, between-turned, ahead, same-point_sym, ahead-back, facet-of, free-flat, IsEvenAfter, corner-across, above-tied, facet-at, at-item, tied-both, tied-ray, CornersReached, SidesReached}
-use Rattle.law_near.proofs.Same.{dim-same}
+use Rattle.law_geometry.proofs.near.Same.{dim-same}
 
 pub corners-reached : CornersReached
 corners-reached s C p k S H =

@@ -1,12 +1,12 @@
 -- Turning from a direction on an item to another of its plane, by less than half a turn, one stays on the item, or its end comes first.
 use Rattle.nef_conn.proofs.Prelude.{◌≡◌, ℕ, zero, suc, ℤ, pos, negsuc, ◌<ℤ◌, true, cond, arith, refl, sym, ◌⊎◌, inl, inr, ⊎_elim, subst, ints, Vector, opposite, dot, triple, IsDirection, SameDirection, IsOnCircle, IsStrictlyOn, Passes, AboutFour, IsAt, MapVertex, Arc, Item, arc_item, sloop_item, items, item_normal, Map, OnItem, dir_of, Shaped, Decided, normal-is, same-plus, same-minus, positive-or, negative-or, Ends, ends-of, on-direction, on-level, arc-at, dir-at, turn-last, IsStrictlyOn-same, triple-turned, SameDirection-turned, SameDirection-trans, dir-self, opposite-same, opposite-twice}
 use lib.Dec.{T}
-use Rattle.law_sphere.proofs.cyclic.Signs.{sgn, is_plus, is_minus, both, one_of, rule, plus_is, is_plus_if}
-use Rattle.law_sphere.proofs.cyclic.StrictlyOn.{same_test}
-use Rattle.law_sphere.proofs.cyclic.Cyclic.{Says, says_both, says_one, says_passes, says_same, implied, FourTest, every_four, holds_at_four, abd, acd}
-use Rattle.law_sphere.proofs.cyclic.Directions.{way_back_passes_the_same}
+use Rattle.law_geometry.proofs.sphere.cyclic.Signs.{sgn, is_plus, is_minus, both, one_of, rule, plus_is, is_plus_if}
+use Rattle.law_geometry.proofs.sphere.cyclic.StrictlyOn.{same_test}
+use Rattle.law_geometry.proofs.sphere.cyclic.Cyclic.{Says, says_both, says_one, says_passes, says_same, implied, FourTest, every_four, holds_at_four, abd, acd}
+use Rattle.law_geometry.proofs.sphere.cyclic.Directions.{way_back_passes_the_same}
 use Rattle.nef_space.proofs.Vectors.{level-opposite}
-use Rattle.law_complex.proofs.FacetEnds.{level-normal}
+use Rattle.law_geometry.proofs.complex.FacetEnds.{level-normal}
 
 -- ---- laws of four directions
 says_plus : (z : ℤ) → Says (pos 0 <ℤ z) (is_plus (sgn z))

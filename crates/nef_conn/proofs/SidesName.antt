@@ -11,7 +11,7 @@ use Rattle.nef_conn.proofs.RaysEnd.{ray-down}
 use Rattle.nef_conn.proofs.Silhouettes.{sliced-signs, sliced-ahead, germs-inside, two-of}
 use Rattle.nef_conn.proofs.SliceStrip.{lam, up_line, Clear, clear-close}
 use Rattle.nef_conn.proofs.Touch.{bound, no-way}
-use Rattle.law_near.proofs.Same.{dim-same}
+use Rattle.law_geometry.proofs.near.Same.{dim-same}
 use Rattle.nef_space.proofs.Elementary.{same-itself}
 
 module _ (s : Set) (C : Complex) (S : Shows s C) (upright : IsUpright C) (linked : AreLinkedWhereJoined s C) where

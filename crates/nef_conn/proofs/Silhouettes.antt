@@ -1,14 +1,14 @@
 -- What falls from a point b names a side of the class of what lies above the point at which the fall beside it ends: on an edge of the plane at once; at a vertex of the plane by what leaves it, or, where nothing does, by what lies below it.
 use Rattle.nef_conn.proofs.Prelude.{◌≡◌, ℕ, zero, suc, ◌<◌, pos, ◌<ℤ◌, arith, sym, ◌⊎◌, inl, inr, ⊎_elim, subst, Lies, lies-left, lies-right, lies-append, Germ, FlatDim, IsEven, Label, label_not, Germ-unique, facet-at, SpacePoint, Form, form_at, normal_of, slope, SamePoint, InFrame, toward, IsBetween, Set, halves, Vector, opposite, IsDirection, SameDirection, up, frame, carriers, SameGerms, FlatDim-one, FlatDim-by_germs, between-turned, between-inner, label_of, germ_of, ahead, start-close, even-germs, labels-by_germs, flat-toward, flat_dim-of, Flat-from_cone, same-point_sym, reach_all, toward-point, point-toward, between-same, Complex, Shows, VertexSide, RayDown, IsFlatIn, near_point, near-between, facet-of, plane-between, even-by, skeleton-not_flat, skeleton-or_flat, between-outer, same-point_trans, IsUpright, IsEvenAfter, beside-ahead, beside-cell, AreLinkedWhereJoined, plane_set, sliced, nought-or, SameDirection-turned, SameDirection-trans, opposite-same, direction-left}
 use Rattle.nef_conn.proofs.Leaves.{toward-same}
-use Rattle.law_near.specs.Cells.{SameSigns}
+use Rattle.law_geometry.specs.near.Cells.{SameSigns}
 use Rattle.nef_conn.proofs.SameRay.{on-ray}
 use Rattle.nef_conn.proofs.SidePaths.{label-inside, inside-label}
 use Rattle.nef_conn.proofs.Fans.{IsOff}
 use Rattle.nef_conn.proofs.Land.{Landing}
 use Rattle.nef_conn.proofs.Slice.{germ-on, germ-off, free-slice, unsliced}
 use Rattle.nef_conn.proofs.SliceStrip.{lam, Clear, back-way}
-use Rattle.law_near.proofs.Same.{dim-same}
+use Rattle.law_geometry.proofs.near.Same.{dim-same}
 use Rattle.nef_space.proofs.Elementary.{same-itself}
 
 -- ---- the carriers of a slice are those of the set, and more

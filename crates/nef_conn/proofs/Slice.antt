@@ -1,7 +1,7 @@
 -- The labels and germs of a set with the points of a plane exchanged: off the plane they are those of the set, in it they are the others.
 use Rattle.nef_conn.proofs.Prelude.{◌≡◌, pos, ◌+ℤ◌, ◌*ℤ◌, arith, refl, ap, sym, ◌∙◌, ⊎_elim, ◌∷◌, subst, [], ints, Sign, sign, ring, at, num, ◌⊕◌, ◌⊗◌, by_order, sign-plus, sign-minus, nought-or, HasLabel, Germ, FlatDim, SpacePoint, Form, form_at, normal_of, slope, Ratio, step, InFrame, Set, Vector, IsDirection, Label, Out, Not, In, label_not, SameGerms, flat-germ, germ_of, Germ-unique, sign-along, same-nought, form-step, by_side, IsFlatIn, IsSided, sided-dim, sided-flats, plane_set, sliced}
 use Rattle.nef_space.specs.Sets.{Holds}
-use Rattle.law_near.proofs.Combine.{one_of-label}
+use Rattle.law_geometry.proofs.near.Combine.{one_of-label}
 use Rattle.nef_conn.proofs.FirstMet.{all-flat}
 use Rattle.nef_space.proofs.Vectors.{opposite-at}
 

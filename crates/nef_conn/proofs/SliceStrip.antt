@@ -1,8 +1,8 @@
 -- Triangles that lie between two lines along up, beside which no vertex lies: what falls from the one side comes down to what leaves the other.
 use Rattle.nef_conn.proofs.Prelude.{◌≡◌, ℕ, ◌+◌, ℤ, pos, ◌+ℤ◌, ◌-ℤ◌, ◌*ℤ◌, ◌<ℤ◌, ◌≤ℤ◌, neg_ℤ, arith, ap, sym, ◌∙◌, ◌⊎◌, inl, inr, ⊎_elim, ◌∷◌, List, refl, [], ints, sign, Lies, ring, at, num, neg, ◌⊕◌, ◌⊖◌, ◌⊗◌, Poly, by_order, mul_pos, mul_nonneg, cancel_lt, plus-is, minus-is, nought-is, sign-plus, sign-minus, plus-of, FlatDim, IsVertex, SpacePoint, Form, form_at, normal_of, slope, plane_through, SamePoint, toward, IsBetween, Within, Set, Vector, opposite, cross, triple, IsDirection, SameDirection, up, FlatDim-one, same-nought, between-way, turn-last, turns, same-plus, same-minus, IsFlatIn, through-at, angle, turn-at, angle-turned, angle-inside, between-plus, IsInTriangle, LiesAlong, vector-same, triple-dot, triple-turned, SameDirection-turned, SameDirection-trans, apart, right-turn, each, lies-each, keeps-all, signs-same, all-vertices, reach_all, nonneg-of}
 use Rattle.nef_conn.proofs.Triangles.{on-second, at-corner, never-passes, third-side}
-use Rattle.law_near.proofs.Meets.{triple-same}
-use Rattle.law_near.proofs.Same.{dim-same}
+use Rattle.law_geometry.proofs.near.Meets.{triple-same}
+use Rattle.law_geometry.proofs.near.Same.{dim-same}
 
 -- ---- signs of products
 -- a = b c - d e, with a = t u, t > 0, b, d > 0, c >= 0, e <= 0

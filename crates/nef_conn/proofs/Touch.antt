@@ -1,7 +1,7 @@
 -- The sides of a vertex that lie beside a point in a direction: the point is the vertex, or lies close to it, on an edge or in a facet. Directions that a free way joins have linked sides.
 use Rattle.nef_conn.proofs.Prelude.{◌≡◌, ℕ, ◌+◌, ◌<◌, ◌≤◌, ℤ, pos, ◌+ℤ◌, ◌*ℤ◌, neg_ℤ, arith, refl, ap, sym, ◌∙◌, inl, ⊎_elim, ◌∷◌, subst, [], sign, ring, at, num, neg, ◌⊕◌, ◌⊗◌, Chained, FlatDim, SpacePoint, SamePoint, IsBetween, Set, Vector, opposite, blend, dot, zero_vector, IsZero, IsOpposite, Label, carriers, ahead, steep, signs-same, same-point_sym, same-factor, forms, SameSigns, IsAt, Map, IsFree, HasSide, IsClear, Sees, here, link, Shaped, free-by_signs, amount, far-keeps, far-level, far-same, dot-comb, Vertex, Edge, Complex, HasEnds, Shows, VertexSide, VolumeLink, edge-ways, tied-low, tied-turn, seen-free, ahead-cells, IsTied, tied-cell, tied-both, tied-ahead, nought-or, vector-same, opposite-way}
-use Rattle.law_sphere.proofs.Labels.{same-clear, mixed-sign}
-use Rattle.law_sphere.proofs.Sight.{sees_both}
+use Rattle.law_geometry.proofs.sphere.Labels.{same-clear, mixed-sign}
+use Rattle.law_geometry.proofs.sphere.Sight.{sees_both}
 use Rattle.nef_space.proofs.Chains.{chain-trans, chain-link}
 use Rattle.nef_conn.proofs.RaysEnd.{tied-dim, seen-toward}
 

@@ -13,9 +13,9 @@ use Rattle.nef_conn.proofs.RaysEnd.{tied-dim, free-toward}
 use Rattle.nef_conn.proofs.Silhouettes.{germs-inside, toward-end, sliced-ahead, two-of, frame-along, three-along}
 use Rattle.nef_conn.proofs.SliceStrip.{lam, up_line, lam-at, Clear, along-start, lam-plus}
 use Rattle.nef_conn.proofs.Touch.{Seer, bound, Touch, edge-frame, vertex-frame, same-seers, touched, no-way}
-use Rattle.law_near.proofs.Same.{dim-same}
+use Rattle.law_geometry.proofs.near.Same.{dim-same}
 use Rattle.nef_space.proofs.Elementary.{same-itself}
-use Rattle.law_complex.proofs.Edges.{inner-dim}
+use Rattle.law_geometry.proofs.complex.Edges.{inner-dim}
 
 pub up-square : (m : Vector) → dot (cross m up) up ≡ pos 0
 up-square m = ring (m.x ∷ m.y ∷ m.z ∷ up.x ∷ up.y ∷ up.z ∷ []) ((at 1 ⊗ at 5 ⊖ at 2 ⊗ at 4) ⊗ at 3 ⊕ (at 2 ⊗ at 3 ⊖ at 0 ⊗ at 5) ⊗ at 4 ⊕ (at 0 ⊗ at 4 ⊖ at 1 ⊗ at 3) ⊗ at 5) (num (pos 0)) tt

@@ -11,7 +11,7 @@ use Rattle.nef_conn.proofs.RaysEnd.{free-toward}
 use Rattle.nef_conn.proofs.SliceStrip.{lam, Clear}
 use Rattle.nef_conn.proofs.Touch.{Seer, bound, Touch, vertex-frame, meet, touched, turn-touch, no-way}
 use Rattle.nef_conn.proofs.Upright.{lone-along, aside-any, up-square, beside-edge}
-use Rattle.law_near.proofs.Normals.{toward-normal, normal-kept}
+use Rattle.law_geometry.proofs.near.Normals.{toward-normal, normal-kept}
 
 module _ (s : Set) (C : Complex) (S : Shows s C) (upright : IsUpright C) (linked : AreLinkedWhereJoined s C) where
   module _ (h : Form) (hn : IsDirection (normal_of h)) (level : slope h up ≡ pos 0) where

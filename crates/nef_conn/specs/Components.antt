@@ -1,7 +1,7 @@
 -- The components of vertices and of edges, and how many components the points with k flat directions have.
 use Rattle.std.specs.Prelude.{◌≡◌, ◌↔◌}
 use Rattle.nef_space.specs.Prelude.{ℕ, List, length, FlatDim, Joined, SpacePoint, Set, IsAt}
-use Rattle.law_complex.specs.Prelude.{Complex, Shows, IsVertexPoint, IsEdgePoint}
+use Rattle.law_geometry.specs.complex.Prelude.{Complex, Shows, IsVertexPoint, IsEdgePoint}
 
 -- joined points have equally many flat directions
 abbrev pub JoinedAreAsFlat : Type 0

@@ -1,12 +1,12 @@
 -- Steps from joined points at items back to links: arcs along edges, and points whose rays inward name linked corners.
 use Rattle.std.specs.Prelude.{◌≡◌, ◌<ℤ◌, ◌≤ℤ◌, ◌⊎◌, ◌↔◌}
 use Rattle.nef_space.specs.Prelude.{ℕ, pos, sign, Chained, FlatDim, IsVertex, IsEven, Joined, SpacePoint, Form, form_at, normal_of, plane_through, toward, SamePoint, IsBetween, Set, Vector, opposite, cross, triple, IsNormal, SameDirection, plane_dir, IsAt}
-use Rattle.law_sphere.specs.Maps.{Arc, arc_item, Item, item_normal}
-use Rattle.law_complex.specs.Prelude.{Vertex, Edge, Complex, Corner, IsCorner, Shows}
-use Rattle.law_complex.specs.Laws.{IsFlatIn}
-use Rattle.law_complex.specs.Skeleton.{item_plane, RayNames}
-use Rattle.law_complex.specs.links.Links.{LinkAlong, FacetLink}
-use Rattle.law_complex.specs.links.Components.{IsAtItem}
+use Rattle.law_geometry.specs.sphere.Maps.{Arc, arc_item, Item, item_normal}
+use Rattle.law_geometry.specs.complex.Prelude.{Vertex, Edge, Complex, Corner, IsCorner, Shows}
+use Rattle.law_geometry.specs.complex.Laws.{IsFlatIn}
+use Rattle.law_geometry.specs.complex.Skeleton.{item_plane, RayNames}
+use Rattle.law_geometry.specs.complex.links.Links.{LinkAlong, FacetLink}
+use Rattle.law_geometry.specs.complex.links.Components.{IsAtItem}
 
 -- the arc begins or ends at the svertex s
 abbrev pub EndsAt : Arc → ℕ → Type 0

@@ -1,7 +1,7 @@
 -- The side that each point off the skeleton reaches, and the item that each point in a facet reaches.
 use Rattle.nef_space.specs.Prelude.{SpacePoint, Set, FlatDim, Joined}
-use Rattle.law_complex.specs.Prelude.{Complex, Corner, Shows, VertexSide, HasVolumeSide, HasCorner}
-use Rattle.law_complex.specs.links.Components.{IsAtSide, IsAtItem, IsUpright}
+use Rattle.law_geometry.specs.complex.Prelude.{Complex, Corner, Shows, VertexSide, HasVolumeSide, HasCorner}
+use Rattle.law_geometry.specs.complex.links.Components.{IsAtSide, IsAtItem, IsUpright}
 
 -- each point with three flat directions is joined to a point at some side
 abbrev pub PointsReachSides : Type 0

@@ -3,9 +3,9 @@ use Rattle.std.specs.Prelude.{◌≡◌}
 use Rattle.nef_space.specs.Prelude.{Chained, FlatDim, IsEven, Joined, SpacePoint, InFrame, Set}
 use Rattle.nef_space.specs.declared.label.Label.{Label}
 use Rattle.nef_space.specs.declared.label.Label.TheVariants.{Out}
-use Rattle.law_complex.specs.Prelude.{Complex, Shows, VertexSide, HasSideLabel, RayDown}
-use Rattle.law_complex.specs.links.Links.{VolumeLink}
-use Rattle.law_complex.specs.links.Components.{IsAtSide, IsUpright}
+use Rattle.law_geometry.specs.complex.Prelude.{Complex, Shows, VertexSide, HasSideLabel, RayDown}
+use Rattle.law_geometry.specs.complex.links.Links.{VolumeLink}
+use Rattle.law_geometry.specs.complex.links.Components.{IsAtSide, IsUpright}
 use Rattle.nef_conn.specs.Items.{AreLinkedWhereJoined}
 
 -- sides with points that are joined are of one class of links, if up is above each item

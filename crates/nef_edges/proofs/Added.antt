@@ -1,13 +1,13 @@
 -- The edges from the svertices that lead on, collected svertex by svertex.
 use Rattle.nef_edges.proofs.Prelude.{◌≡◌, ℕ, ◌+◌, ◌≤◌, pos, List, [], ◌∷◌, ◌++◌, length, map, arith, refl, sym, ap, subst, ◌∙◌, inl, inr, ◌⊎◌, ⊎_elim, ints, IsNormal, vector_of, IsAt, MapVertex, is-at_one, IsEdge, IsEdgeBelow, Edges, SVertex, svertex_of, Vertex, Edge, vertex_of, edge_of, EdgeEnd, IsEarlierSvertex, AreJoined, AreEdges}
-use Rattle.law_complex.specs.Complexes.{Vertex as PlainVertex, Edge as PlainEdge}
+use Rattle.law_geometry.specs.complex.Complexes.{Vertex as PlainVertex, Edge as PlainEdge}
 use Rattle.nef_edges.proofs.Arrivals.{before-more, before-row, earlier-row, earlier-next}
 use Rattle.nef_edges.proofs.Existing.{one-edge}
 use Rattle.nef_edges.proofs.Partners.{IsPair}
 use Rattle.nef_edges.proofs.Rays.{ahead-normal}
 use Rattle.nef_space.proofs.Lists.{is-at_last, is-at_left, is-at_map, is-at_more, is-at_within, map-is_at}
-use Rattle.law_complex.proofs.Equal.{edges-equal}
-use Rattle.law_sphere.proofs.Lists.{order-more}
+use Rattle.law_geometry.proofs.complex.Equal.{edges-equal}
+use Rattle.law_geometry.proofs.sphere.Lists.{order-more}
 
 module _ (vs : List Vertex) (J : AreJoined (map vertex_of vs)) where
   -- the lower end of an edge as the program has it

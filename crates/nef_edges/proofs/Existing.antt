@@ -1,10 +1,10 @@
 -- Vertices in order, each with at most one svertex in every direction, have a list of all their edges.
 use Rattle.nef_edges.proofs.Prelude.{◌≡◌, ℕ, zero, suc, ◌<◌, pos, arith, refl, ap, sym, ◌∙◌, ◌⊎◌, inl, inr, ⊎_elim, List, [], ◌∷◌, ◌++◌, subst, cases_order, ints, Lies, each, lies-each, lies-left, lies-right, toward, IsAhead, IsBetween, IsPointBelow, SameDirection, IsOpposite, Decided, IsAt, MapVertex, Shaped, InOrder, Found, search_list, is-at_one, lies-at, at-lies, SameDirection-decided, IsOpposite-decided, IsEdge, IsEdgeBelow, Edges, IsFrom, is-at_none, is-at_first}
-use Rattle.law_near.proofs.Decided.{decided-lt}
-use Rattle.law_sphere.proofs.cones.Listing.{numbers, at-number, at-or, Collected, Sorted, collect, sort, chain-order}
-use Rattle.law_complex.specs.Complexes.{Vertex, Edge}
+use Rattle.law_geometry.proofs.near.Decided.{decided-lt}
+use Rattle.law_geometry.proofs.sphere.cones.Listing.{numbers, at-number, at-or, Collected, Sorted, collect, sort, chain-order}
+use Rattle.law_geometry.specs.complex.Complexes.{Vertex, Edge}
 use Rattle.nef_edges.proofs.Rays.{ahead-normal, middle-between, opposites-same}
-use Rattle.law_complex.proofs.Equal.{edges-equal}
+use Rattle.law_geometry.proofs.complex.Equal.{edges-equal}
 
 -- ---- one edge from each svertex
 

@@ -1,6 +1,6 @@
 -- The vertices of a set are joined: their svertices are ends of edges.
 use Rattle.nef_edges.proofs.Prelude.{◌≡◌, ℕ, ◌<◌, List, map, length, sym, subst, IsAt, IsPointBelow, Set, form_of, Plane, Shaped, InOrder, Complex as PlainComplex, Edges, Shows, Vertex, Edge, vertex_of, edge_of, AreVerticesOf, ShowsSet, AreFlagged, IsIndexed, ItemsAreHeld, AreInOrder, HaveEnds, AreJoined}
-use Rattle.law_complex.specs.Complexes.{Vertex as PlainVertex}
+use Rattle.law_geometry.specs.complex.Complexes.{Vertex as PlainVertex}
 use Rattle.nef_complex.specs.declared.complex.Complex.{Complex}
 use Rattle.nef_complex.proofs.Carried.{items-held}
 use Rattle.nef_edges.proofs.Existing.{edges-exist}

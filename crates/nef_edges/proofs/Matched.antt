@@ -1,11 +1,11 @@
 -- Edges that are matched end by end are the edges of the vertices.
 use Rattle.nef_edges.proofs.Prelude.{◌≡◌, ℕ, zero, suc, ◌+◌, ◌<◌, ◌≤◌, pos, ℤ, ◌-ℤ◌, ◌*ℤ◌, neg_ℤ, List, [], ◌∷◌, length, arith, sym, ap, subst, ◌∙◌, inl, inr, ⊎_elim, cases_order, cases_lt, ints, ring, at, neg, ◌⊖◌, ◌⊗◌, SpacePoint, toward, IsAhead, IsBetween, IsPointBelow, Vector, cross, opposite, IsZero, IsNormal, SameDirection, IsOpposite, IsAt, MapVertex, is-at_one, IsEdge, IsEdgeBelow, Edges, on_line, AreJoined, IsMatched, AreMatched, SameDirection-turned, SameDirection-trans}
-use Rattle.law_complex.specs.Complexes.{Vertex, Edge}
+use Rattle.law_geometry.specs.complex.Complexes.{Vertex, Edge}
 use Rattle.nef_edges.proofs.Existing.{one-edge}
 use Rattle.nef_edges.proofs.Rays.{ahead-normal, middle-between, to_opposite, opposites-same}
 use Rattle.nef_space.proofs.Lists.{is-at_within}
-use Rattle.law_near.proofs.Normals.{normal-kept}
-use Rattle.law_complex.proofs.Equal.{edges-equal}
+use Rattle.law_geometry.proofs.near.Normals.{normal-kept}
+use Rattle.law_geometry.proofs.complex.Equal.{edges-equal}
 
 -- ---- points on one line
 line-back : (p q : SpacePoint) (d : Vector) → IsZero (cross (toward p q) d) → IsZero (cross (toward q p) d)

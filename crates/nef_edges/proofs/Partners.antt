@@ -1,11 +1,11 @@
 -- The next end that arrives is the partner of one that leads on.
 use Rattle.nef_edges.proofs.Prelude.{◌≡◌, ℕ, ◌<◌, pos, neg_ℤ, List, length, map, arith, refl, sym, ap, subst, ◌∙◌, inl, inr, ◌⊎◌, ⊎_elim, Ordering, Less, Equal, Greater, cases_lt, ints, MatchOrdering, nat_cmp, ordering_then, tied_back, ranked, toward, Set, Vector, opposite, IsNormal, IsZero, cross, SameDirection, IsOpposite, point_of, vector_of, Dir, same_directions_equal, IsAt, MapVertex, is-at_one, normals-not_opposite, Complex as PlainComplex, IsEdge, Shows, SVertex, svertex_of, Vertex, vertex_of, EdgeEnd, line_order, IsEarlierSvertex, IsArriving, AreArriving, IsAfter, IsNextEnd, IsFrom, IsTo, AreJoined, dir-self}
-use Rattle.law_complex.specs.Complexes.{Vertex as PlainVertex, Edge as PlainEdge}
-use Rattle.law_complex.proofs.Joining.{svertex-edge}
+use Rattle.law_geometry.specs.complex.Complexes.{Vertex as PlainVertex, Edge as PlainEdge}
+use Rattle.law_geometry.proofs.complex.Joining.{svertex-edge}
 use Rattle.nef_edges.proofs.Lines.{OnOneLine, tied-line, line-tied, StandsBetween, stands-between, line_total}
 use Rattle.nef_edges.proofs.Rays.{ahead-normal, middle-between, to_opposite, from_opposite, opposites-same}
 use Rattle.nef_space.proofs.Lists.{is-at_map, is-at_within, map-is_at}
-use Rattle.law_near.proofs.Normals.{normal-kept}
+use Rattle.law_geometry.proofs.near.Normals.{normal-kept}
 
 -- ---- in a complex that shows a set a svertex that leads to later points is the lower end of an edge
 pub partner : (s : Set) (C : PlainComplex) → Shows s C → (i a : ℕ) (v : PlainVertex) (u : MapVertex) → IsAt C.vertices i v → IsAt v.map.svertices a u → IsNormal u.dir → (e : PlainEdge) × IsFrom C.vertices i a e

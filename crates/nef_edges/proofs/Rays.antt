@@ -1,9 +1,9 @@
 -- Points on one line: those that come later in the order of points lie ahead.
 use Rattle.nef_edges.proofs.Prelude.{◌≡◌, ℤ, pos, ◌-ℤ◌, ◌*ℤ◌, neg_ℤ, arith, ◌∙◌, [], ◌∷◌, ints, ring, at, neg, ◌⊕◌, ◌⊖◌, ◌⊗◌, SpacePoint, toward, IsAhead, IsBetween, IsPointBelow, Vector, dot, cross, opposite, IsZero, IsNormal, SameDirection, IsOpposite, on_line, SameDirection-turned, SameDirection-trans}
 use Rattle.nef_space.proofs.Vectors.{dot-opposite}
-use Rattle.law_sphere.proofs.Compare.{normals-same}
+use Rattle.law_geometry.proofs.sphere.Compare.{normals-same}
 use Rattle.nef_space.proofs.Elementary.{minor-opposite, minor-opposite_back}
-use Rattle.law_near.proofs.Normals.{normal-kept, toward-normal}
+use Rattle.law_geometry.proofs.near.Normals.{normal-kept, toward-normal}
 
 pub to_opposite : (d e : Vector) → IsOpposite d e → SameDirection d (opposite e)
 to_opposite d e o =

@@ -1,10 +1,10 @@
 -- Edges laid out svertex by svertex, and those that are joined later.
 use Rattle.nef_edges.proofs.Prelude.{◌≡◌, ℕ, zero, suc, ◌+◌, ◌<◌, ◌≤◌, pos, set, List, [], ◌∷◌, ◌++◌, length, map, arith, refl, sym, ap, subst, ◌∙◌, inl, inr, ◌⊎◌, ⊎_elim, Bool, true, cases_order, ints, IsNormal, vector_of, IsAt, MapVertex, InOrder, is-at_one, IsEdgeBelow, Edges, SVertex, svertex_of, Vertex, Edge, vertex_of, edge_of, IsEarlierSvertex, AreJoined, IsMatched, AreMatched, ArriveApart, AreMarkedArrivals, slot_of, AreLaid, IsPart, IsJoinedAt, is-at_none, is-at_first}
-use Rattle.law_complex.specs.Complexes.{Vertex as PlainVertex, Edge as PlainEdge}
+use Rattle.law_geometry.specs.complex.Complexes.{Vertex as PlainVertex, Edge as PlainEdge}
 use Rattle.nef_edges.proofs.Arrivals.{before-more, before-row, earlier-row, earlier-next}
 use Rattle.nef_edges.proofs.Matched.{matched-are_edges}
 use Rattle.nef_space.proofs.Lists.{is-at_last, is-at_left, is-at_map, is-at_more, is-at_within, map-is_at}
-use Rattle.law_sphere.proofs.Lists.{order-more}
+use Rattle.law_geometry.proofs.sphere.Lists.{order-more}
 
 -- ---- one element is another
 module _ {A : Type 0} where

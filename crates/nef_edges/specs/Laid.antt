@@ -1,8 +1,8 @@
 -- Edges laid out from all svertices that lead on, some of which are loose.
 use Rattle.std.specs.Prelude.{◌≡◌, ◌≤◌, ◌⊎◌, ℕ, List, map, set}
 use Rattle.nef_complex.specs.Prelude.{IsNormal, IsAt, vector_of, vertex_of, edge_of}
-use Rattle.law_sphere.specs.Least.{InOrder}
-use Rattle.law_complex.specs.Complexes.{IsEdgeBelow}
+use Rattle.law_geometry.specs.sphere.Least.{InOrder}
+use Rattle.law_geometry.specs.complex.Complexes.{IsEdgeBelow}
 use Rattle.nef_smap.specs.declared.map.SVertex.{SVertex}
 use Rattle.nef_complex.specs.declared.complex.Vertex.{Vertex}
 use Rattle.nef_index.specs.declared.skeleton.Edge.{Edge}

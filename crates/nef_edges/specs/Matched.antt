@@ -1,8 +1,8 @@
 -- Matched edges: guesses of edges, each of which is checked alone.
 use Rattle.std.specs.Prelude.{◌≡◌, ◌<◌, ◌+◌, ◌-◌, ◌^◌, ℕ, min, List, get_or, Bool, true}
 use Rattle.nef_space.specs.Prelude.{toward, cross, IsZero, IsNormal, IsOpposite}
-use Rattle.law_sphere.specs.Prelude.{IsAt, MapVertex, InOrder}
-use Rattle.law_complex.specs.Complexes.{Vertex, Edge, IsEdgeBelow, Edges}
+use Rattle.law_geometry.specs.sphere.Prelude.{IsAt, MapVertex, InOrder}
+use Rattle.law_geometry.specs.complex.Complexes.{Vertex, Edge, IsEdgeBelow, Edges}
 use Rattle.nef_geo.specs.Shapes.{point_of, vector_of}
 use Rattle.nef_smap.specs.declared.map.SVertex.{SVertex}
 use Rattle.nef_complex.specs.declared.complex.Vertex.{Vertex as ProgramVertex}

@@ -1,8 +1,8 @@
 -- Vertices whose svertices are ends of edges, and the edges from some of the svertices.
 use Rattle.std.specs.Prelude.{◌≡◌}
 use Rattle.nef_complex.specs.Prelude.{ℕ, List, map, IsPointBelow, opposite, IsNormal, IsAt, MapVertex, Shaped, vertex_of, edge_of}
-use Rattle.law_sphere.specs.Least.{InOrder}
-use Rattle.law_complex.specs.Complexes.{Vertex as PlainVertex, Edge as PlainEdge, IsEdge, IsEdgeBelow}
+use Rattle.law_geometry.specs.sphere.Least.{InOrder}
+use Rattle.law_geometry.specs.complex.Complexes.{Vertex as PlainVertex, Edge as PlainEdge, IsEdge, IsEdgeBelow}
 use Rattle.nef_complex.specs.declared.complex.Vertex.{Vertex}
 use Rattle.nef_index.specs.declared.skeleton.Edge.{Edge}
 

@@ -4,8 +4,8 @@ use Rattle.std.proofs.Math.Nat.{dvd-mul_right}
 use Rattle.nef_geo.specs.declared.plane.Plane.{Plane}
 use Rattle.nef_geo.proofs.Products.{kept}
 use Rattle.nef_case.proofs.TurnLemmas.{same_triple}
-use Rattle.law_turns.proofs.Numbers.{at_most-turned, lowest_form-turned}
-use Rattle.law_turns.proofs.Vectors.{direction-turned}
+use Rattle.law_geometry.proofs.turns.Numbers.{at_most-turned, lowest_form-turned}
+use Rattle.law_geometry.proofs.turns.Vectors.{direction-turned}
 use Rattle.nef_space.proofs.Vectors.{neg-zero, normal-direction}
 
 abbrev pub word : ℤ → ℤ

@@ -1,7 +1,7 @@
 -- The names that most proofs cite, passed on from one place. Declares nothing.
 pub use Rattle.nef_geo.proofs.Prelude.{Bool, Equal, Form, Greater, IsAtMost, IsDirection, IsInRange, IsLowest, IsPositiveMultiple, Less, List, MatchOrdering, Ordering, Some, SpacePoint, Vector, [], ap, arith, at, cases_lt, false, false≢true, form, form_at, form_numbers, form_of, given_form, inl, inr, ints, nat_abs, neg_ℤ, negsuc, normal_limit, normal_of, num, of_z, offset_limit, opposite_form, point_limit, point_of, pos, refl, ring, sign_of, subst, suc, sym, to_z, true, unsigned_abs-mul, vector, w64, zero, ℕ, ℤ, ◌*ℤ◌, ◌*◌, ◌+◌, ◌-ℤ◌, ◌-◌, ◌<ℤ◌, ◌<◌, ◌∙◌, ◌∣◌, ◌∷◌, ◌≡◌, ◌≤◌, ◌⊎◌, ◌⊗◌}
 pub use Rattle.nef_case.proofs.Prelude.{common_steps, get_or, get_or_from_slice_get, length, slice_get, slice_get-get_or}
-pub use Rattle.law_turns.proofs.Prelude.{InHalf, IsComposition, Set, Triple, cond, map, turned, turned_plane, turned_point, turned_set, turned_vector, ◌++◌}
+pub use Rattle.law_geometry.proofs.turns.Prelude.{InHalf, IsComposition, Set, Triple, cond, map, turned, turned_plane, turned_point, turned_set, turned_vector, ◌++◌}
 pub use Rattle.std.proofs.Common.{Err, IfOk, Ok, Result, append-nil, append_assoc, drop, length-append, not, ◌&&◌, ◌||◌}
 pub use Rattle.std.proofs.Math.ListN.{get_or-append}
 pub use Rattle.std.proofs.Math.Seq.{get_or-append_seam, take-append_seam}
@@ -13,7 +13,7 @@ pub use Rattle.std.specs.Ordering.{is_eq, nat_cmp}
 pub use Rattle.std.specs.Prelude.{IsTrue, nat_eq, slice_index, slice_index_or, ◌↔◌}
 pub use Rattle.nef_space.specs.Sets.{Holds}
 pub use Rattle.nef_geo.specs.declared.plane.Oriented.{Oriented}
-pub use Rattle.law_turns.proofs.Carriers.{same-form}
+pub use Rattle.law_geometry.proofs.turns.Carriers.{same-form}
 pub use Rattle.nef_expr.specs.Copying.{AreClosedFrom, AreCopies, AreWithOperands, Extends, IsMarked, IsTurnedNode, MarksOperands, OperandsTurned, Stays, turned_shape}
 pub use Rattle.nef_expr.specs.Nodes.{IsOperand, IsOrdered, NamesBelow, Shape, Uses, UsesBelow, made_of, node_set, operand, set_of, sets_after, shape_of}
 pub use Rattle.nef_expr.specs.Plain.{IsPlainSet, TellsEach, TellsHolds, TellsNext}

@@ -1,6 +1,6 @@
 -- How the turned copy of a node is made.
 use Rattle.std.specs.Prelude.{◌≡◌, ℕ, ◌+◌, ◌<◌, ◌≤◌, Bool, true, false, List, ◌++◌, Some, slice_get, slice_index, slice_index_or, length, ◌⊎◌}
-use Rattle.law_turns.specs.Turned.{turned_set}
+use Rattle.law_geometry.specs.turns.Turned.{turned_set}
 use Rattle.nef_expr.specs.declared.nodes.Node.{Node}
 use Rattle.nef_expr.specs.Nodes.{Shape, shape_of, IsOperand}
 use Rattle.nef_expr.specs.Turns.{TurnOf}

@@ -4,7 +4,7 @@ use Rattle.nef_space.specs.Prelude.{ℕ, List, [], Some, length, slice_get, Spac
 use Rattle.nef_expr.specs.declared.nodes.Node.{Node}
 use Rattle.nef_expr.specs.Nodes.{node_set, set_of, sets_after, NamesBelow, IsOrdered}
 use Rattle.nef_expr.specs.Turns.{TurnOf}
-use Rattle.law_turns.specs.Turned.{turned_point, turned_set}
+use Rattle.law_geometry.specs.turns.Turned.{turned_point, turned_set}
 
 -- a node that is added leaves the sets of the earlier nodes
 abbrev pub EarlierSetsStay : Type 0

@@ -3,7 +3,7 @@
 
 ghost use Rattle.std.specs.Prelude.{◌≡◌, ◌+◌, ◌*◌, ◌<◌, ◌≤◌, ◌∷◌, ◌++◌};
 ghost use Rattle.nef_geo.specs.Prelude.{ℕ, [], length, slice_get, IfOk, IfSome, OnErr, None, Some, form, given_form};
-ghost use Rattle.law_turns.specs.Turned.{turned_plane};
+ghost use Rattle.law_geometry.specs.turns.Turned.{turned_plane};
 ghost use Rattle.nef_expr.specs.Nodes.{NamesBelow, IsOrdered};
 ghost use Rattle.nef_expr.specs.Turns.{TurnOf};
 ghost use Rattle.nef_expr.specs.Table.{most_bases, origin, key_of, HasOrigin, IsOfOrigin, AreOrigins, IsCopyOf};

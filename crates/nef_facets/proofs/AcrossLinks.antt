@@ -1,6 +1,6 @@
 -- Links across facets, by what the ray inward in a carrier names.
 use Rattle.nef_facets.proofs.Prelude.{◌≡◌, ℕ, pos, List, [], ◌∷◌, ◌++◌, refl, ap, sym, ◌∙◌, subst, Form, form_at, normal_of, toward, Set, Vector, opposite, SameDirection, plane_dir, point-toward, IsAt, Item, items, item_normal, OnItem, on-direction, on-level, is-at_one, Vertex, Complex, IsCorner, Shows, item_plane, RayNames, through-at, through-level, Corner as ProgramCorner, corner_of, Cell, Tie, LinkAcross, one-vertex, one-named, HasNoSvertex, level-of_opposite, through-same, on_item-way, cell_of, corner_at, IsTieAcross, Adds, dot-zero, SameDirection-turned, SameDirection-trans, dir-self, opposite-same, direction-left, direction-right}
-use Rattle.law_complex.specs.Complexes.{Corner}
+use Rattle.law_geometry.specs.complex.Complexes.{Corner}
 use Rattle.nef_conn.proofs.WayInward.{names-same, dir-same}
 use Rattle.nef_facets.proofs.Adding.{adds-one}
 use Rattle.nef_facets.proofs.TiedLinks.{tie-same}

@@ -1,8 +1,8 @@
 -- Linked items have one normal and one mark, and the vertices lie in one plane of that normal.
 use Rattle.nef_facets.proofs.Prelude.{◌≡◌, ℕ, pos, sym, ◌∙◌, inl, inr, ⊎_elim, [], ◌∷◌, List, subst, IsChain, Chained, SpacePoint, Form, form_at, normal_of, slope, SamePoint, toward, Set, Vector, opposite, dot, SameDirection, plane_dir, Label, ahead, joined-germs, labels-by_germs, label-one, IsAt, Item, arc_item, items, item_normal, item_mark, on-level, is-at_one, at-arc, Vertex, Edge, Complex, HasEnds, IsCorner, Shows, item_plane, PlaneMeet, meets_vertex, meets_edge, IsFirstInPlane, IsCornerAt, plane-onward, plane-back, plane-ahead, ahead-same, through-at, through-level, AreAlong, LinkAlong, LinkAcross, FacetLink, facet-near, AreTiedItems, EdgeWays, edge-ways, end-level, along-tied, across-tied, SameDirection-turned, SameDirection-trans, level-way}
-use Rattle.law_complex.specs.Complexes.{Corner}
-use Rattle.law_complex.proofs.links.EdgeEnds.{corner_of_numbers}
-use Rattle.law_complex.proofs.FacetEnds.{level-normal}
+use Rattle.law_geometry.specs.complex.Complexes.{Corner}
+use Rattle.law_geometry.proofs.complex.links.EdgeEnds.{corner_of_numbers}
+use Rattle.law_geometry.proofs.complex.FacetEnds.{level-normal}
 use Rattle.nef_conn.proofs.Named.{own-plane}
 use Rattle.nef_facets.specs.Facets.{IsMarkAt}
 

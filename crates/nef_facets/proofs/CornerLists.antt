@@ -1,6 +1,6 @@
 -- Lists of corners.
 use Rattle.nef_facets.proofs.Prelude.{◌≡◌, ℕ, zero, suc, ◌+◌, ◌<◌, pos, List, [], ◌∷◌, ◌++◌, length, arith, refl, ap, sym, ◌∙◌, subst, inl, inr, ⊎_elim, ◌⊎◌, append_assoc, length-append, ints, IsAt, items, is-at_one, Either, earlier, last, is-at_pushed, is-at_last, is-at_left, is-at_within, is-at_some, Vertex as PlainVertex, Complex as PlainComplex, Corner, corner_of, IsCornerBelow, corner_from, corners_at, HasItem, AreCorners, StandFrom}
-use Rattle.law_complex.specs.Complexes.{Corner as PlainCorner}
+use Rattle.law_geometry.specs.complex.Complexes.{Corner as PlainCorner}
 use Rattle.nef_space.proofs.Lists.{is-at_parts, is-at_right}
 use Rattle.nef_space.proofs.Elementary.{less-or-last}
 

@@ -1,6 +1,6 @@
 -- Orbits of the next corners are cycles, and those of one facet are its cycles.
 use Rattle.nef_facets.proofs.Prelude.{◌≡◌, ℕ, zero, suc, ◌<◌, List, [], ◌∷◌, length, map, arith, refl, ap, sym, subst, Option, Some, Result, Ok, Err, IfOk, All, IsAt, Chained, Set, chain-here, chain-trans, is-at_one, is-at_within, is-at_some, is-at_is, map-is_at, is-at_map, Complex as PlainComplex, Shows, Corner, corner_of, FacetLink, Cycle, NextCorner, IsCornerBelow, StepsTo, IsCycle, IsCycleBelow, Cycles, IsFacetOf, FacetNumbers, cycle_corners, CornersAreInOrder, AreCorners, corner_from, AreNext, IsStep, StepsOver, IsOrbit, AreOrbits, AreCornersOf, AreNumberedOrbits, IsCycleOf, AreCycleRows, is-at_none, is-at_first}
-use Rattle.law_complex.specs.Complexes.{Corner as PlainCorner}
+use Rattle.law_geometry.specs.complex.Complexes.{Corner as PlainCorner}
 use Rattle.nef_facets.proofs.FirstCorners.{facet-one, facet-item, item-facet}
 use Rattle.nef_facets.proofs.NextCorners.{next-injective, next-linked}
 use Rattle.nef_facets.proofs.Order.{one-place}

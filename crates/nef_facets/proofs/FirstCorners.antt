@@ -1,6 +1,6 @@
 -- The first corners of facets, and the numbers of items.
 use Rattle.nef_facets.proofs.Prelude.{◌≡◌, ◌≢◌, ℕ, ◌<◌, ◌≤◌, ◌+◌, List, [], ◌∷◌, ◌++◌, length, arith, sym, ◌∙◌, ⊎_elim, subst, length-append, cases_order, IsAt, items, Either, earlier, last, is-at_pushed, is-at_one, is-at_within, is-at_some, Complex, Corner, corner_of, IsFacetOf, FacetNumbers, corner_from, HasItem, AreCorners, AreFirsts}
-use Rattle.law_complex.specs.Complexes.{Corner as PlainCorner}
+use Rattle.law_geometry.specs.complex.Complexes.{Corner as PlainCorner}
 use Rattle.nef_facets.proofs.Order.{number-below}
 use Rattle.nef_space.proofs.Elementary.{less-or-last}
 

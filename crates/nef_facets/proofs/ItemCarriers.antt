@@ -1,6 +1,6 @@
 -- Each item lies in a carrier, and the items of the program's vertices.
 use Rattle.nef_facets.proofs.Prelude.{◌≡◌, ℕ, ◌<◌, arith, ⊎_elim, pos, List, map, length, ap, sym, ◌∙◌, subst, IsAt, SpacePoint, Form, form_at, normal_of, Set, Vector, IsNormal, SameDirection, Item, items, item_normal, Vertex as PlainVertex, IsCorner, is-at_one, vertex_of, complex_of, AreHolders, map-is_at, is-at_map, is-at_within, form_of, point_of, Plane, map_of, Shows}
-use Rattle.law_complex.specs.Complexes.{Corner as PlainCorner}
+use Rattle.law_geometry.specs.complex.Complexes.{Corner as PlainCorner}
 use Rattle.nef_complex.specs.declared.complex.Vertex.{Vertex}
 use Rattle.nef_complex.specs.declared.complex.Complex.{Complex}
 use Rattle.nef_complex.proofs.Carried.{carried}

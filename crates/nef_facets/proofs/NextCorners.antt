@@ -1,12 +1,12 @@
 -- Each arc has a next corner, and no two corners have one next corner.
 use Rattle.nef_facets.proofs.Prelude.{◌≡◌, ℕ, ◌+◌, pos, ◌<ℤ◌, ◌+ℤ◌, ◌*ℤ◌, neg_ℤ, arith, refl, ap, sym, ◌∙◌, inl, inr, ⊎_elim, [], ◌∷◌, subst, ints, sign, ring, at, num, ◌⊕◌, ◌⊗◌, Chained, Germ, SpacePoint, toward, Set, Vector, opposite, blend, dot, cross, triple, IsDirection, SameDirection, Label, carriers, SameGerms, FlatDim-by_germs, ahead, near-ahead, joined-germs, steep, forms, IsAt, Arc, MapSloop, Item, arc_item, sloop_item, items, item_normal, Map, OnItem, NearLabel, Valid, normal-is, dot-comb, same-plus, same-minus, amount, far-keeps, is-at_one, arc-at, direction-around, turn-same, at-arc, Vertex, Complex, IsCorner, Shows, near-label, flats-carried, IsInFacetOf, target-met, FacetLink, facet-near, IsTied, tied-turned, tied-both, tied-ahead, end-level, close_way, on-close, tied-close_way, tied-turn, chain-link, chain-turned, IsNextArc, NextCorner, square-cross, nought-if, SameDirection-turned, SameDirection-trans, dir-self, dot-opposite, level-way, opposite-way, direction-right}
 use Rattle.nef_space.proofs.Vectors.{back-triple}
-use Rattle.law_complex.specs.Complexes.{Corner}
-use Rattle.law_complex.proofs.FacetCorners.{ItemAt, item-at}
-use Rattle.law_complex.proofs.links.EdgeEnds.{corner_of_numbers, left-turn}
+use Rattle.law_geometry.specs.complex.Complexes.{Corner}
+use Rattle.law_geometry.proofs.complex.FacetCorners.{ItemAt, item-at}
+use Rattle.law_geometry.proofs.complex.links.EdgeEnds.{corner_of_numbers, left-turn}
 use Rattle.nef_facets.proofs.EdgeViews.{EdgeFrom, edge-from, one-vertex, one-svertex}
-use Rattle.law_complex.proofs.FacetEnds.{level-normal}
-use Rattle.law_complex.proofs.Equal.{corners-equal}
+use Rattle.law_geometry.proofs.complex.FacetEnds.{level-normal}
+use Rattle.law_geometry.proofs.complex.Equal.{corners-equal}
 
 -- an arc of one normal that ends at a svertex
 pub record ArcInto (M : Map) (b : ℕ) (n : Vector) : Type 0 where

@@ -1,6 +1,6 @@
 -- Numbers of classes of ties between items are facet numbers.
 use Rattle.nef_facets.proofs.Prelude.{◌≡◌, ℕ, ◌+◌, List, ◌++◌, length, map, sym, ◌∙◌, inl, inr, ⊎_elim, ◌⊎◌, ◌↔◌, subst, Result, Ok, Err, length-map, IfOk, IsAt, Chained, chain-link, chain-map, is-at_left, map-is_at, Complex, LinkAlong, LinkAcross, FacetLink, count_items, FacetNumbers, Cell, Tie, AreTiedWithin, AreTied, HasCounts, AreNumbers, cell_of}
-use Rattle.law_complex.specs.Complexes.{Corner}
+use Rattle.law_geometry.specs.complex.Complexes.{Corner}
 use Rattle.nef_space.proofs.Lists.{is-at_parts, is-at_right}
 
 abbrev corner_of_cell : Cell → Corner

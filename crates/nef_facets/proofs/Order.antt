@@ -1,6 +1,6 @@
 -- Listed corners in order.
 use Rattle.nef_facets.proofs.Prelude.{◌≡◌, ℕ, ◌<◌, List, arith, inl, inr, ⊎_elim, subst, sym, cases_order, ints, IsAt, is-at_one, Corner, corner_of, IsCornerBelow, CornersAreInOrder}
-use Rattle.law_complex.specs.Complexes.{Corner as PlainCorner}
+use Rattle.law_geometry.specs.complex.Complexes.{Corner as PlainCorner}
 
 -- of two corners one isn't below the other both ways, and none is below itself
 pub below-once : (x y : PlainCorner) → IsCornerBelow x y → IsCornerBelow y x → ⊥

@@ -9,7 +9,7 @@ pub use Rattle.std.proofs.Common.{replicate}
 pub use Rattle.std.proofs.Math.ListN.{length-map}
 pub use Rattle.std.proofs.lemmas.List.{get_or-replicate, length-replicate}
 pub use Rattle.std.specs.List.{All}
-pub use Rattle.law_complex.specs.links.Links.{AreAlong}
+pub use Rattle.law_geometry.specs.complex.links.Links.{AreAlong}
 pub use Rattle.nef_conn.proofs.OneNamed.{one-met, one-named, one-vertex}
 pub use Rattle.nef_space.proofs.Chains.{chain-here}
 pub use Rattle.nef_classes.proofs.Writes.{set-at, set-other, set-same}

@@ -1,6 +1,6 @@
 -- A list that has exactly the ties of links.
 use Rattle.nef_facets.proofs.Prelude.{◌≡◌, ℕ, List, [], map, refl, ap, sym, ◌∙◌, subst, ◌⊎◌, inl, inr, ◌↔◌, arith, Contains, Form, Vector, opposite, plane_dir, IsAt, Item, arc_item, items, item_normal, at-arc, Vertex, Complex, IsCorner, item_plane, PlaneMeet, meets_vertex, meets_edge, IsCornerAt, at-contains, contains-at, Cell, Tie, IsCellIn, AreTied, AreTiedWithin, LinkAlong, LinkAcross, count_items, cell_of, corner_at, edge_tie, IsTieAlong, IsTieAcross, Any, Adds}
-use Rattle.law_complex.specs.Complexes.{Corner}
+use Rattle.law_geometry.specs.complex.Complexes.{Corner}
 use Rattle.nef_space.proofs.Lists.{is-at_within, map-is_at}
 
 pub tie-same : (t u : Tie) → t.first ≡ u.first → t.second ≡ u.second → t ≡ u

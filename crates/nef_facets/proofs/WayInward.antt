@@ -1,6 +1,6 @@
 -- The corner that the way inward from an item names.
 use Rattle.nef_facets.proofs.Prelude.{◌≡◌, ℕ, zero, suc, ◌<◌, ◌≤◌, ◌+◌, ◌^◌, ℤ, pos, neg_ℤ, nat_abs, List, [], ◌∷◌, length, map, Option, Some, None, MatchOption, slice_get, arith, refl, sym, subst, ints, SpacePoint, Form, normal_of, slope, Set, Vector, opposite, IsAtMost, SameDirection, plane_dir, form_of, ray_limit, plane_dir_limit, Plane, IsAt, Item, items, item_normal, OnItem, is-at_one, map-is_at, map_of, Vertex, Complex, IsCorner, Shows, PlaneMeet, IsFirstInPlane, IsCornerAt, Corner as ProgramCorner, complex_of, corner_of, vertex_of, ShowsSet, Cell, Tie, LinkAcross, HasNoSvertex, FromVertex, level-of_opposite, IsNamedFrom, IsLinkedFrom, corner_at, IsTieAcross, Any, one-met}
-use Rattle.law_complex.specs.Complexes.{Corner}
+use Rattle.law_geometry.specs.complex.Complexes.{Corner}
 use Rattle.nef_complex.specs.declared.complex.Complex.{Complex as ProgramComplex}
 use Rattle.nef_complex.specs.declared.complex.Vertex.{Vertex as ProgramVertex}
 use Rattle.nef_facets.specs.Carriers.{IsPlaneAt, IsPlaneThrough}

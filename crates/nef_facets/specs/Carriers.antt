@@ -1,7 +1,7 @@
 -- The carriers in which items lie.
 use Rattle.std.specs.Prelude.{◌≡◌}
 use Rattle.nef_complex.specs.Prelude.{pos, SpacePoint, form_at, normal_of, Vector, SameDirection, form_of, Plane, Item, item_normal}
-use Rattle.law_complex.specs.Complexes.{Vertex, Complex, Corner, IsCorner}
+use Rattle.law_geometry.specs.complex.Complexes.{Vertex, Complex, Corner, IsCorner}
 
 -- the complex has an item at the corner
 abbrev pub HasItem : Complex → Corner → Type 0

@@ -1,7 +1,7 @@
 -- Lists of corners.
 use Rattle.std.specs.Prelude.{◌≡◌, ◌+◌, ◌<◌, ◌∷◌, ◌++◌, ℕ, zero, suc, List, []}
 use Rattle.nef_complex.specs.Prelude.{IsAt, corner_of}
-use Rattle.law_complex.specs.Complexes.{Complex, Corner as PlainCorner}
+use Rattle.law_geometry.specs.complex.Complexes.{Complex, Corner as PlainCorner}
 use Rattle.nef_complex.specs.declared.complex.Corner.{Corner}
 use Rattle.nef_complex.specs.Cycles.{IsCornerBelow}
 pub use Rattle.nef_facets.specs.Carriers.{HasItem}

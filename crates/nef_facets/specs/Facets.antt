@@ -1,8 +1,8 @@
 -- The facets of a complex.
 use Rattle.std.specs.Prelude.{◌≡◌, ◌<◌}
 use Rattle.nef_complex.specs.Prelude.{ℕ, pos, List, length, IsAt, form_at, normal_of, SameDirection, Label, form_of, Plane, corner_of}
-use Rattle.law_sphere.specs.Maps.{Item, item_normal, item_mark}
-use Rattle.law_complex.specs.Complexes.{Vertex, Complex, Corner, IsCorner}
+use Rattle.law_geometry.specs.sphere.Maps.{Item, item_normal, item_mark}
+use Rattle.law_geometry.specs.complex.Complexes.{Vertex, Complex, Corner, IsCorner}
 use Rattle.nef_complex.specs.declared.complex.Corner.{Corner as CornerValue}
 use Rattle.nef_complex.specs.Cycles.{Cycles}
 use Rattle.nef_complex.specs.Numbers.{IsFacetOf, FacetNumbers, cycle_corners}

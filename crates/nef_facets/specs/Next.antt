@@ -1,8 +1,8 @@
 -- The next corner of each corner, by numbers.
 use Rattle.std.specs.Prelude.{◌≡◌, ◌<◌}
 use Rattle.nef_complex.specs.Prelude.{ℕ, List, length, IsAt, Vector, SameDirection, corner_of}
-use Rattle.law_sphere.specs.Maps.{Arc, Map}
-use Rattle.law_complex.specs.Complexes.{Vertex, Complex, Corner as PlainCorner}
+use Rattle.law_geometry.specs.sphere.Maps.{Arc, Map}
+use Rattle.law_geometry.specs.complex.Complexes.{Vertex, Complex, Corner as PlainCorner}
 use Rattle.nef_complex.specs.declared.complex.Corner.{Corner}
 use Rattle.nef_complex.specs.Cycles.{NextCorner}
 

@@ -1,8 +1,8 @@
 -- The names that most clauses cite, passed on from one place. Declares nothing.
 pub use Rattle.nef_smap.specs.Prelude.{arc_of, map_of}
 pub use Rattle.nef_complex.specs.Prelude.{Corner, FacetNumbers, IfOk, IsAt, IsFacetOf, IsTrue, Leads, OnOk, Plane, Set, ShowsSet, complex_of, corner_of, count_items, edge_of, false, length, map, vector_of, ℕ}
-pub use Rattle.law_complex.specs.Complexes.{Complex, Edge}
-pub use Rattle.law_complex.specs.links.Links.{FacetLink, LinkAcross, LinkAlong}
+pub use Rattle.law_geometry.specs.complex.Complexes.{Complex, Edge}
+pub use Rattle.law_geometry.specs.complex.links.Links.{FacetLink, LinkAcross, LinkAlong}
 pub use Rattle.nef_classes.specs.Tables.{AreTied, AreTiedWithin}
 pub use Rattle.nef_facets.specs.Carriers.{HasItem, IsPlaneAt}
 pub use Rattle.nef_facets.specs.Corners.{AreCorners, AreListed, StandFrom, corners_at}

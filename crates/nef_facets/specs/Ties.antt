@@ -2,12 +2,12 @@
 use Rattle.std.specs.Prelude.{◌≡◌, ◌⊎◌, ℕ, List, Option}
 use Rattle.std.specs.List.{Contains}
 use Rattle.nef_complex.specs.Prelude.{MatchOption, SpacePoint, Form, Vector, SameDirection, corner_of, IsAt}
-use Rattle.law_sphere.specs.Maps.{Arc, Map}
-use Rattle.law_complex.specs.Prelude.{Vertex, Edge, Complex, Corner, HasEnds, RayNames}
+use Rattle.law_geometry.specs.sphere.Maps.{Arc, Map}
+use Rattle.law_geometry.specs.complex.Prelude.{Vertex, Edge, Complex, Corner, HasEnds, RayNames}
 use Rattle.nef_complex.specs.declared.complex.Corner.{Corner as ProgramCorner}
 use Rattle.nef_classes.specs.declared.table.Cell.{Cell}
 use Rattle.nef_classes.specs.declared.table.Tie.{Tie}
-use Rattle.law_complex.specs.links.Links.{LinkAcross}
+use Rattle.law_geometry.specs.complex.links.Links.{LinkAcross}
 
 -- the corner as an element of the table that has a row for each vertex and an element for each of its items
 abbrev pub cell_of : Corner → Cell

@@ -3,8 +3,8 @@ pub use Rattle.nef_space.proofs.Order.{cancel_le, lt_by, mul_nonneg}
 pub use Rattle.nef_space.proofs.Lists.{is-at_get, is-at_is, is-at_last, is-at_left, is-at_one, is-at_some, is-at_within}
 pub use Rattle.nef_space.proofs.Prelude.{cond, fits_signed_from_abs, ltb}
 pub use Rattle.nef_space.specs.Lists.{IsAt}
-pub use Rattle.law_near.proofs.Prelude.{Out, cases_order}
-pub use Rattle.law_complex.specs.Spans.{Coordinate, IsWithin, coordinate_of, coordinate_x, coordinate_y, coordinate_z}
+pub use Rattle.law_geometry.proofs.near.Prelude.{Out, cases_order}
+pub use Rattle.law_geometry.specs.complex.Spans.{Coordinate, IsWithin, coordinate_of, coordinate_x, coordinate_y, coordinate_z}
 pub use Rattle.nef_geo.proofs.Prelude.{false≢true, Bool, Form, IfSome, IsBelow, None, SpacePoint, Vector, at, cases_lt, false, form_at, form_numbers, form_of, int_cmp, mul_pos, nat_abs, neg, neg_ℤ, negsuc, normal_of, num, of_z, point_of, point_limit, pos-abs, ring, sign_of, sub_pos, to_z, to_z-of_z, true, w64, weight_limit, ℤ, ◌*ℤ◌, ◌*◌, ◌+ℤ◌, ◌-ℤ◌, ◌/◌, ◌<ℤ◌, ◌≤ℤ◌, ◌⊕◌, ◌⊖◌, ◌⊗◌}
 pub use Rattle.nef_geo.specs.Signs.{sign_number}
 pub use Rattle.nef_geo.specs.declared.plane.Plane.{Plane}

@@ -1,7 +1,7 @@
 -- Spans: boxes with whole numbers as bounds.
 use Rattle.std.specs.Prelude.{◌<◌, ◌≤◌, ◌≤ℤ◌}
 use Rattle.nef_geo.specs.Prelude.{ℕ, nat_abs, List, point_limit, IsAt, SpacePoint}
-use Rattle.law_complex.specs.Spans.{coordinate_x, coordinate_y, coordinate_z, IsWithin}
+use Rattle.law_geometry.specs.complex.Spans.{coordinate_x, coordinate_y, coordinate_z, IsWithin}
 use Rattle.nef_index.specs.declared.spans.Bounds.{Bounds}
 use Rattle.nef_index.specs.declared.spans.Span.{Span}
 

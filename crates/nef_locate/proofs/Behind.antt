@@ -1,9 +1,9 @@
 -- The corner of a facet point: what it first meets has an item behind, and such an item is its corner.
 use Rattle.nef_locate.proofs.Prelude.{◌≡◌, ℕ, pos, refl, sym, ◌∙◌, ⊎_elim, subst, Flat, FlatDim, SpacePoint, Form, form_at, level-of_opposite, normal_of, slope, toward, IsBetween, Set, Vector, opposite, dot, IsDirection, IsNormal, SameDirection, plane_axis, Drop, between-turned, between-inner, even-until, even-germs, IsAt, arc_item, Item, item_normal, dir_of, at-arc, on-level, normal-direction, Vertex, Corner, IsCorner, IsFlatIn, Shows, IsEdgePoint, PlaneMeet, meets_vertex, meets_edge, Meets, IsFirstInPlane, IsCornerAt, HasCorner, item_plane, FlatAre, edge-points, near_point, near-between, corner-one, through-at, ahead-back, low-end, way-is, arc-beside, item-seen, facets-complete, plane-ahead, end-meets, flat-onto, even-by, between-way, between-start, SameDirection-turned, SameDirection-trans, dir-self, level-way, direction-left}
-use Rattle.law_complex.specs.Complexes.{Complex}
-use Rattle.law_complex.proofs.FacetPoints.{facet-point}
-use Rattle.law_complex.proofs.FacetSides.{flats-one, flats-carried}
-use Rattle.law_complex.proofs.links.Across.{through-same}
+use Rattle.law_geometry.specs.complex.Complexes.{Complex}
+use Rattle.law_geometry.proofs.complex.FacetPoints.{facet-point}
+use Rattle.law_geometry.proofs.complex.FacetSides.{flats-one, flats-carried}
+use Rattle.law_geometry.proofs.complex.links.Across.{through-same}
 use Rattle.nef_conn.proofs.WayInward.{names-same}
 use Rattle.nef_locate.proofs.SameAxis.{axis-same}
 

@@ -1,8 +1,8 @@
 -- Skeleton points lie on carriers, which no upright direction lies in; points of the closed frame where all directions are flat lie in the frame.
 use Rattle.nef_locate.proofs.Prelude.{◌≡◌, ℕ, ◌+◌, ◌*◌, ◌<◌, ◌≤◌, ℤ, pos, neg_ℤ, ◌+ℤ◌, ◌*ℤ◌, ◌-ℤ◌, ◌<ℤ◌, nat_abs, arith, sym, inl, inr, ⊎_elim, [], ◌∷◌, subst, ints, nought, Lies, nought-is, mul_pos, mul_nonneg, ring, at, num, neg, ◌⊕◌, ◌⊖◌, ◌⊗◌, half_side, FlatDim, Out, SpacePoint, Form, form_at, InFrame, InClosedFrame, step, IsAhead, Set, Vector, vector, IsVertical, IsCrossing, form_of, Plane, carriers, sign_at, flat-germ, InFrame-decided, span-3, facet-support, IsAt, is-at_map, SamePlane, IsSkeletonIn, at_vertex, on_edge, in_facet, IsSkeletonPoint, meets_vertex, meets_edge, plane-turned, plane-point, plane-slope, between-ends, Complex, complex_of, ShowsSet, held-between, edge-carried, facet-at}
-use Rattle.law_near.proofs.Meets.{vertex-meets}
+use Rattle.law_geometry.proofs.near.Meets.{vertex-meets}
 use Rattle.nef_locate.proofs.Upward.{plane-upright}
-use Rattle.law_near.proofs.Same.{dim-same}
+use Rattle.law_geometry.proofs.near.Same.{dim-same}
 
 -- ---- the frame
 -- a short step from a point of the closed frame toward the middle leads into the frame

@@ -1,6 +1,6 @@
 -- The labels and the germs of a point by its place.
 use Rattle.nef_locate.proofs.Prelude.{◌≡◌, pos, ap, sym, subst, ◌∙◌, sign, HasLabel, Germ, FlatDim, SpacePoint, toward, Set, Vector, IsDirection, dot, plane_axis, Label, flat-germ, span-3, IsPlaneOf, MapSloop, Item, item_normal, item_pos, item_mark, item_neg, Map, MapLabel, Valid, by_side, Cone, normal-direction, on-level, Vertex, Corner, IsCorner, Shows, item_plane, HasCorner, meets-on, through-at, facet-from_behind, weight-positive, normal-scaled, through-level, axis-in}
-use Rattle.law_complex.specs.Complexes.{Complex}
+use Rattle.law_geometry.specs.complex.Complexes.{Complex}
 
 -- where all directions are flat there is one label
 pub cone-flat : (M : Map) (s : Set) (y : SpacePoint) (l : Label) → Valid M → M.mark ≡ l → ((d : Vector) → IsDirection d → MapLabel M d l) → HasLabel s y l → FlatDim s y 3 → Cone M s y

@@ -1,8 +1,8 @@
 -- What is found at the points of an edge.
 use Rattle.nef_locate.proofs.Prelude.{◌≡◌, ℕ, zero, suc, ◌<◌, ◌*◌, List, map, length, arith, sym, ap, subst, ◌∙◌, slice_get, Some, None, ints, IsPermutation, svertex_limit, normal_limit, HasLabel, SpacePoint, toward, IsAhead, IsBetween, Set, Vector, IsNormal, IsAtMost, opposite, flat-germ, IsAt, MapVertex as PlainSvertex, Map, MapLabel, Item, items, item_normal, arc_item, sloop_item, Valid, Cone, Least, Ordered, InOrder, at-arc, sloop-at, is-at_one, arc-at, SVertex, SArc, SphereMap, svertex_of, arc_of, map_of, IsSmall, IsLeastMap, Vertex as PlainVertex, IsEdge, Shows, IsEdgePoint, label-germ, germ-label, IsAlongSvertex, along-svertex, near_point, near-between, ahead-normal, Edge, Complex, vertex_of, edge_of, complex_of, ShowsSet, IsArcBelow, two_ends, AreHalves, dir-self, direction-left, is-at_none, is-at_first}
-use Rattle.law_sphere.proofs.cones.Cones.{point-map}
-use Rattle.law_sphere.proofs.Dimensions.{map-flat}
-use Rattle.law_complex.specs.Complexes.{Edge as PlainEdge, Complex as PlainComplex}
+use Rattle.law_geometry.proofs.sphere.cones.Cones.{point-map}
+use Rattle.law_geometry.proofs.sphere.Dimensions.{map-flat}
+use Rattle.law_geometry.specs.complex.Complexes.{Edge as PlainEdge, Complex as PlainComplex}
 use Rattle.nef_complex.specs.declared.complex.Vertex.{Vertex}
 use Rattle.nef_locate.proofs.Marks.{image-read}
 use Rattle.nef_locate.proofs.FlatLabels.{label-is}

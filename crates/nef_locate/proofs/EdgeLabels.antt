@@ -1,8 +1,8 @@
 -- The labels at the points of an edge, by the arcs at its lower end.
 use Rattle.nef_locate.proofs.Prelude.{◌≡◌, ℕ, ◌+◌, ◌≤◌, pos, ◌*ℤ◌, ◌+ℤ◌, ◌<ℤ◌, arith, refl, ap, sym, ◌∙◌, ◌⊎◌, inl, inr, ⊎_elim, ◌↔◌, List, subst, ints, sign, sign-plus, sign-minus, nought-or, Vector, IsDirection, IsNormal, SameDirection, cross, dot, opposite, blend, Label, same-nought, same-off, SameSigns, forms, IsAt, MapVertex, Arc, Map, MapLabel, on_item, arc_item, OnItem, NearLabel, IsFree, Valid, FlatMap, by_side, Least, Ordered, Near, StraightAt, Proper, ArcRay, ray_left, end_left, Unrayed, at-arc, cross-between, amount, far-keeps, far-level, label-unique, label-by_signs, near-from_far, far-from_near, near-direction, near-unique, search_list, near-item, SameDirection-decided, left-on, on-end, dot-comb, decided-both, Of, dot-comm, self-pos, cross-turned, cross-none, opposite-dot, direction-opposite, level-opposite, level-opposite-back, square-cross, nought-if, SameDirection-trans, blend-turned}
-use Rattle.law_sphere.proofs.NearItems.{free-plain}
-use Rattle.law_sphere.proofs.NearSvertex.{same-cross, near-clear}
-use Rattle.law_sphere.proofs.Unique.{eq-decided}
+use Rattle.law_geometry.proofs.sphere.NearItems.{free-plain}
+use Rattle.law_geometry.proofs.sphere.NearSvertex.{same-cross, near-clear}
+use Rattle.law_geometry.proofs.sphere.Unique.{eq-decided}
 use Rattle.nef_locate.proofs.FlatLabels.{labels_of, label-is, is-label}
 
 -- where K, k, j and J are large, J w + (k f + e) has the signs of j (K w + f) + e: those of w, of f where these are nought, and then those of e

@@ -2,12 +2,12 @@
 use Rattle.nef_locate.proofs.Prelude.{◌≡◌, ℕ, zero, suc, ◌<◌, ℤ, pos, negsuc, neg_ℤ, ◌*ℤ◌, ◌+ℤ◌, ◌-ℤ◌, arith, refl, ap, sym, ◌∙◌, ◌⊎◌, inl, inr, ⊎_elim, List, [], ◌∷◌, Some, None, subst, ints, ring, at, num, neg, ◌⊕◌, ◌⊖◌, ◌⊗◌, follows, given, none, by_order, mul_pos, Vector, IsDirection, IsZero, IsNormal, IsOpposite, SameDirection, cross, dot, opposite, blend, Label, IsStrictlyOn, forms, combination, IsPrimitive, VectorBelow, IsAt, MapVertex, Arc, Item, arc_item, sloop_item, Map, items, item_normal, dir_of, OnItem, ArcBetween, HasArc, MapLabel, at_svertex, NearLabel, Valid, by_side, InOrder, ArcBelow, Least, Ordered, Near, StraightAt, IsSmooth, plain, straight, IsBuilt, NoneSmooth, Proper, StraightAfter, ArcRay, ray_left, end_left, at-arc, sloop-at, normals-not_opposite, cross-between, lowest-same, near-lone, arc-at, normal-direction, direction-by, dot-comb, cross-direction_right, Of, labels-build, to_opposite, from_opposite, two_ends, zero-decided, self-pos, vector-same, cross-turned, opposite-same, direction-opposite, level-of_opposite, opposite-twice, cross-opposite, nought-if, opposites, SameDirection-turned, SameDirection-trans, dir-self, direction-right, is-at_none, is-at_first}
 use Rattle.nef_space.proofs.Order.{sign}
 use Rattle.nef_space.proofs.Vectors.{dot-opposite, opposite-itself, neg-zero}
-use Rattle.law_sphere.proofs.building.BuiltAxes.{number-order}
+use Rattle.law_geometry.proofs.sphere.building.BuiltAxes.{number-order}
 use Rattle.nef_locate.proofs.FlatLabels.{are-labelling, is-label, off-smooth, off-plane, off-axis, flat-opposite, label-moved, straight-moved}
 use Rattle.nef_locate.proofs.EdgeLabels.{HasLabelsAlong, axis, L, to-near, from-near, way-direction, arc-level, ray-straight, arc-there}
-use Rattle.law_sphere.proofs.building.RayClose.{cross-last}
-use Rattle.law_sphere.proofs.building.BuiltArcs.{arc-below_not}
-use Rattle.law_near.proofs.Normals.{normal-kept}
+use Rattle.law_geometry.proofs.sphere.building.RayClose.{cross-last}
+use Rattle.law_geometry.proofs.sphere.building.BuiltArcs.{arc-below_not}
+use Rattle.law_geometry.proofs.near.Normals.{normal-kept}
 
 -- the opposite of a normal is the lesser one
 opposite-below : (d e : Vector) → IsNormal d → IsOpposite d e → VectorBelow e d

@@ -1,11 +1,11 @@
 -- A point of an edge comes between the edge's ends in the order of vertices, and what comes between on its line lies on it.
 use Rattle.nef_locate.proofs.Prelude.{◌≡◌, ℕ, ◌+◌, ◌<◌, ◌≤◌, sym, pos, Bool, IsTrue, ◌↔◌, List, arith, ⊎_elim, subst, eq-or-lt_of_le, cases_lt, IsAt, SpacePoint, Form, form_at, toward, SamePoint, IsBetween, IsPointBelow, Set, IsZero, cross, form_of, point_of, Point, point_below-same, same-point_below, point_below-apart, same-point_sym, map-is_at, is-at_map, is-at_one, Shows, IsVertexPoint, IsEdgePoint, aligned, cross-back, plane-way, between-way, Edge, Complex, edge_of, vertex_of, complex_of, AreBelow, AreAbove, EdgeLiesIn, AreNumbersWith, EndBelow, apart, edge-inside, ends, listed_edge, vertex-same, held-between, AllThrough, edge-along, lies, lying-ends, level-same_point, Span, AreAlone, IsInSpan, IsNarrower, span-between, PartsOn, AreThroughEnds, cross-turned, SameDirection-turned}
-use Rattle.law_sphere.proofs.Compare.{normals-same}
+use Rattle.law_geometry.proofs.sphere.Compare.{normals-same}
 use Rattle.nef_complex.specs.declared.complex.Vertex.{Vertex}
 use Rattle.nef_complex.proofs.Rising.{BeginFrom}
 use Rattle.nef_conn.proofs.Lexical.{normal-below}
-use Rattle.law_near.proofs.PointOrder.{point_below-one_way}
-use Rattle.law_near.proofs.Normals.{normal-kept, toward-normal}
+use Rattle.law_geometry.proofs.near.PointOrder.{point_below-one_way}
+use Rattle.law_geometry.proofs.near.Normals.{normal-kept, toward-normal}
 use Rattle.nef_space.proofs.Elementary.{same-itself}
 
 -- a point strictly between two others comes between them

@@ -1,9 +1,9 @@
 -- The labels of a map that don't change along a direction.
 use Rattle.nef_locate.proofs.Prelude.{◌≡◌, ℕ, zero, suc, ℤ, pos, negsuc, ◌+◌, ◌≤◌, ◌+ℤ◌, ◌*ℤ◌, neg_ℤ, arith, refl, ap, sym, ◌∙◌, [], ◌∷◌, subst, minus, nought, plus, sign, ring, at, num, neg, ◌⊕◌, ◌⊗◌, Vector, IsDirection, cross, dot, opposite, blend, Label, combination, Map, MapLabel, NearLabel, Valid, forms, FlatMap, by_side, Near, StraightAt, IsSmooth, straight, amount, label-direction, label-unique, near-direction, dot-comb, direction-by, cross-direction_left, Of, IsLabelling, straight-from, vector-same, direction-opposite, opposite-twice, cross-opposite}
 use Rattle.nef_space.proofs.Vectors.{dot-opposite, opposite-itself}
-use Rattle.law_sphere.proofs.Kind.{flat-parallel}
-use Rattle.law_sphere.proofs.FlatMaps.{flat-onward, flat-straight}
-use Rattle.law_sphere.proofs.building.Chosen.{chosen, chosen-is, chosen-labelling, map-labels}
+use Rattle.law_geometry.proofs.sphere.Kind.{flat-parallel}
+use Rattle.law_geometry.proofs.sphere.FlatMaps.{flat-onward, flat-straight}
+use Rattle.law_geometry.proofs.sphere.building.Chosen.{chosen, chosen-is, chosen-labelling, map-labels}
 
 -- opposite directions lie on opposite sides, so both sides have the label
 both-sides : (a m b : Label) (x y : ℤ) → sign x ≡ sign (neg_ℤ y) → (x ≡ pos 0 → ⊥) → by_side a m b (sign x) ≡ m → by_side a m b (sign y) ≡ m → (a ≡ m) × (b ≡ m)

@@ -2,7 +2,7 @@
 use Rattle.nef_locate.proofs.Prelude.{◌≡◌, ℕ, Some, slice_get, refl, sym, ap, ◌∙◌, ◌⊎◌, inl, inr, ⊎_elim, subst, SpacePoint, Form, normal_of, Vector, IsDirection, SameDirection, triple, vector_of, sign_of, Sign, Minus, Plus, sign_of-positive, sign_of-negative, IsAt, item_normal, dir_of, is-at_one, SArc, SVertex, IsItemThrough, arc_of, map_of, map-is_at, Vertex as PlainVertex, Corner, PlaneMeet, meets_vertex, meets_edge, Meets, IsArcOnSide, IsCornerAt, Edge, Complex, vertex_of, edge_of, complex_of, IsArcBeside, HasMet, SameDirection-turned, SameDirection-trans, dir-self}
 use Rattle.nef_smap.proofs.Axes.{plus-of, minus-of}
 use Rattle.nef_smap.proofs.CloseSigns.{dir-from_get}
-use Rattle.law_complex.specs.Complexes.{Edge as PlainEdge, Complex as PlainComplex}
+use Rattle.law_geometry.specs.complex.Complexes.{Edge as PlainEdge, Complex as PlainComplex}
 use Rattle.nef_complex.specs.declared.complex.Vertex.{Vertex}
 use Rattle.nef_conn.proofs.SamePlanes.{side-turned}
 

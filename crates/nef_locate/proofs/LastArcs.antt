@@ -1,6 +1,6 @@
 -- Arcs at a svertex, all of which have a positive product with one vector: the last counterclockwise of them.
 use Rattle.nef_locate.proofs.Prelude.{◌≡◌, ℕ, ◌+◌, ◌<◌, pos, ◌+ℤ◌, ◌*ℤ◌, ◌<ℤ◌, arith, sym, ◌∙◌, ◌⊎◌, inl, inr, ⊎_elim, [], ◌∷◌, Bool, true, false, subst, Option, Some, None, ints, eq-or-lt_of_le, ring, at, num, ◌⊕◌, ◌⊖◌, ◌⊗◌, follows, given, none, mul_pos, sign-scaled, Vector, IsDirection, dot, triple, IsAt, MapVertex, Arc, Map, dir_of, Shaped, ends-of, is-at_one, dir-at, same-plus, end_of, IsLastArc, IsNoArc, IsLast, dot-comm, triple-in_plane}
-use Rattle.law_near.proofs.Meets.{triple-same}
+use Rattle.law_geometry.proofs.near.Meets.{triple-same}
 
 -- of three vectors in the plane of w, by their products with a vector u
 turn-through : (w a b c u : Vector) → triple a b c ≡ pos 0 → dot u b *ℤ triple w a c ≡ dot u a *ℤ triple w b c +ℤ dot u c *ℤ triple w a b

@@ -1,6 +1,6 @@
 -- The plane of a facet point is that of an item, and the vertices and edges of a plane on which a point lies are listed.
 use Rattle.nef_locate.proofs.Prelude.{◌≡◌, ℕ, List, pos, sym, subst, IsAt, SpacePoint, Form, form_at, normal_of, Set, Vector, dot, opposite, IsDirection, SameDirection, plane_axis, form_of, Plane, same-point_sym, Item, arc_item, items, item_normal, at-arc, is-at_one, normal-direction, is-at_map, Vertex as PlainVertex, Corner, IsFlatIn, PlaneMeet, meets_vertex, meets_edge, Meets, IsVertexPoint, IsEdgePoint, IsCornerAt, facet-behind, axis-in, plane-ahead, Complex, vertex_of, complex_of, ShowsSet, HasItemIn, EdgeLiesIn, AreNumbersWith, lies, edge-lies, level-same_point}
-use Rattle.law_complex.specs.Complexes.{Edge as PlainEdge, Complex as PlainComplex}
+use Rattle.law_geometry.specs.complex.Complexes.{Edge as PlainEdge, Complex as PlainComplex}
 
 module _ (s : Set) (c : Complex) (S : ShowsSet s c) (h : Plane) (y : SpacePoint) (on : form_at (form_of h) y ≡ pos 0) (F : IsFlatIn s (form_of h) y) where
   abbrev C : PlainComplex

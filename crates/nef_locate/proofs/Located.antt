@@ -1,7 +1,7 @@
 -- The side above what the ray down first meets is that of the point; each place has its number of flat directions.
 use Rattle.nef_locate.proofs.Prelude.{◌≡◌, ℕ, pos, arith, refl, sym, inl, inr, Option, Some, None, IfSome, subst, slice_get, ints, FlatDim, SpacePoint, Form, SamePoint, InClosedFrame, IsAhead, Set, up, opposite, plane_axis, Label, IsAt, Item, arc_item, items, item_normal, item_pos, Side, pos_item, BoundsSector, at-arc, map_of, side_number, IsSide, SideSees, side-has, side-number, IsSkeletonIn, at_vertex, on_edge, in_facet, IsVertexPoint, IsEdgePoint, IsSkeletonPoint, PlaneMeet, meets_vertex, meets_edge, IsCornerAt, HasCorner, item_plane, RayDown, edge-points, edge-same, corner-same, flat-same, facet-at, facet-of, way-ends, Complex, Edge, vertex_of, edge_of, complex_of, corner_of, AreSorted, ShowsSet, IsPlaceIn, IsPlaceAt, IsFirstHit, place_dimension, IsSkeletonAt, IsSideAbove, IsPointBelow}
-use Rattle.law_complex.specs.Complexes.{Complex as PlainComplex}
-use Rattle.law_complex.proofs.EqualPoints.{vertex-same}
+use Rattle.law_geometry.specs.complex.Complexes.{Complex as PlainComplex}
+use Rattle.law_geometry.proofs.complex.EqualPoints.{vertex-same}
 use Rattle.nef_complex.specs.declared.complex.Corner.{Corner}
 use Rattle.nef_complex.specs.declared.complex.Vertex.{Vertex}
 use Rattle.nef_locate.specs.declared.point.Place.{Place}
@@ -9,7 +9,7 @@ use Rattle.nef_locate.specs.declared.point.Place.TheVariants as place
 use Rattle.nef_locate.proofs.CarrierPoints.{closed-inside}
 use Rattle.nef_locate.proofs.Marks.{image-read}
 use Rattle.nef_locate.proofs.VolumeLabels.{volume-flat}
-use Rattle.law_near.proofs.Same.{dim-same}
+use Rattle.law_geometry.proofs.near.Same.{dim-same}
 use Rattle.nef_smap.proofs.SortedOnce.{map-in_order}
 
 -- ---- the sides above

@@ -1,6 +1,6 @@
 -- The vertices, edges and items that a place names, and that their labels are those of its points.
 use Rattle.nef_locate.proofs.Prelude.{◌≡◌, ℕ, ◌<◌, List, map, length, Some, slice_get, sym, ap, subst, ◌∙◌, HasLabel, SpacePoint, Set, Label, IsAt, Item, Side, is-at_one, map-is_at, is-at_map, is-at_within, side-has, LabelledSide, IsSide, sides_of, Vertex as PlainVertex, Corner as PlainCorner, IsCorner, at_vertex, on_edge, facet-at, facet-of, spot-mark, Complex, vertex_of, complex_of, corner_of, ShowsSet, IsPlaceAt, IsPlaceLabel, HasVolumeSide}
-use Rattle.law_complex.specs.Complexes.{Complex as PlainComplex}
+use Rattle.law_geometry.specs.complex.Complexes.{Complex as PlainComplex}
 use Rattle.nef_complex.specs.declared.complex.Vertex.{Vertex}
 use Rattle.nef_locate.specs.declared.point.Place.{Place}
 use Rattle.nef_locate.specs.declared.point.Place.TheVariants as place

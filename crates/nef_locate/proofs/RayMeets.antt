@@ -1,7 +1,7 @@
 -- What a ray along an upright direction meets in one plane, and what it meets first.
 use Rattle.nef_locate.proofs.Prelude.{◌≡◌, ℕ, ◌<◌, length, neg_ℤ, arith, Option, Some, None, IfSome, List, [], ◌∷◌, ◌⊎◌, inl, inr, slice_get, refl, sym, subst, ints, ring, at, neg, ◌⊕◌, ◌⊗◌, IsAt, SpacePoint, InClosedFrame, SamePoint, toward, IsAhead, IsBetween, Set, Vector, dot, opposite, IsVertical, IsCrossing, form_of, hit_point, Hit, Plane, point-toward, between-inner, IsSkeletonPoint, ahead-back, one-crossing, Complex, Span, complex_of, ShowsSet, AreSpans, IsInSpan, skeleton-framed, spanned, is-at_one, is-at_within, IsSkeletonIn, MetPlace, IsFirstHit, IsMet, IsReachedMet, IsSooner, IsNotBefore, HasNoneOn, HasNoneOnCarrier, HasNotAt, HasNotAtCarrier, ahead-from, self-pos, SameDirection-turned, SameDirection-trans, direction-left, direction-right}
 use Rattle.std.specs.Option.{option_or}
-use Rattle.law_complex.specs.Complexes.{Complex as PlainComplex}
+use Rattle.law_geometry.specs.complex.Complexes.{Complex as PlainComplex}
 use Rattle.nef_plane.proofs.Found.{not-end}
 use Rattle.nef_plane.proofs.Nearest.{between-ahead}
 use Rattle.nef_locate.proofs.CarrierPoints.{skeleton-carrier, crossed}

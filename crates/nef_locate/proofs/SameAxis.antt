@@ -1,6 +1,6 @@
 -- Planes with the same normal have the same axis.
 use Rattle.nef_locate.proofs.Prelude.{◌≡◌, pos, Bool, true, false, cond, ◌&&◌, ap, ◌∙◌, subst, int_eq, Vector, SameDirection, plane_axis, beside_x, beside_y, SameUpToFactor, of_direction, factor-same, axis-in, opposed, direction-left}
-use Rattle.law_near.proofs.Directions.{same-factor}
+use Rattle.law_geometry.proofs.near.Directions.{same-factor}
 use Rattle.nef_conn.proofs.SamePlanes.{level, same-test}
 
 module _ (n m : Vector) (F : SameUpToFactor (of_direction n) (of_direction m)) where

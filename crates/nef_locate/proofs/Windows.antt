@@ -1,7 +1,7 @@
 -- Points of the frame ahead of a point lie within its window.
 use Rattle.nef_locate.proofs.Prelude.{◌≡◌, ℕ, ◌+◌, ◌*◌, ◌≤◌, ℤ, pos, neg_ℤ, ◌+ℤ◌, ◌-ℤ◌, ◌*ℤ◌, ◌<ℤ◌, ◌≤ℤ◌, nat_abs, [], ◌∷◌, arith, ap, sym, inl, inr, subst, ints, mul_nonneg, mul_le_right, cancel_le, cancel_lt, ring, at, num, ◌⊕◌, ◌⊖◌, ◌⊗◌, half_side, SpacePoint, InClosedFrame, IsAhead, Vector, opposite, up, IsVertical, Coordinate, coordinate_of, coordinate_x, coordinate_y, coordinate_z, IsWithin, ahead-back, Span, IsInSpan, IsInsideBounds, IsAmidWindow}
-use Rattle.law_complex.specs.Spans.{IsJustAbove, IsCloseAbove}
-use Rattle.law_complex.proofs.Spans.{stays-close}
+use Rattle.law_geometry.specs.complex.Spans.{IsJustAbove, IsCloseAbove}
+use Rattle.law_geometry.proofs.complex.Spans.{stays-close}
 use Rattle.nef_index.specs.declared.spans.Bounds.{Bounds}
 use Rattle.nef_space.proofs.Elementary.{weight-positive, times-exchange}
 

@@ -2,7 +2,7 @@
 use Rattle.std.specs.Prelude.{◌≡◌, ℕ, ◌<◌, pos, ◌<ℤ◌, Bool, cond, Option, Some, None}
 use Rattle.nef_space.specs.Vectors.{Vector, triple}
 use Rattle.nef_space.specs.Lists.{IsAt}
-use Rattle.law_sphere.specs.Maps.{Arc, Map}
+use Rattle.law_geometry.specs.sphere.Maps.{Arc, Map}
 
 -- the svertex where the arc begins, or else ends
 abbrev pub end_of : Arc → Bool → ℕ

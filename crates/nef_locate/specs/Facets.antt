@@ -1,8 +1,8 @@
 -- Arcs of a plane beside an edge.
 use Rattle.nef_space.specs.Prelude.{ℕ, Vector, SameDirection, IsAt}
-use Rattle.law_sphere.specs.Maps.{Arc}
-use Rattle.law_complex.specs.Complexes.{Vertex, Edge, Complex}
-use Rattle.law_complex.specs.Skeleton.{PlaneMeet, meets_vertex, meets_edge, IsArcOnSide}
+use Rattle.law_geometry.specs.sphere.Maps.{Arc}
+use Rattle.law_geometry.specs.complex.Complexes.{Vertex, Edge, Complex}
+use Rattle.law_geometry.specs.complex.Skeleton.{PlaneMeet, meets_vertex, meets_edge, IsArcOnSide}
 
 -- the arc with this number has the normal n and leaves svertex s on the side to which d points
 abbrev pub IsArcBeside : Vertex → ℕ → Vector → Vector → ℕ → Type 0

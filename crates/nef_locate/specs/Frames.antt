@@ -1,7 +1,7 @@
 -- Numbers within bounds and within the frame's, and points strictly within the sides of a window.
 use Rattle.std.specs.Prelude.{◌*◌, ◌≤◌, ◌*ℤ◌, ◌<ℤ◌, ◌≤ℤ◌}
 use Rattle.nef_space.specs.Prelude.{ℤ, pos, nat_abs, half_side, SpacePoint}
-use Rattle.law_complex.specs.Spans.{Coordinate, coordinate_of, coordinate_y, coordinate_z}
+use Rattle.law_geometry.specs.complex.Spans.{Coordinate, coordinate_of, coordinate_y, coordinate_z}
 use Rattle.nef_index.specs.declared.spans.Bounds.{Bounds}
 use Rattle.nef_index.specs.declared.spans.Span.{Span}
 

@@ -2,11 +2,11 @@
 use Rattle.std.specs.Prelude.{◌≡◌}
 use Rattle.nef_complex.specs.Prelude.{ℕ, Vector, Label, corner_of, IsAt}
 use Rattle.nef_space.specs.Points.{SpacePoint, IsAhead, IsBetween}
-use Rattle.law_sphere.specs.Maps.{MapSloop, Item, item_normal, item_pos, item_mark, item_neg, Side}
+use Rattle.law_geometry.specs.sphere.Maps.{MapSloop, Item, item_normal, item_pos, item_mark, item_neg, Side}
 use Rattle.nef_smap.specs.Sides.{IsSide}
-use Rattle.law_complex.specs.Prelude.{Vertex, Edge, Complex, IsCorner, HasVolumeSide}
-use Rattle.law_complex.specs.Skeleton.{IsVertexPoint, IsEdgePoint, at_vertex, on_edge, in_facet, HasCorner, IsSkeletonPoint}
-use Rattle.law_complex.specs.Belongs.{SpotMark}
+use Rattle.law_geometry.specs.complex.Prelude.{Vertex, Edge, Complex, IsCorner, HasVolumeSide}
+use Rattle.law_geometry.specs.complex.Skeleton.{IsVertexPoint, IsEdgePoint, at_vertex, on_edge, in_facet, HasCorner, IsSkeletonPoint}
+use Rattle.law_geometry.specs.complex.Belongs.{SpotMark}
 use Rattle.nef_locate.specs.declared.point.Place.{Place}
 use Rattle.nef_locate.specs.declared.point.Place.TheVariants as place
 

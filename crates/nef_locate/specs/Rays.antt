@@ -3,9 +3,9 @@ use Rattle.std.specs.Prelude.{◌≡◌, ℕ, pos, Option, Some, None}
 use Rattle.nef_complex.specs.Prelude.{IsAt, Set, Vector, Label, IsReached, IsCrossing, form_of, hit_point, Plane, Side, IsSkeletonIn, complex_of, ShowsSet}
 use Rattle.nef_space.specs.Points.{SpacePoint, form_at, IsAhead, IsBetween}
 use Rattle.nef_geo.specs.declared.hit.Hit.{Hit}
-use Rattle.law_complex.specs.Complexes.{Complex}
-use Rattle.law_complex.specs.Rays.{IsAbove}
-use Rattle.law_complex.specs.Skeleton.{Spot, IsSpot, IsSkeletonPoint}
+use Rattle.law_geometry.specs.complex.Complexes.{Complex}
+use Rattle.law_geometry.specs.complex.Rays.{IsAbove}
+use Rattle.law_geometry.specs.complex.Skeleton.{Spot, IsSpot, IsSkeletonPoint}
 use Rattle.nef_complex.specs.declared.complex.Complex.{Complex as ProgramComplex}
 use Rattle.nef_locate.specs.declared.point.Place.{Place}
 use Rattle.nef_locate.specs.declared.beam.MetPlace.{MetPlace}

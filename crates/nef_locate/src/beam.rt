@@ -2,7 +2,7 @@
 
 ghost use Rattle.std.specs.Prelude.{◌≡◌, ◌⊎◌, ◌↔◌, ◌<◌, ◌<ℤ◌, ◌+ℤ◌, ◌-ℤ◌};
 ghost use Rattle.nef_complex.specs.Prelude.{IsTrue, IsNone, IfSome, None, length, pos, SpacePoint, InClosedFrame, IsAhead, Set, Vector, IsDirection, opposite, up, IsReached, IsVertical, vector_of, point_of, hit_point, IsSkeletonPoint, complex_of, ShowsSet, IsInSpan, AreSmallBounds};
-ghost use Rattle.law_complex.specs.Complexes.{Complex as PlainComplex};
+ghost use Rattle.law_geometry.specs.complex.Complexes.{Complex as PlainComplex};
 ghost use Rattle.nef_locate.specs.Frames.{IsAmidWindow};
 ghost use Rattle.nef_locate.specs.Places.{IsPlaceIn, IsFirstHit};
 ghost use Rattle.nef_locate.specs.Rays.{IsReachedMet, IsMet, IsSooner, HasNoneOnCarrier};

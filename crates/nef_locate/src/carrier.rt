@@ -3,7 +3,7 @@
 
 ghost use Rattle.std.specs.Prelude.{◌≡◌, ◌≤◌, ◌*ℤ◌, ◌<ℤ◌, ◌*◌, ◌<◌, ◌≤ℤ◌, ◌↔◌};
 ghost use Rattle.nef_complex.specs.Prelude.{ℕ, pos, length, IsNone, IfSome, nat_abs, IfOk, IfErr, IsTrue, MatchOption, IsAt, Form, InClosedFrame, form_at, SamePoint, IsPointBelow, Set, IsPointAtMost, form_of, hit_point, point_of, upright_limit, upright_weight_limit, IsEdgePoint, IsVertexPoint, complex_of, ShowsSet, AreNumbersWith, EdgeLiesIn, LiesOn, IsSkeletonIn, MatchOrdering, point_limit, weight_limit, half_side, IsInSpan};
-ghost use Rattle.law_complex.specs.Spans.{coordinate_y, coordinate_z};
+ghost use Rattle.law_geometry.specs.complex.Spans.{coordinate_y, coordinate_z};
 ghost use Rattle.nef_index.specs.Peaks.{ArePeaks};
 ghost use Rattle.nef_locate.specs.Frames.{IsFramedIn, LiesBetween};
 ghost use Rattle.nef_locate.specs.Orders.{PartsOn, AreThroughEnds};

@@ -3,7 +3,7 @@
 ghost use Rattle.nef_complex.specs.Prelude.{ℕ, length, pos, Some, IsTrue, IsNone, IfSome, form_at, normal_of, InClosedFrame, Set, SameDirection, dot, Item, item_normal, IsPointAtMost, form_of, vector_of, hit_point, upright_limit, upright_weight_limit, Corner as PlainCorner, IsCorner, IsFlatIn, PlaneMeet as PlainMeet, Meets, IsCornerAt, HasCorner, complex_of, corner_of, meet_of, vertex_of, ShowsSet};
 ghost use Rattle.nef_plane.specs.Asked.{AreItems};
 ghost use Rattle.std.specs.Prelude.{MatchOption, ◌≡◌, ◌<◌, ◌⊎◌, ◌↔◌};
-ghost use Rattle.law_complex.specs.Complexes.{Vertex as PlainVertex};
+ghost use Rattle.law_geometry.specs.complex.Complexes.{Vertex as PlainVertex};
 ghost use Rattle.nef_locate.specs.Facets.{IsArcBeside, HasMet};
 
 use nef_complex::{Complex, Corner, PlaneItems, PlaneMeet, Vertex, plane_items};

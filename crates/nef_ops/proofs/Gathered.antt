@@ -1,6 +1,6 @@
 -- What an operation gathers: its candidates, the right map at each, and its carriers.
 use Rattle.nef_ops.proofs.Prelude.{◌≡◌, Bool, ℕ, zero, suc, ◌<◌, List, [], ◌∷◌, map, length, get_or, slice_get, Some, ap, sym, subst, ◌∙◌, inl, inr, Contains, length-map, IsVertex, SpacePoint, Form, SamePoint, IsPointBelow, InClosedFrame, Set, form_of, point_of, Plane, Point, InOrder, Cone, IsAt, is-at_one, Op, And, Or, Diff, Xor, op_set, SphereMap, map_of, map-is_at, is-at_map, is-at_within, is-at_is, is-at_get, Carriers, SamePlane, Vertex, Complex, vertex_of, ShowsSet, IsVertexOfBoth, Named, IsListed, AreFramed, named_point, IsNamed, AreNamed, ListsNear, moved_if, IsOutcomeAt, AreOutcomesOf, UnaryOp, unary_set, IsRight, IsWorkedBy}
-use Rattle.law_complex.specs.Complexes.{Vertex as PlainVertex, Complex as PlainComplex}
+use Rattle.law_geometry.specs.complex.Complexes.{Vertex as PlainVertex, Complex as PlainComplex}
 use Rattle.nef_cand.specs.Points.{points_of}
 use Rattle.nef_result.specs.declared.outcome.Outcome.{Outcome}
 use Rattle.nef_ops.proofs.OneSet.{unary-carriers, unary-vertex}

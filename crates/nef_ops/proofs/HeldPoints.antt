@@ -1,6 +1,6 @@
 -- The candidates of a combination within the open frame are points of the one skeleton, or lie in a span that holds the other.
 use Rattle.nef_ops.proofs.Prelude.{ℕ, List, map, subst, ◌⊎◌, inl, inr, ⊎_elim, SpacePoint, Set, point_of, Point, IsAt, IsSkeletonPoint, at_vertex, on_edge, is-at_map, at-contains, complex_of, ShowsSet, Complex, Span, Named, First, Second, named_point, IsNameAt, AreNamed, HoldsSkeleton, AreHeldBySpan}
-use Rattle.law_complex.specs.Complexes.{Complex as PlainComplex}
+use Rattle.law_geometry.specs.complex.Complexes.{Complex as PlainComplex}
 use Rattle.nef_cand.specs.declared.named.CandidateName.{CandidateName}
 use Rattle.nef_cand.specs.declared.named.CandidateName.TheVariants as name
 

@@ -1,14 +1,14 @@
 -- A vertex of an operand that is one of the result, with its map or with that of the complement.
 use Rattle.nef_ops.proofs.Prelude.{◌≡◌, refl, sym, subst, ap, List, ℕ, Bool, true, false, IsVertex, Germ, SpacePoint, SamePoint, Set, Vector, Label, Out, Not, In, point_of, FlatDim-by_germs, germ-not, germ_of, Germ-unique, IsAt, Cone, complement, exchanged_map, topology-cone, IsVertexPoint, map_of, IsLeastMap, is-at_map, map-is_at, Vertex, Complex, vertex_of, complex_of, ShowsSet, Operand, First, Second, operand_of, moved_if, of_operand, StandsAt, IsOutcomeAt, Op, op_set, One, Input, Share, Part, AreTold, IsAsIn, IsInput, movable, kept_outcome, IsOutcomeOf, either_of, complement_if, HasShare, IsRightChoice}
-use Rattle.law_near.specs.Cones.{label_not}
-use Rattle.law_sphere.proofs.border.ExchangedLabels.{exchanged-laws}
-use Rattle.law_complex.specs.Complexes.{Vertex as PlainVertex}
+use Rattle.law_geometry.specs.near.Cones.{label_not}
+use Rattle.law_geometry.proofs.sphere.border.ExchangedLabels.{exchanged-laws}
+use Rattle.law_geometry.specs.complex.Complexes.{Vertex as PlainVertex}
 use Rattle.nef_result.proofs.Vertices.{vertex-flat, flat-vertex}
 use Rattle.nef_ops.specs.declared.operations.UnaryOp.TheVariants as unary
 use Rattle.nef_ops.proofs.ByShare.{share-part, shown-one}
 use Rattle.nef_ops.proofs.OneSet.{unary-vertex}
-use Rattle.law_near.proofs.Same.{IsVertex-same}
-use Rattle.law_sphere.proofs.Dimensions.{cone-same}
+use Rattle.law_geometry.proofs.near.Same.{IsVertex-same}
+use Rattle.law_geometry.proofs.sphere.Dimensions.{cone-same}
 
 -- ---- the complement
 label-twice : (l : Label) → label_not (label_not l) ≡ l

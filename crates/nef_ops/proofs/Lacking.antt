@@ -1,7 +1,7 @@
 -- Labels that a map doesn't have, from what its svertices and its items don't have.
 use Rattle.nef_ops.proofs.Prelude.{◌≡◌, ℕ, ◌+◌, ◌<◌, List, get_or, ap, ◌∙◌, subst, Some, SpacePoint, Set, Vector, Label, Not, In, SVertex, SphereMap, svertex_of, map_of, is-at_map, is-at_is, IsAt, Map, MapVertex, Item, items, around_svertex, pos_item, neg_item, whole, HasSide, MapLabel, at_svertex, on_item, seen, Cone, label-one, germ-label, Share, Nothing, Everything, LacksLabel, SvertexLacks, ItemLacks, InShare, HasShare}
 use borrow.Author.Count.{below_more}
-use Rattle.law_sphere.specs.Maps.{Side}
+use Rattle.law_geometry.specs.sphere.Maps.{Side}
 
 -- what holds of the elements so far, and of one more
 pub all-more : {A : Type 0} (P : A → Type 0) (xs : List A) (i : ℕ) (x : A) → x ≡ get_or xs i x → P x

@@ -1,7 +1,7 @@
 -- The operations on one set keep its carriers, and make no vertices; regularisation is the closure of the interior.
 use Rattle.nef_ops.proofs.Prelude.{List, Result, Ok, Err, IfOk, SpacePoint, Form, step, Set, Vector, Flat, IsVertex, Cone, Map, Topology, Carriers, SphereMap, map_of, IsLeastMap, UnaryOp, unary_set}
-use Rattle.law_near.proofs.FlatOperations.{flat-of, flat-not, flat-inside, flat-closed, flat-border, flat-regular}
-use Rattle.law_near.proofs.Topology.{regular-label}
+use Rattle.law_geometry.proofs.near.FlatOperations.{flat-of, flat-not, flat-inside, flat-closed, flat-border, flat-regular}
+use Rattle.law_geometry.proofs.near.Topology.{regular-label}
 use Rattle.nef_stopo.specs.Made.{IsMadeBy}
 use Rattle.nef_ops.specs.declared.operations.UnaryOp.TheVariants.{Not, Int, Cl, Bd, Reg}
 

@@ -1,8 +1,8 @@
 -- What a set has of the frame close to a vertex, and to the points of an edge, of a facet and of a volume.
 use Rattle.nef_ops.proofs.Prelude.{◌≡◌, ℕ, Some, arith, refl, slice_get, subst, Sign, minus, nought, plus, sign, HasLabel, Germ, FlatDim, SpacePoint, IsBetween, Set, Vector, zero_vector, blend, dot, Label, Not, In, flat-germ, span-3, label-one, Germ-unique, Germ-zero, Cone, by_side, IsAt, Item, item_normal, item_pos, item_mark, item_neg, dir_of, label-direction, is-at_one, Edge, Corner, HasEnds, IsCorner, Shows, HasCorner, label-germ, edge-points, map_of, vertex_of, complex_of, ShowsSet, Complex as ShownComplex, Vertex as ShownVertex, IsPlaceAt, corner-labels, image-read, Share, Nothing, Everything, InShare, HasShare, ItemLacks}
-use Rattle.law_complex.specs.Complexes.{Vertex, Complex}
+use Rattle.law_geometry.specs.complex.Complexes.{Vertex, Complex}
 use Rattle.nef_locate.specs.declared.point.Place.TheVariants as place
-use Rattle.law_sphere.proofs.Dimensions.{cone-same}
+use Rattle.law_geometry.proofs.sphere.Dimensions.{cone-same}
 
 -- the labels close to a vertex are those of its map
 pub vertex-share : (c : ShownComplex) (k : ℕ) (u : ShownVertex) (f : Share) → slice_get c.vertices k ≡ Some u → ((s : Set) (p : SpacePoint) → Cone (map_of u.map) s p → HasShare f s p)

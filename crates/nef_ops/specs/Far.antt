@@ -1,7 +1,7 @@
 -- Regions of the open frame past the sides of a span of a set's skeleton, in each of which the set has one label.
 use Rattle.std.specs.Prelude.{◌≡◌, ◌*ℤ◌, ◌<ℤ◌, ◌≤ℤ◌, ◌⊎◌, ℕ, ℤ, pos, IfSome, List}
 use Rattle.nef_complex.specs.Prelude.{HasLabel, FlatDim, SpacePoint, Form, form_at, InFrame, Set, Label, point_of, Point, IsAt, IsSkeletonPoint, complex_of, ShowsSet, IsInSpan}
-use Rattle.law_complex.specs.Spans.{Coordinate, coordinate_of, coordinate_x, coordinate_y, coordinate_z}
+use Rattle.law_geometry.specs.complex.Spans.{Coordinate, coordinate_of, coordinate_x, coordinate_y, coordinate_z}
 use Rattle.nef_complex.specs.declared.complex.Complex.{Complex}
 use Rattle.nef_index.specs.declared.spans.Span.{Span}
 use Rattle.nef_ops.specs.declared.regions.Axis.{Axis}

@@ -1,7 +1,7 @@
 -- When the outcome of a job is right.
 use Rattle.nef_result.specs.Prelude.{ℕ, Bool, true, false, List, map, SpacePoint, Set, point_of, form_of, Plane, Cone, Carriers, Vertex, moved_if, IsOutcomeAt, Op, op_set, ShowsSet, ArePointsInOrder}
 use Rattle.nef_complex.specs.Prelude.{IsAt, IsVertex, Point}
-use Rattle.law_sphere.specs.Maps.{Map}
+use Rattle.law_geometry.specs.sphere.Maps.{Map}
 use Rattle.nef_cand.specs.Candidates.{IsListed}
 use Rattle.nef_result.specs.declared.outcome.Outcome.{Outcome}
 use Rattle.nef_result.specs.declared.outcome.Outcome.TheVariants.{Stays, Turned}

@@ -2,11 +2,11 @@
 -- that of a combination at a point.
 use Rattle.std.specs.Prelude.{◌≡◌}
 use Rattle.nef_complex.specs.Prelude.{Bool, true, false, Some, HasLabel, Germ, SpacePoint, Set, Vector, IsDirection, Label, Out, Not, In, Cone, complex_of}
-use Rattle.law_near.specs.Cones.{label_not}
+use Rattle.law_geometry.specs.near.Cones.{label_not}
 use Rattle.nef_smap.specs.declared.map.SVertex.{SVertex}
 use Rattle.nef_cand.specs.declared.named.Operand.{Operand}
 use Rattle.nef_result.specs.Prelude.{First, Second, Op, SphereMap, map_of, IsLeastMap, op_set}
-use Rattle.law_sphere.specs.Maps.{Map, MapLabel, Item, item_pos, item_mark, item_neg}
+use Rattle.law_geometry.specs.sphere.Maps.{Map, MapLabel, Item, item_pos, item_mark, item_neg}
 use Rattle.nef_star.specs.Ops.{op_label}
 use Rattle.nef_ops.specs.declared.share.Share.{Share}
 use Rattle.nef_ops.specs.declared.share.Share.TheVariants.{Nothing, Everything, Part}

@@ -5,7 +5,7 @@ ghost use Rattle.nef_complex.specs.Prelude.{List as Sequence, length, map, IfOk,
 ghost use Rattle.nef_star.specs.Ops.{op_label};
 ghost use Rattle.nef_smap.specs.Maps.{map_of, IsLeastMap};
 ghost use Rattle.nef_stopo.specs.Sets.{op_set};
-ghost use Rattle.law_complex.specs.Complexes.{Complex as PlainComplex};
+ghost use Rattle.law_geometry.specs.complex.Complexes.{Complex as PlainComplex};
 ghost use Rattle.nef_complex.specs.declared.complex.Complex.{Complex as ShownComplex};
 ghost use Rattle.nef_complex.specs.declared.complex.Vertex.{Vertex as ShownVertex};
 ghost use Rattle.nef_cand.specs.Candidates.{AreFramed};

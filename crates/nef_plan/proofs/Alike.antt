@@ -2,12 +2,12 @@
 use Rattle.nef_plan.proofs.Prelude.{◌≡◌, ℕ, refl, sym, ⊎_elim, List, ◌++◌, subst, append_assoc, ◌↔◌, HasLabel, SameSet, SpacePoint, Form, Set, halves, Lies, Label, Out, Not, In, lies-left, lies-right, label_and, label_or, label_less, label_one_of, turned_set, AreAlike}
 use Rattle.nef_space.specs.Sets.{Holds}
 use Rattle.nef_space.proofs.Lists.{lies-append}
-use Rattle.law_near.proofs.Combine.{ByLabels, or-label, less-label, one_of-label}
-use Rattle.law_near.proofs.Decided.{label_of}
-use Rattle.law_near.proofs.Germs.{label-one}
-use Rattle.law_near.proofs.SameSets.{same-border, same-both, same-closed, same-either, same-inside, same-less, same-one_of, same-other, same-regular}
-use Rattle.law_turns.proofs.Carriers.{halves-from, halves-there}
-use Rattle.law_turns.proofs.Meaning.{same_set-turned}
+use Rattle.law_geometry.proofs.near.Combine.{ByLabels, or-label, less-label, one_of-label}
+use Rattle.law_geometry.proofs.near.Decided.{label_of}
+use Rattle.law_geometry.proofs.near.Germs.{label-one}
+use Rattle.law_geometry.proofs.near.SameSets.{same-border, same-both, same-closed, same-either, same-inside, same-less, same-one_of, same-other, same-regular}
+use Rattle.law_geometry.proofs.turns.Carriers.{halves-from, halves-there}
+use Rattle.law_geometry.proofs.turns.Meaning.{same_set-turned}
 
 -- ---- an equivalence
 pub alike-refl : (s : Set) → AreAlike s s

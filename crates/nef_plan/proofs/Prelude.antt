@@ -1,5 +1,5 @@
 -- The names that most proofs cite, passed on from one place. Declares nothing.
-pub use Rattle.law_near.proofs.Prelude.{Closure, HasLabel, In, InFrame, Interior, Label, Lies, Not, Out, SameSet, halves, label_and, label_less, label_one_of, label_or, lies-left, lies-right, ⊎_elim}
+pub use Rattle.law_geometry.proofs.near.Prelude.{Closure, HasLabel, In, InFrame, Interior, Label, Lies, Not, Out, SameSet, halves, label_and, label_less, label_one_of, label_or, lies-left, lies-right, ⊎_elim}
 pub use Rattle.nef_core.proofs.Prelude.{vec_capacity, vec_len}
 pub use Rattle.nef_expr.proofs.Prelude.{Form, IsOperand, List, NamesBelow, Set, Shape, Some, SpacePoint, Uses, [], ap, append-nil, append_assoc, arith, cases_eq, cases_lt, drop, false, get_or, get_or-append, get_or-append_seam, get_or_from_slice_get, inl, inr, length, length-append, node_set, operand, refl, set_of, sets_after, shape_of, slice_get, slice_get-get_or, slice_get_read, slice_get_within, slice_index, subst, suc, sym, take-append_seam, true, turned_set, zero, ℕ, ◌++◌, ◌+◌, ◌-◌, ◌<◌, ◌↔◌, ◌∙◌, ◌∷◌, ◌≡◌, ◌≤◌, ◌⊎◌}
 pub use Rattle.nef_script.proofs.Prelude.{All-cons, All-head, All-nil, All-tail, All-weaker, Node, None, Option, SpeaksOfFirst, TurnsRight, filter-append, on_ok_weaker, place-push, slice_get-left, slice_get-seam, take}

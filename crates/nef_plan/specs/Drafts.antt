@@ -1,6 +1,6 @@
 -- Drafts of a script's steps, which make the sets of nodes.
 use Rattle.std.specs.Prelude.{◌≡◌, ◌⊎◌, ℕ, ◌<◌, ◌≤◌, true, List, [], ◌∷◌, ◌++◌, Some, length, slice_get}
-use Rattle.law_turns.specs.Turned.{turned_set}
+use Rattle.law_geometry.specs.turns.Turned.{turned_set}
 use Rattle.nef_expr.specs.declared.nodes.Node.{Node}
 use Rattle.nef_expr.specs.Nodes.{node_set, set_of, sets_after, NamesBelow, IsOperand}
 use Rattle.nef_script.specs.declared.script.Command.{Command}

@@ -1,6 +1,6 @@
 -- The values of a script's work: the sets that its steps make, by the numbers of the steps.
 use Rattle.std.specs.Prelude.{◌≡◌, ◌↔◌, ◌⊎◌, ℕ, ◌+◌, ◌<◌, ◌≤◌, true, List, [], ◌∷◌, ◌++◌, Option, None, Some, length, filter, slice_get, take}
-use Rattle.law_turns.specs.Turned.{turned_set}
+use Rattle.law_geometry.specs.turns.Turned.{turned_set}
 use Rattle.nef_space.specs.Sets.{Set}
 use Rattle.nef_expr.specs.declared.nodes.Node.{Node}
 use Rattle.nef_expr.specs.Nodes.{Shape, node_set, operand, set_of, shape_of, IsOperand}

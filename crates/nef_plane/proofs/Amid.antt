@@ -1,9 +1,9 @@
 -- A point is strictly between the ends of an edge, or is a vertex, exactly where all carriers see it so.
 use Rattle.nef_plane.proofs.Prelude.{◌≡◌, ℕ, ◌<◌, ℤ, pos, ◌+ℤ◌, ◌-ℤ◌, ◌*ℤ◌, ◌<ℤ◌, arith, ap, sym, ◌∙◌, ⊎_elim, subst, List, [], ◌∷◌, ints, ring, at, num, ◌⊕◌, ◌⊖◌, ◌⊗◌, mul_pos, mul_neg, by_order, nought-or, SpacePoint, Form, form_at, slope, normal_of, toward, SamePoint, IsBetween, Set, opposite, dot, cross, IsZero, IsDirection, SameDirection, form_of, point_of, sign_of, Plane, Minus, Zero, Plus, sign_of-positive, sign_of-negative, zero_sign, of_point, toward-point, slope-toward, form-sum, mixed-of, between-turned, IsAt, map-is_at, HasEnds, Shows, IsVertexPoint, IsEdgePoint, same-by, same-by-minus, cross-back, aligned, ahead-back, plane-way, Vertex, Edge, Complex, vertex_of, edge_of, complex_of, vertex-same, listed_edge, ends, apart, edge-inside, positive-factor, plus-of, minus-of, SidesWith, IsAmid, AllSideWith, AreAmid, AllHold, zero-decided, vector-same, cross-turned, SameDirection-turned, SameDirection-trans}
-use Rattle.law_complex.specs.Complexes.{Vertex as PlainVertex}
+use Rattle.law_geometry.specs.complex.Complexes.{Vertex as PlainVertex}
 use Rattle.nef_plane.proofs.Crossed.{vertex-crossed, edge-along}
 use Rattle.nef_space.proofs.Elementary.{weight-positive, counted-positive, nought-not_positive}
-use Rattle.law_near.proofs.Same.{level-same_point}
+use Rattle.law_geometry.proofs.near.Same.{level-same_point}
 
 -- ---- signs
 -- a positive multiple has the sign

@@ -2,7 +2,7 @@
 use Rattle.nef_plane.proofs.Prelude.{◌≡◌, ℕ, ◌<◌, ◌≤◌, ℤ, pos, negsuc, neg_ℤ, ◌*ℤ◌, ◌<ℤ◌, ◌-ℤ◌, nat_abs, List, [], ◌∷◌, arith, refl, sym, ap, ◌∙◌, subst, inl, inr, ⊎_elim, ints, le_of_dvd, ◌∣◌, ring, at, num, Poly, ◌⊕◌, ◌⊖◌, ◌⊗◌, given, none, follows, nought-or, normal_limit, IsLowest, SpacePoint, normal_of, Vector, dot, opposite, plane_axis, plane_dir, IsAtMost, SameDirection, form_of, vector_of, ray_limit, plane_dir_limit, Dir, Plane, pair_small, dir-size, positive-factor, IsAlongAxis, IsAlongDir, IsWithinDirection}
 use Rattle.nef_geo.proofs.Cramer.{difference}
 use Rattle.nef_geo.proofs.Euclid.{divides_same}
-use Rattle.law_complex.specs.Complexes.{Complex}
+use Rattle.law_geometry.specs.complex.Complexes.{Complex}
 use Rattle.nef_space.proofs.Elementary.{size-positive, nought-products}
 
 -- a number that divides another is no greater, and nought where the other is

@@ -1,6 +1,6 @@
 -- An edge along the ray has an end between the ray's start and each of its points ahead.
 use Rattle.nef_plane.proofs.Prelude.{◌≡◌, ℕ, ℤ, pos, neg_ℤ, ◌-ℤ◌, ◌*ℤ◌, ◌<ℤ◌, arith, sym, ap, ◌∙◌, ◌⊎◌, inl, inr, ⊎_elim, subst, refl, [], ◌∷◌, ints, ring, at, num, neg, ◌⊕◌, ◌⊖◌, ◌⊗◌, by_order, SpacePoint, Form, toward, SamePoint, IsAhead, IsBetween, Set, Vector, opposite, dot, cross, IsZero, IsDirection, SameDirection, IsOpposite, between-same, toward-point, between-inner, between-turned, same-point_sym, IsAt, is-at_one, HasEnds, IsEdge, Shows, meets_edge, IsVertexPoint, cross-back, ahead-back, between-way, between-ends, HoldsBoth, on_line, HasNoSvertex, IsOffEdges, AtEdgeNumber, dot-comm, zero-decided, vector-same, cross-turned, nought-if, SameDirection-turned, SameDirection-trans}
-use Rattle.law_complex.specs.Complexes.{Vertex, Edge, Complex}
+use Rattle.law_geometry.specs.complex.Complexes.{Vertex, Edge, Complex}
 use Rattle.nef_space.proofs.Elementary.{same-itself}
 
 -- ---- turned ways

@@ -1,8 +1,8 @@
 -- Not all carriers that hold a vertex are along one direction, and those that hold an edge only where the edge is; some carrier holds it.
 use Rattle.nef_plane.proofs.Prelude.{◌≡◌, ℕ, pos, sym, ◌∙◌, subst, Lies, nought-is, Flat, SpacePoint, Form, form_at, slope, normal_of, toward, IsBetween, Set, Vector, cross, IsZero, IsDirection, form_of, Plane, carriers, EdgeSupport, start, start-between, edge-support, IsAt, is-at_map, HasEnds, Shows, SamePlane, edge-points, plane-turned, plane-point, plane-slope, Complex, complex_of, HoldsBoth, through-both, along-cross, AllHold, dot-comm, cross-turned, parallel-both, triple-in_plane}
-use Rattle.law_near.proofs.Meets.{vertex-meets}
-use Rattle.law_complex.specs.Complexes.{Vertex, Edge}
-use Rattle.law_complex.proofs.Edges.{edge-way}
+use Rattle.law_geometry.proofs.near.Meets.{vertex-meets}
+use Rattle.law_geometry.specs.complex.Complexes.{Vertex, Edge}
+use Rattle.law_geometry.proofs.complex.Edges.{edge-way}
 
 -- the program's carrier of a plane of the set
 carrier-of : (s : Set) (c : Complex) → Shows s (complex_of c) → (f : Form) → Lies (carriers s) f → (i : ℕ) × (g : Plane) × IsAt c.carriers i g × SamePlane (form_of g) f

@@ -1,7 +1,7 @@
 -- What a ray meets at a vertex, inside an edge, and first of all.
 use Rattle.nef_plane.proofs.Prelude.{◌≡◌, ℕ, ◌<◌, length, refl, sym, ⊎_elim, ◌⊎◌, inl, inr, subst, pos, SpacePoint, Form, form_at, slope, normal_of, toward, SamePoint, IsAhead, IsBetween, Set, Vector, cross, IsZero, IsDirection, point_of, point-toward, between-inner, same-point_sym, IsAt, is-at_one, map-is_at, is-at_map, is-at_within, HasEnds, Shows, meets_vertex, meets_edge, Meets, IsFirstInPlane, plane-way, same-point_trans, Vertex, Edge, Complex, vertex_of, edge_of, complex_of, HoldsBoth, vertex-same, listed_edge, ends, apart, of-ends, one-crossing, held-between, Encounter, FromVertex, HasNoSvertex, IsOffEdges, AllHold, AtVertexNumber, AtEdgeNumber, AtVertexOrEdge, IsReachedEncounter, IsNearestMet, in-span, direction-right}
-use Rattle.law_complex.specs.Complexes.{Vertex as PlainVertex, Edge as PlainEdge}
-use Rattle.law_complex.specs.Skeleton.{PlaneMeet as PlainMeet}
+use Rattle.law_geometry.specs.complex.Complexes.{Vertex as PlainVertex, Edge as PlainEdge}
+use Rattle.law_geometry.specs.complex.Skeleton.{PlaneMeet as PlainMeet}
 use Rattle.nef_plane.proofs.Beside.{edge-or_end}
 use Rattle.nef_plane.proofs.Crossed.{vertex-crossed, edge-along}
 use Rattle.nef_plane.proofs.Nearest.{between-ahead}

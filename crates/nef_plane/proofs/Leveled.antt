@@ -7,7 +7,7 @@ use Rattle.nef_plane.proofs.Found.{vertex-none, edge-none}
 use Rattle.nef_plane.proofs.Listed.{held-vertex, lying-ends}
 use Rattle.nef_plane.proofs.Meeting.{ahead-kept}
 use Rattle.nef_plane.proofs.Ordered.{later-past, later-from}
-use Rattle.law_near.proofs.Same.{level-same_point}
+use Rattle.law_geometry.proofs.near.Same.{level-same_point}
 
 -- ---- the sides
 pub minus-short : (b : Bool) (z : ℤ) → Minus ≡ sign_of z → IsTrue true ↔ IsBeforePlane b z

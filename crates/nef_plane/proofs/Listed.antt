@@ -1,12 +1,12 @@
 -- What a ray meets in a plane that holds it lies there.
 use Rattle.nef_plane.proofs.Prelude.{◌≡◌, ℕ, ◌<◌, Option, Some, None, List, pos, sym, subst, IfSome, IsAt, SpacePoint, Form, form_at, IsAhead, Vector, IsDirection, point_of, same-point_sym, is-at_one, is-at_within, is-at_map, LiesIn, Vertex, Edge, Complex, PlaneMeet as ProgramMeet, AtVertex, AtEdge, vertex_of, edge_of, complex_of, LiesOn, EdgeLiesIn, AreNumbersWith, ArePeaks, HoldsBoth, vertex-same, meet_at, count_in, AreItems, HasMeet, MeetLiesIn, IsVertexOrLies, HoldsRay, AtMeet}
-use Rattle.law_complex.specs.Complexes.{Vertex as PlainVertex, Edge as PlainEdge}
-use Rattle.law_complex.specs.Skeleton.{PlaneMeet}
+use Rattle.law_geometry.specs.complex.Complexes.{Vertex as PlainVertex, Edge as PlainEdge}
+use Rattle.law_geometry.specs.complex.Skeleton.{PlaneMeet}
 use Rattle.nef_complex.specs.declared.complex.PlaneItems.{PlaneItems}
 use Rattle.nef_plane.specs.declared.first.MeetKind.{MeetKind}
 use Rattle.nef_plane.specs.declared.first.MeetKind.TheVariants.{Vertex as KindVertex, Edge as KindEdge}
 use Rattle.nef_plane.proofs.Meeting.{ahead-level}
-use Rattle.law_near.proofs.Same.{level-same_point}
+use Rattle.law_geometry.proofs.near.Same.{level-same_point}
 
 -- the vertex with a number that lies on the plane is on it
 pub held-vertex : (vs : List Vertex) (h : Form) (k : ℕ) (v : Vertex) → IsAt vs k v → LiesOn vs h k → form_at h (point_of v.point) ≡ pos 0

@@ -2,7 +2,7 @@
 use Rattle.nef_plane.proofs.Prelude.{◌≡◌, zero, suc, ℤ, pos, negsuc, neg_ℤ, ◌*ℤ◌, List, ap, sym, ◌∙◌, arith, ◌⊎◌, inl, inr, ⊎_elim, refl, [], ◌∷◌, ints, ring, at, num, ◌⊖◌, ◌⊗◌, given, none, follows_times, nought-or, SpacePoint, Form, form_at, slope, normal_of, toward, SamePoint, IsAhead, IsBetween, Vector, dot, cross, IsZero, IsDirection, IsCrossing, form_of, sign_of, HasOppositeSigns, Plane, sign_of-positive, sign_of-negative, between-same, toward-point, point-toward, slope-toward, same-point_sym, through-at, through-slope, plane-way, HoldsBoth, IsParallelToAxis, sweep_axis, sweep_form, AreOpposite, NoneCrosses, IsMetBetween, AllHold, positive-factor, parted-cut, held-between, crossed-parted, zero-decided, dot-zero, cross-turned, in-span}
 use Rattle.nef_plane.proofs.Axes.{axis-some, axis-level, axis-keeps, axis-parallel}
 use Rattle.nef_space.proofs.Elementary.{weight-positive, same-itself}
-use Rattle.law_near.proofs.Same.{level-same_point}
+use Rattle.law_geometry.proofs.near.Same.{level-same_point}
 
 -- ---- signs
 opposite-cases : (x y : ℤ) → sign_of x ≡ sign_of (neg_ℤ y) → HasOppositeSigns x y ⊎ ((x ≡ pos 0) × (y ≡ pos 0))

@@ -1,6 +1,6 @@
 -- The nearest of what a ray meets.
 use Rattle.nef_plane.proofs.Prelude.{◌≡◌, ℕ, ◌<◌, ◌≤◌, ◌+◌, List, Option, Some, None, arith, refl, sym, ◌⊎◌, inl, inr, ⊎_elim, subst, eq-or-lt_of_le, cases_lt, IsAt, SpacePoint, toward, IsAhead, IsBetween, Vector, between-same, between-inner, between-way, IfSome, is-at_one, Span, Encounter, IsReachedEncounter, IsMissed, IsNearest, IsNearestMet, IsNearer, IsNotPast, IsOutside, HoldsBefore, SameDirection-turned, SameDirection-trans}
-use Rattle.law_complex.specs.Skeleton.{PlaneMeet}
+use Rattle.law_geometry.specs.complex.Skeleton.{PlaneMeet}
 use Rattle.nef_plane.proofs.Choosing.{keep-first}
 use Rattle.std.proofs.lemmas.Option.{same_Some}
 use Rattle.nef_space.proofs.Elementary.{same-itself}

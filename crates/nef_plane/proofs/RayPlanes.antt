@@ -4,7 +4,7 @@ use mir.Val.{to_z, of_z}
 use Rattle.nef_plane.proofs.Found.{vertex-none, edge-none}
 use Rattle.nef_plane.proofs.Meeting.{level-opposite, ahead-level, between-opposite}
 use Rattle.nef_plane.proofs.Sweep.{numbers-same}
-use Rattle.law_near.proofs.Same.{level-same_point}
+use Rattle.law_geometry.proofs.near.Same.{level-same_point}
 use Rattle.nef_space.proofs.Elementary.{same-itself}
 
 abbrev product_of : Dir → Point → ℤ

@@ -1,10 +1,10 @@
 -- What a ray crosses of the planes that hold a vertex or an edge.
 use Rattle.nef_plane.proofs.Prelude.{◌≡◌, ℕ, pos, ⊎_elim, inl, inr, Option, Some, None, refl, ◌↔◌, IsNone, IfSome, SpacePoint, SamePoint, IsAhead, IsBetween, form_at, slope, Set, Vector, IsDirection, IsCrossing, IsReached, form_of, point_of, hit_point, Hit, Plane, IsAt, between-same, same-point_sym, map-is_at, Shows, IsVertexPoint, IsEdgePoint, Vertex, Edge, Complex, PlaneMeet, AtVertex, AtEdge, vertex_of, edge_of, complex_of, HoldsBoth, vertex-same, listed_edge, ends, edge-inside, one-crossing, held-between, IsVertexOrLies, HasEndsAt, Reach, reach_of, near_met_of, IsHitThrough, AllHold, IsBetweenOrAt, AtVertexNumber, AtEdgeNumber, AtMeet, IsMeetPoint, IsNearestMet, IsMissed}
-use Rattle.law_complex.specs.Skeleton.{PlaneMeet as PlainMeet}
+use Rattle.law_geometry.specs.complex.Skeleton.{PlaneMeet as PlainMeet}
 use Rattle.nef_plane.proofs.Either.{by-ends}
 use Rattle.nef_plane.proofs.Found.{both-same, vertex-some, vertex-none, edge-some, edge-none}
 use Rattle.nef_plane.proofs.Listed.{held-edge}
-use Rattle.law_near.proofs.Same.{level-same_point}
+use Rattle.law_geometry.proofs.near.Same.{level-same_point}
 use Rattle.nef_space.proofs.Elementary.{same-itself}
 
 -- a plane that holds both points holds what is within

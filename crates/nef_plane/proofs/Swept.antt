@@ -1,11 +1,11 @@
 -- What a ray along the axis of a plane meets at a vertex and inside an edge.
 use Rattle.nef_plane.proofs.Prelude.{◌≡◌, ℕ, pos, inl, inr, ⊎_elim, refl, SpacePoint, form_at, SamePoint, IsBetween, Set, Vector, form_of, point_of, far_point, FarHit, Plane, point-toward, same-point_sym, IsAt, Shows, between-ends, Vertex, Edge, Complex, PlaneMeet, AtVertex, AtEdge, complex_of, apart, HasEndsAt, IsParallelToAxis, IsHitThrough, IsMetBetween, AllHold, AtVertexNumber, AtEdgeNumber, AtMeet, IsNearestMet, far_met_of, far_reach_of, IsMissed}
-use Rattle.law_complex.specs.Skeleton.{PlaneMeet as PlainMeet}
+use Rattle.law_geometry.specs.complex.Skeleton.{PlaneMeet as PlainMeet}
 use Rattle.nef_plane.proofs.Axes.{axis-some}
 use Rattle.nef_plane.proofs.Either.{by-ends}
 use Rattle.nef_plane.proofs.Found.{both-same, vertex-some, vertex-none, edge-some, edge-none}
 use Rattle.nef_plane.proofs.Meeting.{ahead-on}
-use Rattle.law_near.proofs.Same.{level-same_point}
+use Rattle.law_geometry.proofs.near.Same.{level-same_point}
 use Rattle.nef_space.proofs.Elementary.{same-itself}
 
 module _ (s : Set) (c : Complex) (S : Shows s (complex_of c)) (h : Plane) (p : SpacePoint) (d : Vector) (A : IsParallelToAxis (form_of h) d) (on : form_at (form_of h) p ≡ pos 0) where

@@ -1,7 +1,7 @@
 -- What lies outside a window isn't met sooner than what the window leads to.
 use Rattle.nef_plane.proofs.Prelude.{◌≡◌, ℕ, ◌<◌, length, List, Option, Some, None, sym, subst, ⊎_elim, inl, inr, IfSome, IsAt, SpacePoint, Form, Set, Vector, point_of, Shows, is-at_map, is-at_within, is-at_some, Vertex, Complex, PlaneMeet as ProgramMeet, AtVertex, AtEdge, Span, edge_of, complex_of, meet_of, AreAlone, IsInSpan, IsNarrower, vertex-same, edge-inside, span-same, span-between, span-wider, HasMeet, AreEnds, HasEndsAt, Reach, met_of, AtMeet, AtEdgeNumber, IsMeetPoint, IsBetweenOrAt, IsNearest, IsOutside, HoldsBefore, IsWindowTo}
-use Rattle.law_complex.specs.Complexes.{Complex as PlainComplex}
-use Rattle.law_complex.specs.Skeleton.{PlaneMeet}
+use Rattle.law_geometry.specs.complex.Complexes.{Complex as PlainComplex}
+use Rattle.law_geometry.specs.complex.Skeleton.{PlaneMeet}
 use Rattle.nef_plane.specs.declared.first.Met.{Met}
 use Rattle.nef_plane.proofs.Either.{by-ends}
 use Rattle.nef_plane.proofs.Nearest.{From}

@@ -6,8 +6,8 @@ use Rattle.std.specs.Ordering.{int_eq}
 use Rattle.nef_space.specs.Prelude.{SpacePoint, Form, form_at, slope, normal_of, plane_through, toward, SamePoint, IsAhead, IsBetween, Vector, vector, cross, opposite, plane_axis, plane_dir, IsZero, IsDirection, SameDirection}
 use Rattle.nef_geo.specs.declared.hit.FarHit.{FarHit}
 use Rattle.nef_geo.specs.declared.hit.Hit.{Hit}
-use Rattle.law_complex.specs.Complexes.{Vertex, Edge, Complex, HasEnds}
-use Rattle.law_complex.specs.Skeleton.{PlaneMeet, meets_vertex, meets_edge, IsVertexPoint, IsEdgePoint, LiesIn}
+use Rattle.law_geometry.specs.complex.Complexes.{Vertex, Edge, Complex, HasEnds}
+use Rattle.law_geometry.specs.complex.Skeleton.{PlaneMeet, meets_vertex, meets_edge, IsVertexPoint, IsEdgePoint, LiesIn}
 use Rattle.nef_complex.specs.declared.complex.PlaneMeet.{PlaneMeet as ProgramMeet}
 use Rattle.nef_complex.specs.declared.complex.PlaneMeet.TheVariants.{AtVertex, AtEdge}
 use Rattle.nef_plane.specs.Asked.{meet_at}

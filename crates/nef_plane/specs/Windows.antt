@@ -2,7 +2,7 @@
 use Rattle.std.specs.Prelude.{Option, IfSome}
 use Rattle.nef_complex.specs.Prelude.{MatchOption, IsInSpan}
 use Rattle.nef_space.specs.Points.{SpacePoint, IsBetween}
-use Rattle.law_complex.specs.Complexes.{Complex}
+use Rattle.law_geometry.specs.complex.Complexes.{Complex}
 use Rattle.nef_index.specs.declared.spans.Span.{Span}
 use Rattle.nef_plane.specs.declared.first.Met.{Met}
 use Rattle.nef_plane.specs.Meets.{Encounter, IsMeetPoint}

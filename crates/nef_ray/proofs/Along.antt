@@ -1,9 +1,9 @@
 -- Along a ray the label stays up to the first crossing of a carrier at which it changes; and it changes somewhere, since the ray leaves the frame.
 use Rattle.nef_ray.proofs.Prelude.{◌≡◌, ℕ, ◌*◌, ◌<◌, ◌≤◌, ℤ, pos, ◌+ℤ◌, ◌*ℤ◌, neg_ℤ, nat_abs, arith, refl, ap, sym, ◌∙◌, ◌⊎◌, inl, inr, ⊎_elim, [], ◌∷◌, subst, ints, Sign, minus, nought, plus, sign, Lies, ring, at, num, neg, ◌⊕◌, ◌⊗◌, nought-is, plus-is, minus-is, sign-plus, sign-minus, mul_nonneg, nought-or, half_side, HasLabel, Germ, SpacePoint, Form, form_at, slope, Within, SamePoint, InFrame, InClosedFrame, toward, IsAhead, IsBetween, Set, Vector, blend, opposite, zero_vector, IsDirection, SameDirection, Label, Out, reach_all, sign_at, carriers, FirstChange, germs-by_cell, flat-germ, between-turned, every, Decided, decided-to, decided-lt, germ-decided, start, start-close, start-between, start-toward, beyond, halfway, halfway-between, halfway-outside, leads-somewhere, germ-nearby, first-change, sign-toward, Germ-by_signs, flat-outside, no-germ_out, near-same, label-one, Germ-unique, within-self, Germ-zero, slope-zero, slope-same, IsCrossing, ahead-back, between-ahead, ahead-from, IsUnchanged, SameDirection-turned, SameDirection-trans, direction-left}
-use Rattle.law_near.proofs.Cells.{is_nought}
-use Rattle.law_complex.proofs.Spans.{opposite-level}
+use Rattle.law_geometry.proofs.near.Cells.{is_nought}
+use Rattle.law_geometry.proofs.complex.Spans.{opposite-level}
 use Rattle.nef_space.proofs.Elementary.{frame-closed}
-use Rattle.law_complex.proofs.Skeletons.{beyond-ahead}
+use Rattle.law_geometry.proofs.complex.Skeletons.{beyond-ahead}
 
 -- ---- the closed frame
 -- a point lies in it, or doesn't

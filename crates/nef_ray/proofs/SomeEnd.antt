@@ -1,7 +1,7 @@
 -- A ray from a point of the frame has an end, since the label is another where the ray has left the frame.
 use Rattle.nef_ray.proofs.Prelude.{◌⊎◌, inl, inr, ⊎_elim, Bool, true, false, subst, HasLabel, Germ, SpacePoint, InFrame, toward, IsAhead, IsBetween, Set, Vector, IsDirection, Label, between-same, reach_all, carriers, FirstChange, between-turned, between-inner, label-along_ray, label_of, germ_of, label-decided, start, start-close, start-between, beyond, halfway, halfway-between, halfway-outside, leads-somewhere, first-change, label-toward, no-germ_out, Label-cells, signs-same, same-point_sym, Germ-same, between-rest, between-outer, between-start, between-cases, between-ahead, IsRayEnd, RayHasEnd, SameDirection-turned, SameDirection-trans}
 use Rattle.nef_ray.proofs.Along.{label-outside}
-use Rattle.law_complex.proofs.Skeletons.{beyond-ahead}
+use Rattle.law_geometry.proofs.complex.Skeletons.{beyond-ahead}
 use Rattle.nef_space.proofs.Elementary.{same-itself}
 
 module _ (s : Set) (p : SpacePoint) (d : Vector) (inside : InFrame p) (some : IsDirection d) where

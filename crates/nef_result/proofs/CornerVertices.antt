@@ -1,6 +1,6 @@
 -- The frame's corners are vertices of every set, and the only ones of a set that holds all of the frame or nothing of it.
 use Rattle.nef_result.proofs.Prelude.{◌≡◌, ℤ, pos, negsuc, neg_ℤ, ◌+ℤ◌, ◌*ℤ◌, ◌<ℤ◌, arith, refl, sym, ◌∙◌, ap, ◌⊎◌, inl, inr, ⊎_elim, Bool, true, false, not, subst, ints, minus, nought, sign, minus-is, nought-is, sign-minus, mul_pos, by_order, SpacePoint, Form, form_at, slope, Vector, vector, IsDirection, Set, Flat, IsVertex, Label, Out, sign_at, slide, FlatCone, is_nought, Germ-unique, FlatCone-from_flat, Flat-from_cone, slope-slide, frame_end, FrameCorner, ends, IsFrameCornerAt, axis_x, axis_y, axis_z}
-use Rattle.law_near.proofs.Flats.{FlatCone-from_carriers}
+use Rattle.law_geometry.proofs.near.Flats.{FlatCone-from_carriers}
 use Rattle.nef_result.proofs.Walls.{Axis, on_x, on_y, on_z, wall, listed-wall, IsOneLabelSet, LeadsIn, germ-framed, germ-outward}
 
 abbrev pub is_high_on : FrameCorner → Axis → Bool

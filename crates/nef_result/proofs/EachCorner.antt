@@ -1,6 +1,6 @@
 -- A complex that shows a set has a vertex at each corner of the frame.
 use Rattle.nef_result.proofs.Prelude.{sym, subst, SamePoint, point_of, is-at_map, vertex_of}
-use Rattle.law_complex.specs.Complexes.{Vertex as PlainVertex}
+use Rattle.law_geometry.specs.complex.Complexes.{Vertex as PlainVertex}
 use Rattle.nef_result.specs.Laws.{CornersAreVertices, CornersAreShown}
 use Rattle.nef_result.proofs.CornerVertices.{corner-vertex}
 use Rattle.nef_result.proofs.CornerPoints.{corner_point, corner-is, corner-same}

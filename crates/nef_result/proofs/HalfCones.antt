@@ -2,9 +2,9 @@
 use Rattle.nef_result.proofs.Prelude.{◌≡◌, zero, suc, ◌+◌, ℤ, pos, negsuc, ◌<ℤ◌, arith, refl, sym, ◌∙◌, ap, ◌↔◌, Bool, true, false, cond, not, subst, ints, Sign, minus, nought, plus, sign, sign-neg, sign_turned, minus-is, nought-is, plus-is, at, HasLabel, Germ, IsShort, SpacePoint, Form, Ratio, step, form_at, slope, normal_of, Set, InHalf, Vector, IsDirection, SameDirection, dot, Label, Out, Not, In, opposite_form, given_form, form_of, sign_of, Minus, Zero, Plus, ray-level, ray-keeps, sign_at, ByOp, Cone, by_side, Map, MapLabel, Valid, op_label, And, map_of, IsSphereMap, SphereMap}
 use Rattle.nef_space.specs.Sets.{Holds}
 use Rattle.nef_geo.specs.declared.plane.Oriented.{Oriented}
-use Rattle.law_near.specs.Near.{span}
-use Rattle.law_near.proofs.Combine.{shorter}
-use Rattle.law_sphere.proofs.building.SideLabels.{side-same_way}
+use Rattle.law_geometry.specs.near.Near.{span}
+use Rattle.law_geometry.proofs.near.Combine.{shorter}
+use Rattle.law_geometry.proofs.sphere.building.SideLabels.{side-same_way}
 use Rattle.nef_result.specs.Halves.{inside_label, side_label, IsMapOfPlane}
 use Rattle.nef_space.proofs.Elementary.{minus-not_nought, plus-not_nought}
 use Rattle.nef_space.proofs.Vectors.{opposite-slope}

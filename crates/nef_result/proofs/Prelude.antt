@@ -1,7 +1,7 @@
 -- The names that most proofs cite, passed on from one place. Declares nothing.
-pub use Rattle.law_near.proofs.Prelude.{FlatCone, IsShort, frame, halves, side}
+pub use Rattle.law_geometry.proofs.near.Prelude.{FlatCone, IsShort, frame, halves, side}
 pub use Rattle.nef_geo.proofs.Prelude.{given_form, opposite_form, point_at}
-pub use Rattle.law_complex.proofs.Prelude.{Cone, Edge, Flat-from_cone, FlatCone-from_flat, FlatDim-by_germs, FlatDim-one, Germ, Germ-unique, Sign, cases_order, form, germs-by_cell, is-at_first, is-at_none, label_of, minus, nought, plus, reach_all, signs-same, slide, slope-slide}
+pub use Rattle.law_geometry.proofs.complex.Prelude.{Cone, Edge, Flat-from_cone, FlatCone-from_flat, FlatDim-by_germs, FlatDim-one, Germ, Germ-unique, Sign, cases_order, form, germs-by_cell, is-at_first, is-at_none, label_of, minus, nought, plus, reach_all, signs-same, slide, slope-slide}
 pub use Rattle.nef_smap.proofs.Prelude.{Bor, Equal, Greater, IsSphereMap, Least, Less, Map, MapLabel, Minus, Ordered, Plus, SameDirection, Valid, Zero, axis_x, axis_y, axis_z, by_side, cond, dot, length-map, length-take-le, lies-left, lies-right, map_of, mul_pos, negsuc, not, not_true, of_z, sign-neg, sign_of, sign_turned, to_z, vector, vector_of}
 pub use Rattle.nef_stopo.proofs.Prelude.{ByOp, IsLeastMap, Op, SphereMap, map-append, op_label}
 pub use Rattle.nef_complex.proofs.Prelude.{AreSorted, AreVertexHolders, append-nil, keeps-all, lt_by, plane-ordered, set, step-within, w64}
@@ -11,16 +11,16 @@ pub use Rattle.std.proofs.Common.{vec_capacity, vec_len}
 pub use Rattle.std.proofs.lemmas.List.{length-append}
 pub use Rattle.std.specs.List.{zip}
 pub use Rattle.nef_space.proofs.Lists.{lies-append, is-at_last, is-at_left, is-at_map, is-at_more, map-is_at}
-pub use Rattle.law_near.proofs.Cells.{coordinate-in, is_nought}
-pub use Rattle.law_near.proofs.Frames.{frame-minus}
-pub use Rattle.law_near.proofs.Germs.{Germ-from_sample, sample, sample-short, sign-along}
-pub use Rattle.law_near.proofs.Near.{ray-keeps, ray-level}
-pub use Rattle.law_complex.specs.Shows.{Carriers}
+pub use Rattle.law_geometry.proofs.near.Cells.{coordinate-in, is_nought}
+pub use Rattle.law_geometry.proofs.near.Frames.{frame-minus}
+pub use Rattle.law_geometry.proofs.near.Germs.{Germ-from_sample, sample, sample-short, sign-along}
+pub use Rattle.law_geometry.proofs.near.Near.{ray-keeps, ray-level}
+pub use Rattle.law_geometry.specs.complex.Shows.{Carriers}
 pub use Rattle.nef_star.specs.declared.star.Op.TheVariants.{And, Diff, Or, Xor}
 pub use Rattle.nef_edges.proofs.Places.{at-read}
 pub use Rattle.nef_cand.specs.declared.named.Operand.TheVariants.{First, Second}
 pub use Rattle.nef_result.specs.Begun.{AreBegun, AreFilledTo, AreLeft, AreThere, Begins, HasNamed, HasSourceAt, IsAdded, IsFilled, IsFilledAt, NamesVertex, vertex_at}
-pub use Rattle.law_sphere.specs.Forms.{axes}
+pub use Rattle.law_geometry.specs.sphere.Forms.{axes}
 pub use Rattle.nef_result.specs.Ends.{AreFrameCorners, FrameCorner, IsFrameCornerAt, IsFrameCornerOf, IsWall, all_ends, at_wall, corner_label, ends, frame_end}
 pub use Rattle.nef_result.specs.Outcomes.{AreOutcomesOf, IsOtherOf, IsOutcomeAt, StandsAt, of_operand}
 pub use Rattle.nef_result.specs.Planes.{sorted_sides}

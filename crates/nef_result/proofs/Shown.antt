@@ -1,6 +1,6 @@
 -- The corners are the vertices of a set that holds all of the frame or nothing of it.
 use Rattle.nef_result.proofs.Prelude.{◌≡◌, ℕ, zero, suc, pos, neg_ℤ, arith, refl, Bool, true, false, subst, List, map, ints, Lies, lies-left, SpacePoint, Form, form, SamePoint, IsPointBelow, half_side, Set, halves, IsVertex, Label, Out, Not, In, point_of, form_of, Plane, frame, carriers, IsAt, Cone, Least, Ordered, InOrder, is-at_map, map-is_at, Edge as PlainEdge, Edges, SamePlane, Carriers, Shows, vertex_of, AreVerticesOf, Vertex, FrameCorner, ends, all_ends, IsFrameCornerOf, AreFrameCorners, sorted_sides, is-at_none, is-at_first}
-use Rattle.law_complex.specs.Complexes.{Vertex as PlainVertex}
+use Rattle.law_geometry.specs.complex.Complexes.{Vertex as PlainVertex}
 use Rattle.nef_result.proofs.Walls.{Axis, on_x, on_y, on_z, wall, wall-listed, listed-wall, IsOneLabelSet, full-whole, empty-whole}
 use Rattle.nef_result.proofs.CornerVertices.{corner-vertex, vertex-corner}
 use Rattle.nef_result.proofs.CornerCones.{corner-cone}

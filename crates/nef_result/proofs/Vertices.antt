@@ -1,7 +1,7 @@
 -- The vertices of a set among its candidates, with their maps, are all its vertices.
 use Rattle.nef_result.proofs.Prelude.{◌≡◌, ℕ, ◌<◌, ◌+◌, List, [], ◌∷◌, ◌++◌, length, map, arith, refl, ap, sym, subst, ◌∙◌, ◌⊎◌, inl, inr, FlatDim, IsVertex, SpacePoint, IsPointBelow, SamePoint, Set, point_of, Plane, Point, carriers, FlatDim-one, same-point_sym, Map, IsAt, is-at_one, Cone, Least, Ordered, InOrder, map_of, IsLeastMap, SphereMap, contains-at, is-at_map, map-is_at, is-at_left, is-at_last, is-at_more, vertex_of, AreVerticesOf, AreHolders, AreVertexHolders, Vertex, Outcome, MapSource, ArePointsInOrder, IsOtherOf, IsOutcomeAt, AreOutcomesOf, Begins, vertex_at, IsAdded, AreBegun, HasSourceAt, AreThere, IsFilled, AreFilledTo, is-at_none}
-use Rattle.law_sphere.proofs.Dimensions.{volume-dimension, facet-dimension, edge-dimension}
-use Rattle.law_complex.specs.Complexes.{Vertex as PlainVertex}
+use Rattle.law_geometry.proofs.sphere.Dimensions.{volume-dimension, facet-dimension, edge-dimension}
+use Rattle.law_geometry.specs.complex.Complexes.{Vertex as PlainVertex}
 use Rattle.nef_smap.proofs.SideLists.{is-at_some as element-at}
 use Rattle.nef_spair.specs.Kinds.{IsVertexMap}
 use Rattle.nef_spair.specs.declared.answer.Kind.TheVariants.{Vertex as vertex_kind}
@@ -9,7 +9,7 @@ use Rattle.nef_spair.proofs.OneKind.{fits}
 use Rattle.nef_result.specs.declared.outcome.Outcome.TheVariants as outcome
 use Rattle.nef_space.proofs.Lists.{is-at_within}
 use Rattle.std.proofs.lemmas.List.{length_push}
-use Rattle.law_near.proofs.Same.{IsVertex-same}
+use Rattle.law_geometry.proofs.near.Same.{IsVertex-same}
 use Rattle.nef_smap.proofs.SortedOnce.{in-order_map}
 
 -- ---- one point after another

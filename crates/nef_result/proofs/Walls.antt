@@ -1,7 +1,7 @@
 -- The sides of the frame by their axis and end, and the germs of a set that holds all of the frame or nothing of it.
 use Rattle.nef_result.proofs.Prelude.{◌≡◌, pos, negsuc, arith, refl, sym, ◌∙◌, ◌⊎◌, inl, inr, Bool, true, false, subst, ints, minus, nought, sign, Lies, lies-left, SpacePoint, Form, slope, InFrame, Vector, Set, halves, HasLabel, Germ, Label, Out, Not, In, reach_all, step-within, sign_at, side, frame, carriers, keeps-all, coordinate-in, label_of, frame-minus, Germ-from_sample, sample, sample-short, sign-along}
 use Rattle.nef_space.specs.Sets.{Holds}
-use Rattle.law_near.proofs.Decisions.{ahead}
+use Rattle.law_geometry.proofs.near.Decisions.{ahead}
 use Rattle.nef_space.proofs.Elementary.{minus-not_nought}
 
 pub data Axis : Type 0 where

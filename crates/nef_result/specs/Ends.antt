@@ -3,12 +3,12 @@ use Rattle.std.specs.Prelude.{◌≡◌, ◌*ℤ◌, ◌∷◌}
 use Rattle.nef_space.specs.Prelude.{pos, ℤ, neg_ℤ, List, [], Bool, true, false, Sign, sign, half_side, SpacePoint, Vector, vector, dot, IsDirection}
 use Rattle.nef_stopo.specs.Prelude.{Label, MapLabel, op_label, map_of, IsSphereMap, IsLeastMap}
 use Rattle.nef_complex.specs.Prelude.{Out, point_of}
-use Rattle.law_sphere.specs.Least.{by_side}
+use Rattle.law_geometry.specs.sphere.Least.{by_side}
 use Rattle.nef_star.specs.declared.star.Op.TheVariants.{And}
 use Rattle.nef_smap.specs.declared.map.SphereMap.{SphereMap}
-use Rattle.law_sphere.specs.Forms.{axis_x}
-use Rattle.law_sphere.specs.Forms.{axis_y}
-use Rattle.law_sphere.specs.Forms.{axis_z}
+use Rattle.law_geometry.specs.sphere.Forms.{axis_x}
+use Rattle.law_geometry.specs.sphere.Forms.{axis_y}
+use Rattle.law_geometry.specs.sphere.Forms.{axis_z}
 use Rattle.nef_complex.specs.declared.complex.Vertex.{Vertex}
 
 -- the high end of an axis, or the low one

@@ -8,7 +8,7 @@ pub use Rattle.nef_smap.specs.declared.map.SphereMap.{SphereMap}
 pub use Rattle.nef_spair.specs.Kinds.{IsVertexMap}
 pub use Rattle.nef_cand.specs.declared.named.Operand.TheVariants.{First, Second}
 pub use Rattle.nef_result.specs.Begun.{AreBegun, AreFilledTo, AreThere, HasNamed, IsAdded, IsFilledAt, NamesVertex, vertex_at}
-pub use Rattle.law_sphere.specs.Forms.{axes}
+pub use Rattle.law_geometry.specs.sphere.Forms.{axes}
 pub use Rattle.nef_result.specs.Ends.{AreFrameCorners, FrameCorner, IsFrameCornerOf, IsWall, all_ends, ends, frame_end}
 pub use Rattle.nef_result.specs.Givens.{given_of, moved_if, moved_of}
 pub use Rattle.nef_result.specs.Halves.{IsMapOfPlane, inside_label}

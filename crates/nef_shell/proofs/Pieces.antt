@@ -4,7 +4,7 @@ use Rattle.nef_script.specs.declared.script.Command.TheVariants.{Turn}
 use Rattle.nef_statement.proofs.Answered.{answered-one, joined-one, ended-one}
 use Rattle.nef_shell.specs.Prints.{IsPrinted, AreTextsCompared, AreTextsMeant}
 use Rattle.nef_shell.specs.Written.{TextTells}
-use Rattle.law_near.proofs.SameSets.{same-self}
+use Rattle.law_geometry.proofs.near.SameSets.{same-self}
 
 -- the text of a set spells the complex that shows it, and tells which points belong to it
 pub text-tells : (version : TextVersion) (s : Set) (x : List ℕ) → IsWrittenOf s (text version) x → TextTells version s x

@@ -1,6 +1,6 @@
 -- A complex that shows a set shows each set that is alike.
 use Rattle.nef_shell.proofs.Prelude.{⊎_elim, List, Form, Set, halves, Lies, lies-left, lies-right, lies-append, frame, carriers, cones-of_same, FlatDim-by_cone, Carriers, Shows, complex_of, ShowsSet, Complex, AreAlike}
-use Rattle.law_complex.specs.Complexes.{Complex as PlainComplex}
+use Rattle.law_geometry.specs.complex.Complexes.{Complex as PlainComplex}
 use Rattle.nef_unique.proofs.Vertices.{cone-carried}
 use Rattle.nef_plan.proofs.Alike.{alike-sym}
 

@@ -1,7 +1,7 @@
 -- The sets of operations.
 use Rattle.std.specs.Prelude.{◌≡◌, ◌<◌, ℕ, List, Option, Some, None}
 use Rattle.nef_result.specs.Prelude.{Set, given_form, op_set, ShowsSet}
-use Rattle.law_turns.specs.Turned.{turned_set}
+use Rattle.law_geometry.specs.turns.Turned.{turned_set}
 use Rattle.nef_complex.specs.declared.complex.Complex.{Complex}
 use Rattle.nef_expr.specs.Nodes.{operand}
 use Rattle.nef_ops.specs.Nodes.{constant_set, unary_set}

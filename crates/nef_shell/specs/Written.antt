@@ -1,7 +1,7 @@
 -- What is written of sets tells which sets are one, and which points belong to them.
 use Rattle.std.specs.Prelude.{◌≡◌, ◌↔◌}
 use Rattle.nef_space.specs.Prelude.{ℕ, List, SameSet, SpacePoint, InFrame, Set, Holds}
-use Rattle.law_complex.specs.Belongs.{Belongs}
+use Rattle.law_geometry.specs.complex.Belongs.{Belongs}
 use Rattle.nef_complex.specs.declared.complex.Complex.{Complex}
 use Rattle.nef_complex.specs.Complexes.{complex_of}
 use Rattle.nef_core.specs.declared.work.TextVersion.{TextVersion}

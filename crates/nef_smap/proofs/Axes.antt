@@ -2,9 +2,9 @@
 use Rattle.nef_smap.proofs.Prelude.{◌≡◌, ◌≢◌, ℤ, pos, ◌<ℤ◌, arith, ap, sym, ◌∙◌, subst, ints, minus, nought, plus, sign, plus-is, minus-is, nought-is, Vector, vector, IsZero, cross, triple, dot, up, opposite, sign_of, Minus, Zero, Plus, triple-dot}
 use Rattle.nef_geo.specs.declared.sign.Sign.{Sign as GeoSign}
 use Rattle.nef_smap.proofs.CloseSigns.{geo-of, geo-one}
-use Rattle.law_sphere.specs.Forms.{axis_x}
-use Rattle.law_sphere.specs.Forms.{axis_y}
-use Rattle.law_sphere.specs.Forms.{axis_z}
+use Rattle.law_geometry.specs.sphere.Forms.{axis_x}
+use Rattle.law_geometry.specs.sphere.Forms.{axis_y}
+use Rattle.law_geometry.specs.sphere.Forms.{axis_z}
 use Rattle.nef_smap.proofs.Stands.{dot-opposite}
 
 pub plus-of : (r : GeoSign) (z : ℤ) → r ≡ sign_of z → r ≡ Plus → pos 0 <ℤ z

@@ -3,7 +3,7 @@ use Rattle.nef_smap.proofs.Prelude.{◌≡◌, ℕ, ℤ, pos, ◌+ℤ◌, ◌-�
 use Rattle.nef_smap.proofs.Rise.{rise-is, rise-level, rise_form-value, rise-keeps, form-over, meridian-over}
 use Rattle.nef_smap.proofs.Over.{Touches, meets, ends, touches-back, touches-on, rises-together}
 use Rattle.nef_smap.proofs.Lowest.{share_d, share_u, LiesOver}
-use Rattle.law_sphere.proofs.building.RayClose.{cross-last}
+use Rattle.law_geometry.proofs.sphere.building.RayClose.{cross-last}
 
 -- ---- the meet is a direction, and so are its values
 pub rise-direction : (u n d : Vector) → pos 0 <ℤ dot n u → IsDirection (cross u d) → IsDirection (rise u n d)

@@ -5,7 +5,7 @@ use Rattle.nef_smap.proofs.Over.{Touches, meets, ends, touches-level, Alike, one
 use Rattle.nef_smap.proofs.Lowest.{LeastElement, least_or, first-exists, share_d, share_u, LiesOver, over-value, lies_over-decided}
 use Rattle.nef_smap.proofs.Stands.{dot-opposite, stand, stands, stands-keeps, stands-second, stands-third}
 use Rattle.nef_smap.proofs.Close.{Clean, end-over, over-touches, none-near, first-near}
-use Rattle.law_sphere.proofs.building.RayClose.{cross-last}
+use Rattle.law_geometry.proofs.sphere.building.RayClose.{cross-last}
 
 -- ---- signs at a direction w over d: p is the form at d, q at u
 at-over-plus : (l w a p b q : ℤ) → pos 0 <ℤ l → l *ℤ w ≡ a *ℤ p +ℤ b *ℤ q → pos 0 <ℤ (a *ℤ p +ℤ b *ℤ q) → pos 0 <ℤ w

@@ -1,7 +1,7 @@
 -- What is met first over a free direction sees it: the lower side of an item, or u.
 use Rattle.nef_smap.proofs.Prelude.{◌≡◌, ℕ, ◌+◌, ◌*◌, ◌<◌, ℤ, pos, ◌+ℤ◌, ◌-ℤ◌, ◌*ℤ◌, ◌<ℤ◌, nat_abs, arith, ap, sym, ◌∙◌, [], ◌∷◌, subst, None, ints, mul-pos, ring, at, num, ◌⊕◌, ◌⊖◌, ◌⊗◌, follows, given, none, sign, mul_pos, mul_neg, sign-scaled, nought-is, Vector, IsDirection, cross, dot, SameDirection, blend, IsAt, MapVertex, Map, Item, items, item_normal, OnItem, IsFree, neg_item, IsClear, Sees, directly, Shaped, dot-comb, same-minus, on-direction, on-level, OnItem-by_signs, cross-self, IsZero-times, product-off, rise, IsOver, IsFirst, IsFirstItem, vector-same, cross-turned, dir-signs, apart}
 use Rattle.nef_smap.proofs.Rise.{rise-is, rise-level, rise_form-value}
-use Rattle.law_sphere.proofs.building.RayClose.{cross-last}
+use Rattle.law_geometry.proofs.sphere.building.RayClose.{cross-last}
 
 -- no svertex lies over d or under it
 pub record Generic (M : Map) (u d : Vector) : Type 0 where

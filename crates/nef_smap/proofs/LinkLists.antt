@@ -2,7 +2,7 @@
 use Rattle.nef_smap.proofs.Prelude.{◌≡◌, ℕ, zero, suc, ◌+◌, ◌<◌, arith, length-append, refl, ap, sym, ◌∙◌, ⊎_elim, List, [], ◌∷◌, ◌++◌, length, subst, Option, Some, None, Bor, IsAt, up, Label, MapVertex, Arc, MapSloop, Map, sloop_item, items, items_then, around_svertex, pos_item, whole, is-at_one, Link, labelled, svertex_sides, item_sides, sides_of, AreLinked, SphereMap, BelowFirsts, BelowFirst, ArcFirst, SloopFirst, met_number, IsJoin, join_below, join_around, join_arc, join_sloop, join_ground, AreJoins, one_if_label, arounds_before, side_number, JoinsBelow, JoinsAround, JoinsArc, JoinsSloop, JoinsGround, HasLink, ComesOf, AreEach, AreArounds, AreSloops, AreGrounds, Either, earlier, last, is-at_pushed, is-at_left, is-at_last, is-at_some, is-at_parts, is-at_right, is-at_none, is-at_first}
 use Rattle.nef_smap.proofs.SideLists.{length-item_sides}
 use Rattle.nef_space.proofs.Lists.{is-at_within}
-use Rattle.law_sphere.proofs.Builder.{sloops-one}
+use Rattle.law_geometry.proofs.sphere.Builder.{sloops-one}
 use Rattle.nef_space.proofs.Elementary.{less-or-last}
 
 -- ---- one link for each

@@ -1,6 +1,6 @@
 -- Stars of directions in faces and on items show the map.
 use Rattle.nef_smap.proofs.Prelude.{◌≡◌, ℕ, zero, List, [], ◌∷◌, length, map, pos, true, false, Option, Some, None, Result, Ok, Err, IfOk, refl, sym, ap, subst, ◌∙◌, sign, normal_limit, svertex_limit, Vector, dot, cross, IsDirection, SameDirection, IsAtMost, IsNormal, IsAt, Label, vector_of, Dir, same_directions_equal, MapVertex, Map, HasArc, at_svertex, Item, items, item_normal, item_pos, item_mark, item_neg, OnItem, Side, HasSide, SeenAs, MapLabel, on_item, seen, NearLabel, Valid, by_side, StarLabel, on_ray, in_sector, in_only_sector, StarShows, IsStraight, is-at_one, none-at, near-lone, straight_star-label, near-free, near-item, sees-free, Ray, Star, ray_of, star_of, sector_at, IsRay, IsStar, at-ray, sector-at, sectors-fill, each_has_one_label, SVertex, SphereMap, svertex_of, map_of, LabelledSide, sides_of, IsSide, SideSees, IsNeighbourhood, IsStarAlong, dir-self, is-at_first}
-use Rattle.law_sphere.specs.Stars.{Ray as PlainRay}
+use Rattle.law_geometry.specs.sphere.Stars.{Ray as PlainRay}
 use Rattle.nef_star.proofs.Straight.{plane-star}
 use Rattle.nef_smap.proofs.NeighbourhoodEnds.{ray-is}
 use Rattle.nef_smap.proofs.SideLists.{side-has}

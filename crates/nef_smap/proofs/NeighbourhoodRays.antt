@@ -1,6 +1,6 @@
 -- The labels near a svertex: on a ray, and in the sector after it.
 use Rattle.nef_smap.proofs.Prelude.{◌≡◌, ℕ, ◌+◌, ◌≤◌, List, pos, arith, refl, sym, ap, ◌∙◌, ⊎_elim, sign, sign-scaled, nought-or, Vector, IsDirection, cross, dot, SameDirection, blend, Label, IsOnCircle, IsAt, MapVertex, Map, arc_item, HasSide, on_item, seen, NearLabel, Valid, ArcRay, ray_left, ray_side, Unrayed, IsLastRay, SameSigns, forms, across, at-arc, amount, far-keeps, far-level, label-by_signs, near-from_far, left-on, on-end, across-side, self-pos, direction-left, square-cross, SameDirection-turned, dir-signs}
-use Rattle.law_sphere.proofs.Sectors.{ray-sees}
+use Rattle.law_geometry.proofs.sphere.Sectors.{ray-sees}
 use Rattle.nef_star.proofs.Lefts.{way-same}
 
 -- close to p, what lies half a plane off p along m x p has the signs of that

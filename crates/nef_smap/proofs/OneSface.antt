@@ -1,7 +1,7 @@
 -- Labels of sides that agree at the joins are the same for all sides of one sface.
 use Rattle.nef_smap.proofs.Prelude.{◌≡◌, ℕ, ◌+◌, pos, ◌<ℤ◌, arith, refl, ap, sym, ◌∙◌, inl, inr, ⊎_elim, List, [], ◌∷◌, subst, Option, Some, None, ints, sign, nought-is, Lies, Vector, IsDirection, IsZero, cross, dot, opposite, Label, Out, IsStrictlyOn, IsAt, MapVertex, MapSloop, Map, Item, arc_item, sloop_item, items, item_normal, dir_of, OnItem, IsFree, Side, around_svertex, pos_item, neg_item, whole, HasArc, HasSide, Sees, Shaped, Labelling, Near, Plain, PlainAt, StraightAt, IsSmooth, straight, normal-is, on-direction, on-level, axes-forms, amount, past_source, arc-point, arc-at, cross-self, Beside, same_way, other_way, beside, cross-direction_left, sloop-at, over_forms, IsFirst, Stands, met, BelowFirst, Firsts, Joins, zero-decided, cross-turned, apart, parallel-trans, is-at_none}
-use Rattle.law_sphere.proofs.Flips.{Axial, directed-by, far_directed-by, sloop-along}
-use Rattle.law_sphere.proofs.ArcLabels.{arc-along}
+use Rattle.law_geometry.proofs.sphere.Flips.{Axial, directed-by, far_directed-by, sloop-along}
+use Rattle.law_geometry.proofs.sphere.ArcLabels.{arc-along}
 use Rattle.nef_smap.proofs.Rise.{form-over}
 use Rattle.nef_smap.proofs.Stands.{stand, stands, stands-keeps, stands-third, dot-opposite}
 use Rattle.nef_smap.proofs.Common.{all-meet}
@@ -11,9 +11,9 @@ use Rattle.nef_smap.proofs.Settled.{plain-free, straight-on, round-lone}
 use Rattle.nef_smap.proofs.Pole.{plain-up, plain-down}
 use Rattle.nef_smap.proofs.Upper.{upper-arc, upper-sloop}
 use Rattle.nef_smap.proofs.Reached.{Sided, sides-agree}
-use Rattle.law_sphere.proofs.building.RayClose.{cross-last}
+use Rattle.law_geometry.proofs.sphere.building.RayClose.{cross-last}
 use Rattle.std.proofs.lemmas.Option.{none-some}
-use Rattle.law_sphere.proofs.Arcs.{Ends, ends-of}
+use Rattle.law_geometry.proofs.sphere.Arcs.{Ends, ends-of}
 
 module _ (M : Map) (V : Shaped M) (u : Vector) (ahead : (k : ℕ) (x : Item) → IsAt (items M) k x → pos 0 <ℤ dot (item_normal x) u)
     (across : (k : ℕ) (v : MapVertex) → IsAt M.svertices k v → IsDirection (cross u v.dir)) (G : Side → Label) (top : Label) (Z : Firsts M u) (J : Joins M u G top Z)

@@ -1,7 +1,7 @@
 -- What lies over a direction close to d lies over d, or ends over d.
 use Rattle.nef_smap.proofs.Prelude.{◌≡◌, ℕ, pos, ◌-ℤ◌, ◌*ℤ◌, ◌<ℤ◌, arith, refl, ap, sym, ◌∙◌, ◌⊎◌, inl, inr, ⊎_elim, [], ◌∷◌, subst, Option, Some, None, ints, ring, at, num, ◌⊕◌, ◌⊖◌, ◌⊗◌, follows, given, none, sign, by_order, sign-scaled, same-nought, Vector, IsDirection, dot, SameDirection, IsAt, MapVertex, Arc, Map, Item, arc_item, sloop_item, items, item_normal, dir_of, OnItem, Shaped, SameSigns, Keeps, forms, normal-is, same-minus, is-at_one, kept-nought, SameDirection-decided, Decided, item-forms, normal-form, on-level, OnItem-by_signs, dir-at, arc-at, IsStrictlyOn-back, rise, meridians, IsOver, IsFirst, dir-signs}
 use Rattle.nef_smap.proofs.Rise.{rise-is, rise_form-value, rise-same}
-use Rattle.law_sphere.proofs.Arcs.{ends-of}
+use Rattle.law_geometry.proofs.sphere.Arcs.{ends-of}
 
 -- ---- an item close to y is met at y or has an end there
 pub data Touches (M : Map) (x : Item) (y : Vector) : Type 0 where

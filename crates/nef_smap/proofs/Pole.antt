@@ -5,7 +5,7 @@ use Rattle.nef_smap.proofs.Over.{first-one}
 use Rattle.nef_smap.proofs.Stands.{far-first, stand, stands, stands-keeps}
 use Rattle.nef_smap.proofs.Labelled.{above_forms, turned-form, LabelAbove, by_one, labelled, first-same}
 use Rattle.nef_smap.proofs.Settled.{plain-free}
-use Rattle.law_sphere.proofs.building.RayClose.{cross-last}
+use Rattle.law_geometry.proofs.sphere.building.RayClose.{cross-last}
 
 -- parallel vectors
 pub parallel-value : (v d g : Vector) → IsZero (cross v d) → dot v v *ℤ dot g d ≡ dot v d *ℤ dot g v

@@ -1,6 +1,6 @@
 -- Two sides that see one direction have one label, where the labels of the sides agree piece by piece with a labelling.
 use Rattle.nef_smap.proofs.Prelude.{◌≡◌, ℕ, ap, sym, ◌∙◌, List, subst, Some, sign, sign-plus, sign-minus, Vector, IsDirection, cross, dot, Label, Out, IsAt, MapVertex, Map, Item, items, item_normal, OnItem, IsFree, Side, around_svertex, pos_item, neg_item, whole, HasSide, Sees, by_side, Labelling, Near, Plain, is-at_one, beside, refl}
-use Rattle.law_sphere.proofs.Built.{SidesTell, sees-direction, side-label}
+use Rattle.law_geometry.proofs.sphere.Built.{SidesTell, sees-direction, side-label}
 
 -- at each place of the map, and near it, the labels are those that G gives the sides
 pub record Sided (M : Map) (G : Side → Label) (F : Vector → Label → Type 0) : Type 0 where

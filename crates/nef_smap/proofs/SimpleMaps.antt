@@ -1,7 +1,7 @@
 -- The maps of one label and of one plane, as the program's.
 use Rattle.nef_smap.proofs.Prelude.{◌≡◌, ℕ, zero, suc, [], ◌∷◌, refl, sym, ap, ◌∙◌, inl, subst, normal_limit, Vector, dot, IsDirection, IsNormal, IsAtMost, Label, vector_of, IsPrimitive, IsAt, MapSloop, Item, sloop_item, items, item_normal, MapLabel, Valid, by_side, Least, Ordered, Labelling, ground_map, ground-shaped, ground-agrees, sloop_map, sloop-shaped, sloop-agrees, SLoop, sloop_of, IsSmall, is-at_none, is-at_first}
 use Rattle.nef_space.specs.Signs.{sign}
-use Rattle.law_sphere.proofs.Built.{agrees-valid, label-agrees}
+use Rattle.law_geometry.proofs.sphere.Built.{agrees-valid, label-agrees}
 use Rattle.nef_smap.proofs.Primitive.{dir-primitive}
 
 -- ---- one label

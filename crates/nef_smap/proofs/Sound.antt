@@ -9,10 +9,10 @@ use Rattle.nef_smap.proofs.Pole.{parallel-value}
 use Rattle.nef_smap.proofs.FirstSees.{Generic, none-clear, first-sees}
 use Rattle.nef_smap.proofs.SideNumbers.{side-number}
 use Rattle.nef_space.proofs.Lists.{is-at_within}
-use Rattle.law_sphere.proofs.building.RayClose.{cross-last}
+use Rattle.law_geometry.proofs.sphere.building.RayClose.{cross-last}
 use Rattle.nef_space.proofs.Elementary.{nought-factor}
 use Rattle.std.proofs.lemmas.Option.{none-some}
-use Rattle.law_sphere.proofs.Arcs.{Ends, ends-of}
+use Rattle.law_geometry.proofs.sphere.Arcs.{Ends, ends-of}
 
 -- the turn from s to r, both in the plane of n
 pub along-turn : (n s r u : Vector) → dot n s ≡ pos 0 → dot n r ≡ pos 0 → dot n n *ℤ dot (cross u s) r ≡ triple n s r *ℤ dot n u

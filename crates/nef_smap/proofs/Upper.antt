@@ -4,7 +4,7 @@ use Rattle.nef_smap.proofs.Rise.{form-over}
 use Rattle.nef_smap.proofs.Stands.{far-first, stand, stands, stands-keeps, stands-second, stands-third}
 use Rattle.nef_smap.proofs.Common.{AllMeet}
 use Rattle.nef_smap.proofs.Clean.{item-clean}
-use Rattle.law_sphere.proofs.building.RayClose.{cross-last}
+use Rattle.law_geometry.proofs.sphere.building.RayClose.{cross-last}
 
 -- ---- the directions n, s and n x s at right angles
 -- the direction along n from s, but for a part along s

@@ -1,11 +1,11 @@
 -- The program's stars are well formed.
 use Rattle.nef_smap.proofs.Prelude.{◌≡◌, ℕ, zero, suc, List, [], ◌∷◌, length, map, arith, refl, sym, ap, subst, ◌∙◌, inl, inr, IsBelow, Vector, direction_numbers, IsDirection, SameDirection, vector_of, IsPrimitive, VectorBelow, IsAt, Ray, Star, ray_of, star_of, left_of, left_at, IsRay, IsStar, each_has_one_label, is-at_none, is-at_first}
-use Rattle.law_sphere.specs.Stars.{Ray as PlainRay, LeavesAxis as IsPlainRay}
-use Rattle.law_sphere.specs.Raw.{IsWellFormed, RayBelow, sector_count as plain_count}
+use Rattle.law_geometry.specs.sphere.Stars.{Ray as PlainRay, LeavesAxis as IsPlainRay}
+use Rattle.law_geometry.specs.sphere.Raw.{IsWellFormed, RayBelow, sector_count as plain_count}
 use Rattle.nef_star.specs.Stars.{sector_count}
 use Rattle.nef_smap.proofs.Primitive.{dir-primitive}
 use Rattle.nef_space.proofs.Lists.{is-at_is, is-at_map, is-at_within}
-use Rattle.law_sphere.proofs.cones.Lowest.{below-either}
+use Rattle.law_geometry.proofs.sphere.cones.Lowest.{below-either}
 use Rattle.nef_star.proofs.RoundStars.{same-dirs}
 use Rattle.nef_star.proofs.Straight.{ahead_first}
 

@@ -1,9 +1,9 @@
 -- What lies over a direction: the item that the way from the direction to a fixed direction u first meets.
 use Rattle.std.specs.Prelude.{◌≡◌, ◌<◌, ◌-ℤ◌, ◌≤ℤ◌, ◌<ℤ◌, ◌∷◌, ◌++◌, ℕ, pos, List, [], Option, Some, None}
 use Rattle.nef_space.specs.Prelude.{Sign, minus, nought, plus, sign, Lies, Vector, dot, cross, IsAt}
-use Rattle.law_near.specs.Cones.{combination}
-use Rattle.law_sphere.specs.Maps.{Map, Item, items, item_normal, OnItem}
-use Rattle.law_sphere.specs.Forms.{gather, forms}
+use Rattle.law_geometry.specs.near.Cones.{combination}
+use Rattle.law_geometry.specs.sphere.Maps.{Map, Item, items, item_normal, OnItem}
+use Rattle.law_geometry.specs.sphere.Forms.{gather, forms}
 
 -- where the way from d to u meets the plane of n, which parts d and u
 abbrev pub rise : Vector → Vector → Vector → Vector

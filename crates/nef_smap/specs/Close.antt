@@ -7,7 +7,7 @@ use Rattle.nef_geo.specs.declared.sign.Sign.TheVariants.{Minus, Zero, Plus}
 use Rattle.nef_smap.specs.declared.above.Close.{Close}
 use Rattle.nef_smap.specs.declared.above.Lean.{Lean}
 use Rattle.nef_smap.specs.declared.above.Lean.TheVariants.{Down, Up, Along}
-use Rattle.law_sphere.specs.Maps.{dir_of}
+use Rattle.law_geometry.specs.sphere.Maps.{dir_of}
 use Rattle.nef_smap.specs.declared.map.SArc.{SArc}
 use Rattle.nef_smap.specs.declared.map.SphereMap.{SphereMap}
 use Rattle.nef_smap.specs.Maps.{map_of}

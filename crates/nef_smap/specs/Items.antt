@@ -1,6 +1,6 @@
 -- The program's items as items of any size, and items by their normals.
 use Rattle.nef_space.specs.Prelude.{ℕ, Vector, SameDirection, IsAt}
-use Rattle.law_sphere.specs.Maps.{Item as PlainItem, arc_item, sloop_item, Map, items, item_normal, OnItem}
+use Rattle.law_geometry.specs.sphere.Maps.{Item as PlainItem, arc_item, sloop_item, Map, items, item_normal, OnItem}
 use Rattle.nef_smap.specs.declared.item.Item.{Item}
 use Rattle.nef_smap.specs.declared.item.Item.TheVariants as item
 use Rattle.nef_smap.specs.Maps.{arc_of, sloop_of}

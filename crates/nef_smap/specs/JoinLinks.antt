@@ -2,7 +2,7 @@
 use Rattle.std.specs.Prelude.{◌≡◌, ◌<◌}
 use Rattle.nef_geo.specs.Prelude.{ℕ, List, length, Some, IsAt, up, Label}
 use Rattle.std.specs.Borrow.{Bor}
-use Rattle.law_sphere.specs.Maps.{MapVertex, Arc, MapSloop, Map, sloop_item, items, around_svertex, pos_item, whole}
+use Rattle.law_geometry.specs.sphere.Maps.{MapVertex, Arc, MapSloop, Map, sloop_item, items, around_svertex, pos_item, whole}
 use Rattle.nef_classes.specs.declared.forest.Link.{Link}
 use Rattle.nef_smap.specs.declared.map.SphereMap.{SphereMap}
 use Rattle.nef_smap.specs.Sides.{sides_of}

@@ -2,8 +2,8 @@
 use Rattle.std.specs.Prelude.{◌≡◌, ◌<ℤ◌}
 use Rattle.nef_geo.specs.Prelude.{ℕ, pos, Option, Some, None, Vector, dot, cross, triple, opposite, Label, IsAt}
 use Rattle.nef_space.specs.declared.label.Label.TheVariants.{Out}
-use Rattle.law_sphere.specs.cyclic.Arcs.{IsOnCircle}
-use Rattle.law_sphere.specs.Maps.{MapVertex, Arc, MapSloop, Map, sloop_item, items, dir_of, Side, around_svertex, pos_item, neg_item, whole}
+use Rattle.law_geometry.specs.sphere.cyclic.Arcs.{IsOnCircle}
+use Rattle.law_geometry.specs.sphere.Maps.{MapVertex, Arc, MapSloop, Map, sloop_item, items, dir_of, Side, around_svertex, pos_item, neg_item, whole}
 use Rattle.nef_smap.specs.Above.{IsFirst, over_forms, Stands}
 
 -- the label of what is met first: the label of an item's lower side, or the label of u

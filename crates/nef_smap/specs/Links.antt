@@ -1,7 +1,7 @@
 -- Which sides of a map are joined, by what is met first at each join.
 use Rattle.std.specs.Prelude.{◌≡◌}
 use Rattle.nef_geo.specs.Prelude.{ℕ, length, Option, Some, None, Vector, Label, IsAt}
-use Rattle.law_sphere.specs.Maps.{MapVertex, Arc, MapSloop, Map, sloop_item, items, around_svertex, pos_item, neg_item, whole}
+use Rattle.law_geometry.specs.sphere.Maps.{MapVertex, Arc, MapSloop, Map, sloop_item, items, around_svertex, pos_item, neg_item, whole}
 use Rattle.nef_smap.specs.Sides.{sides_of}
 use Rattle.nef_smap.specs.SideNumbers.{side_number}
 use Rattle.nef_smap.specs.Joined.{BelowFirsts, BelowFirst, ArcFirst, SloopFirst}

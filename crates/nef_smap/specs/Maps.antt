@@ -1,7 +1,7 @@
 -- The program's sphere maps as maps of any size, and what holds of each sphere map.
 use Rattle.nef_geo.specs.Prelude.{Label, ℕ, map, Some, option_map, Option, All, normal_limit, svertex_limit, IsAtMost, vector_of}
 use Rattle.std.specs.Prelude.{◌≡◌}
-use Rattle.law_sphere.specs.Prelude.{IsAt, MapVertex, Arc, MapSloop, Item, Map, items, item_normal, Valid, Least, Ordered, RawMap}
+use Rattle.law_geometry.specs.sphere.Prelude.{IsAt, MapVertex, Arc, MapSloop, Item, Map, items, item_normal, Valid, Least, Ordered, RawMap}
 use Rattle.nef_star.specs.Stars.{star_of, IsStar}
 use Rattle.nef_smap.specs.declared.map.SVertex.{SVertex}
 use Rattle.nef_smap.specs.declared.map.SArc.{SArc}

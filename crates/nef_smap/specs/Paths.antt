@@ -1,9 +1,9 @@
 -- The way from one direction to another, and the item that the way meets first.
 use Rattle.std.specs.Prelude.{◌≡◌, ℕ, ◌<◌, pos, ◌-ℤ◌, ◌*ℤ◌, ◌<ℤ◌, ◌≤ℤ◌, length}
 use Rattle.nef_space.specs.Vectors.{Vector, IsDirection, dot, cross}
-use Rattle.law_near.specs.Cones.{combination}
+use Rattle.law_geometry.specs.near.Cones.{combination}
 use Rattle.nef_space.specs.Lists.{IsAt}
-use Rattle.law_sphere.specs.Maps.{Item, Map, items, item_normal, OnItem}
+use Rattle.law_geometry.specs.sphere.Maps.{Item, Map, items, item_normal, OnItem}
 use Rattle.nef_smap.specs.declared.meets.SpherePath.{SpherePath}
 use Rattle.nef_smap.specs.Linear.{IsLarge}
 use Rattle.nef_smap.specs.WideVectors.{start_at, end_at}

@@ -2,8 +2,8 @@
 pub use Rattle.nef_geo.specs.Prelude.{IfOk, IfSome, IsAt, IsAtMost, IsDirection, IsNormal, IsTrue, MatchOption, OnOk, Option, SameDirection, Sign, Some, Vector, [], cond, cross, dot, filter_map, length, nat_abs, normal_limit, pos, sign, sign_of, slice_get, svertex_limit, up, vector_of, wide_vector, ℕ, ℤ}
 pub use Rattle.nef_star.specs.Prelude.{IsOnCircle, IsStar, star_of}
 pub use Rattle.nef_arc.specs.Arcs.{IsOn, normal_vector}
-pub use Rattle.law_sphere.specs.Least.{by_side}
-pub use Rattle.law_sphere.specs.Maps.{IsFree, Item, MapLabel, MapVertex, OnItem, Side, arc_item, item_mark, item_neg, item_normal, item_pos, items, neg_item, pos_item}
+pub use Rattle.law_geometry.specs.sphere.Least.{by_side}
+pub use Rattle.law_geometry.specs.sphere.Maps.{IsFree, Item, MapLabel, MapVertex, OnItem, Side, arc_item, item_mark, item_neg, item_normal, item_pos, items, neg_item, pos_item}
 pub use Rattle.nef_classes.specs.Classes.{AreLinked}
 pub use Rattle.nef_smap.specs.Above.{IsFirst, IsFirstOf, IsOver, rise_form}
 pub use Rattle.nef_smap.specs.Close.{ArcPasses, IsClose, PassesArc, beyond_sign, close_sign, geo_sign, lean_direction, then_toward}

@@ -1,7 +1,7 @@
 -- The numbers of a map's sides.
 use Rattle.std.specs.Prelude.{ℕ, zero, suc, ◌+◌, ◌*◌, List, [], ◌∷◌, length, Option, Some, None}
 use Rattle.nef_space.specs.declared.label.Label.{Label}
-use Rattle.law_sphere.specs.Maps.{MapVertex, Map, items, Side, around_svertex, pos_item, neg_item, whole}
+use Rattle.law_geometry.specs.sphere.Maps.{MapVertex, Map, items, Side, around_svertex, pos_item, neg_item, whole}
 use Rattle.nef_smap.specs.Sides.{svertex_sides}
 
 -- 1 for a label, 0 for none

@@ -2,7 +2,7 @@
 use Rattle.std.specs.Prelude.{◌≡◌, ◌<◌, ◌∷◌, ◌++◌, ℕ, suc, List, [], length, Option, Some, None}
 use Rattle.nef_space.specs.Prelude.{IsAt, NumbersClasses, Vector, SameDirection}
 use Rattle.nef_space.specs.declared.label.Label.{Label}
-use Rattle.law_sphere.specs.Maps.{MapVertex, Arc, MapSloop, Item, arc_item, sloop_item, Map, items, item_pos, item_neg, OnItem, Side, around_svertex, pos_item, neg_item, whole, Sees}
+use Rattle.law_geometry.specs.sphere.Maps.{MapVertex, Arc, MapSloop, Item, arc_item, sloop_item, Map, items, item_pos, item_neg, OnItem, Side, around_svertex, pos_item, neg_item, whole, Sees}
 use Rattle.nef_smap.specs.declared.map.SPlace.{SPlace}
 use Rattle.nef_smap.specs.declared.map.SPlace.TheVariants as place
 

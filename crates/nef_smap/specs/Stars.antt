@@ -1,8 +1,8 @@
 -- The star of a map at a direction.
 use Rattle.std.specs.Prelude.{◌≡◌, ◌∷◌, ◌⊎◌}
 use Rattle.nef_space.specs.Prelude.{ℕ, List, [], true, false, IsAt, Vector}
-use Rattle.law_sphere.specs.Maps.{Map, Item, item_normal, item_pos, item_mark, item_neg}
-use Rattle.law_sphere.specs.Stars.{Star, StarOf, StarShows}
+use Rattle.law_geometry.specs.sphere.Maps.{Map, Item, item_normal, item_pos, item_mark, item_neg}
+use Rattle.law_geometry.specs.sphere.Stars.{Star, StarOf, StarShows}
 use Rattle.nef_star.specs.Rounds.{ArcEnd}
 use Rattle.nef_smap.specs.declared.map.SArc.{SArc}
 

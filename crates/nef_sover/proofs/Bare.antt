@@ -1,6 +1,6 @@
 -- A map's labels along a circle that nothing of the map crosses.
 use Rattle.nef_sover.proofs.Prelude.{◌≡◌, ℕ, ◌<◌, pos, ◌+ℤ◌, ◌*ℤ◌, ◌-ℤ◌, Some, arith, refl, sym, ap, subst, ◌∙◌, inl, inr, [], ◌∷◌, ints, ring, at, num, neg, ◌⊕◌, ◌⊖◌, ◌⊗◌, sign-plus, sign-minus, Vector, IsDirection, IsNormal, IsZero, blend, cross, dot, opposite, Label, Decided, IsOnCircle, IsPrimitive, IsAt, MapSloop, Item, arc_item, sloop_item, Map, items, item_normal, OnItem, IsFree, IsClear, MapLabel, NearLabel, on_item, Valid, by_side, Ordered, dot-comb, normal-direction, Beside, same_way, other_way, beside, arc-at, sloop-at, at-sloop, lowest-same, normals-not_opposite, between-direction, label-exists, near-free, near-item, IsUncrossed, zero-decided, self-pos, cross-turned, level-way, square-cross, level_cross_second, SameDirection-turned, nought-if, parallel-trans}
-use Rattle.law_sphere.proofs.Labels.{clear-label}
+use Rattle.law_geometry.proofs.sphere.Labels.{clear-label}
 
 -- ---- directions on one circle
 module _ (n : Vector) (hn : IsDirection n) where

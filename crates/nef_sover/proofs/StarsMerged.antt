@@ -1,6 +1,6 @@
 -- Two stars of one direction, merged.
 use Rattle.nef_sover.proofs.Prelude.{◌≡◌, ℕ, List, map, sym, subst, ◌∙◌, All, Vector, IsDirection, cross, SameDirection, Label, vector_of, Dir, IsAt, Map, StarLabel, ByOp, InOrder, VectorBelow, IsAxis, NearByOp, IsMerged, Op, Star, op_label, star_of, IsStar, IsCombined, each_has_one_label, IsNeighbourhood, map-is_at, is-at_map, is-at_is, at-contains, contains-at, star-well_formed, Axis, AreAxes, IsMergedAt, AreMerged}
-use Rattle.law_sphere.specs.Stars.{Star as PlainStar}
+use Rattle.law_geometry.specs.sphere.Stars.{Star as PlainStar}
 use Rattle.nef_smap.proofs.SideLists.{is-at_some}
 use Rattle.nef_sover.proofs.Places.{zip-first, zip-second}
 

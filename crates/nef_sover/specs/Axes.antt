@@ -2,8 +2,8 @@
 use Rattle.std.specs.Prelude.{◌≡◌, ◌⊎◌}
 use Rattle.nef_geo.specs.Prelude.{ℕ, List, Option, Some, None, svertex_limit, Vector, IsAtMost, IsDirection, cross, SameDirection, vector_of}
 use Rattle.std.specs.List.{Contains}
-use Rattle.law_sphere.specs.Prelude.{VectorBelow, IsAt, Item, Map, items, item_normal, OnItem, InOrder}
-use Rattle.law_sphere.specs.building.Overlays.{OnSvertex, IsAxis}
+use Rattle.law_geometry.specs.sphere.Prelude.{VectorBelow, IsAt, Item, Map, items, item_normal, OnItem, InOrder}
+use Rattle.law_geometry.specs.sphere.building.Overlays.{OnSvertex, IsAxis}
 use Rattle.nef_sover.specs.declared.axes.Axis.{Axis}
 use Rattle.nef_sover.specs.declared.axes.Track.{Track}
 use Rattle.nef_sover.specs.Tracks.{track_normal, track_number, IsOnTrack}

@@ -4,9 +4,9 @@ use Rattle.nef_geo.specs.Prelude.{ℕ, pos, List, Option, Some, normal_limit, La
 use Rattle.std.specs.List.{Contains}
 use Rattle.nef_space.specs.Vectors.{Vector, IsAtMost, IsNormal, IsZero, cross, dot, opposite}
 use Rattle.nef_geo.specs.declared.dir.Dir.{Dir}
-use Rattle.law_sphere.specs.cyclic.Arcs.{IsOnCircle}
-use Rattle.law_sphere.specs.Prelude.{IsAt, MapVertex, MapSloop, Item, Map, items, item_normal, OnItem, MapLabel, NearLabel, ByOp}
-use Rattle.law_sphere.specs.building.Overlays.{IsLoneSloop, NearByOp}
+use Rattle.law_geometry.specs.sphere.cyclic.Arcs.{IsOnCircle}
+use Rattle.law_geometry.specs.sphere.Prelude.{IsAt, MapVertex, MapSloop, Item, Map, items, item_normal, OnItem, MapLabel, NearLabel, ByOp}
+use Rattle.law_geometry.specs.sphere.building.Overlays.{IsLoneSloop, NearByOp}
 use Rattle.nef_smap.specs.declared.map.SLoop.{SLoop}
 use Rattle.nef_sover.specs.declared.axes.Axis.{Axis}
 

@@ -3,8 +3,8 @@ use Rattle.std.specs.Prelude.{◌≡◌}
 use Rattle.nef_geo.specs.Prelude.{List, Vector, IsDirection, cross, Label, vector_of}
 use Rattle.std.specs.List.{AllZip}
 use Rattle.nef_geo.specs.declared.dir.Dir.{Dir}
-use Rattle.law_sphere.specs.Prelude.{Map, Item, item_normal, item_mark, item_pos, item_neg, StarLabel, ByOp}
-use Rattle.law_sphere.specs.building.Overlays.{NearByOp}
+use Rattle.law_geometry.specs.sphere.Prelude.{Map, Item, item_normal, item_mark, item_pos, item_neg, StarLabel, ByOp}
+use Rattle.law_geometry.specs.sphere.building.Overlays.{NearByOp}
 use Rattle.nef_star.specs.declared.rounds.CircleLabels.{CircleLabels}
 use Rattle.nef_star.specs.declared.star.Star.{Star}
 use Rattle.nef_star.specs.Stars.{star_of, IsStar}

@@ -3,7 +3,7 @@ use Rattle.std.specs.Prelude.{◌≡◌, ◌↔◌, ℕ, List}
 use Rattle.std.specs.List.{AllZip}
 use Rattle.nef_smap.specs.Prelude.{normal_limit, Vector, IsAtMost, IsOnCircle, vector_of, normal_vector, IsOn}
 use Rattle.nef_space.specs.Lists.{IsAt}
-use Rattle.law_sphere.specs.Maps.{Map, Item as PlainItem, items, item_normal, OnItem}
+use Rattle.law_geometry.specs.sphere.Maps.{Map, Item as PlainItem, items, item_normal, OnItem}
 use Rattle.nef_sover.specs.declared.axes.Track.{Track}
 use Rattle.nef_sover.specs.declared.axes.Track.TheVariants.{Arc, Sloop}
 

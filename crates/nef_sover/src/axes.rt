@@ -2,7 +2,7 @@
 
 ghost use Rattle.std.specs.Prelude.{◌≡◌, ◌↔◌, ◌<◌};
 ghost use Rattle.nef_geo.specs.Prelude.{length, IsTrue, IfOk, OnOk, normal_limit, svertex_limit, IsAtMost, vector_of, IsAt};
-ghost use Rattle.law_sphere.specs.Maps.{Item as PlainItem, items};
+ghost use Rattle.law_geometry.specs.sphere.Maps.{Item as PlainItem, items};
 ghost use Rattle.nef_smap.specs.Maps.{map_of, IsSphereMap};
 ghost use Rattle.nef_sover.specs.Tracks.{track_normal, track_number, IsOnTrack, IsTrackOf, AreTracks, AreSmallTracks};
 ghost use Rattle.nef_sover.specs.Axes.{AddsAxes, AreAxes, IsOnSvertex, IsTrackMeet, IsMeetAlong, MeetsOne, MeetsSome};

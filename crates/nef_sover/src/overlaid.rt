@@ -3,8 +3,8 @@
 ghost use Rattle.std.specs.Prelude.{◌<◌, ◌⊎◌, ◌≡◌, ◌↔◌};
 ghost use Rattle.nef_geo.specs.Prelude.{length, IfOk, MatchOption, IsTrue, Some, option_map, svertex_limit, normal_limit, IsAtMost, IsNormal, vector_of, IsAt};
 ghost use Rattle.nef_geo.specs.declared.dir.Dir.{Dir};
-ghost use Rattle.law_sphere.specs.Maps.{Item as PlainItem, items, MapSloop};
-ghost use Rattle.law_sphere.specs.building.Overlays.{Raw, HasSvertexOrSloop, IsMergedGround, IsLoneSloop, IsMergedSloop};
+ghost use Rattle.law_geometry.specs.sphere.Maps.{Item as PlainItem, items, MapSloop};
+ghost use Rattle.law_geometry.specs.sphere.building.Overlays.{Raw, HasSvertexOrSloop, IsMergedGround, IsLoneSloop, IsMergedSloop};
 ghost use Rattle.nef_star.specs.Ops.{op_label};
 ghost use Rattle.nef_smap.specs.Maps.{map_of, raw_of, IsSphereMap, IsRawStars, sloop_of};
 ghost use Rattle.nef_sover.specs.Axes.{AreAxes, CrossesAt};

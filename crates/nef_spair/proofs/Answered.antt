@@ -1,9 +1,9 @@
 -- What is built of raw stars is the one least map with their mark and labels.
 use Rattle.nef_spair.proofs.Prelude.{◌≡◌, ◌↔◌, List, ◌++◌, sym, ap, subst, ◌∙◌, Vector, IsDirection, Label, Map, MapLabel, Valid, Least, SameLabels, Ordered, forms, ByOp, label-unique, IsLabelling, IsRawOf, Raw, raw-shows_op, RawStars, SphereMap, map_of, raw_of, IsLeastMap, IsRawStars, IsMadeFrom}
-use Rattle.law_sphere.proofs.Equal.{least-unique}
-use Rattle.law_sphere.proofs.building.KeptStars.{kept-show}
-use Rattle.law_sphere.proofs.building.BuiltKept.{from-stars}
-use Rattle.law_sphere.proofs.building.Chosen.{op-labels}
+use Rattle.law_geometry.proofs.sphere.Equal.{least-unique}
+use Rattle.law_geometry.proofs.sphere.building.KeptStars.{kept-show}
+use Rattle.law_geometry.proofs.sphere.building.BuiltKept.{from-stars}
+use Rattle.law_geometry.proofs.sphere.building.Chosen.{op-labels}
 use Rattle.nef_spair.proofs.Built.{kept-raw, all-stars, all-simplified}
 use Rattle.nef_spair.proofs.FromPieces.{built-from, small}
 

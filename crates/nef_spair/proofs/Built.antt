@@ -1,6 +1,6 @@
 -- What is made of the pieces of simplified stars is built from these stars.
 use Rattle.nef_spair.proofs.Prelude.{◌≡◌, ℕ, suc, List, [], ◌∷◌, length, map, get_or, option_map, arith, refl, sym, ap, subst, ◌∙◌, inl, inr, ◌⊎◌, All, vector_of, VectorBelow, IsAt, InOrder, IsPlain, IsStraight, IsSimplified, IsKeptStar, IsKeptRaw, AreSimplified, Star, star_of, IsStar, RawStars, sloop_of, raw_of, is-at_map, map-is_at, is-at_within, is-at_get, star-well_formed, Pieces, IsSimple, AreSimple, IsDropped, ArePiecesOf}
-use Rattle.law_sphere.specs.Stars.{Star as PlainStar}
+use Rattle.law_geometry.specs.sphere.Stars.{Star as PlainStar}
 use Rattle.nef_spair.proofs.Places.{others-from, others-all, others-in_order, all-at}
 use Rattle.nef_space.proofs.Lists.{all-of}
 

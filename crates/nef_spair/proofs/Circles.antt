@@ -1,6 +1,6 @@
 -- Circles that no star has its axis on, star by star and circle by circle.
 use Rattle.nef_spair.proofs.Prelude.{◌≡◌, ℕ, ◌+◌, ◌<◌, ◌≤◌, pos, List, length, map, arith, sym, subst, inl, inr, eq-or-lt_of_le, Vector, dot, vector_of, IsAt, is-at_one, IsBare, Star, star_of, is-at_map, map-is_at, is-at_within}
-use Rattle.law_sphere.specs.Stars.{Star as PlainStar}
+use Rattle.law_geometry.specs.sphere.Stars.{Star as PlainStar}
 
 -- P fails at each of the first k elements
 abbrev pub NoneUpTo : {A : Type 0} → (A → Type 0) → List A → ℕ → Type 0

@@ -1,6 +1,6 @@
 -- The first axis after another on a circle, found star by star.
 use Rattle.nef_spair.proofs.Prelude.{◌≡◌, ℕ, ◌+◌, ◌<◌, ◌≤◌, pos, List, length, map, arith, sym, subst, inl, inr, ◌⊎◌, eq-or-lt_of_le, dot, SameDirection, vector_of, Dir, IsStrictlyOn, AboutFour, order_is_transitive, IsAt, is-at_one, IsFirstAfter, Star, star_of, four, is-at_map, map-is_at, is-at_within, dir-self}
-use Rattle.law_sphere.specs.Stars.{Star as PlainStar}
+use Rattle.law_geometry.specs.sphere.Stars.{Star as PlainStar}
 use Rattle.nef_star.proofs.Labelled.{strictly, passes}
 
 -- the axis of the star with this number

@@ -1,10 +1,10 @@
 -- The map that is made of the pieces of simplified stars is built from these stars, and its numbers are small.
 use Rattle.nef_spair.proofs.Prelude.{◌≡◌, ℕ, zero, suc, List, [], ◌∷◌, map, Option, Some, None, option_map, MatchOption, true, refl, sym, ap, subst, ◌∙◌, inl, inr, All, normal_limit, svertex_limit, Vector, IsAtMost, Label, vector_of, IsAt, MapVertex, Arc, MapSloop, Item, items_then, item_normal, InOrder, ArcBelow, IsStraight, IsBare, IsRawOf, svertex_at, IsArcFrom, IsSloopFrom, raw_sloop, straight_sloop, IsRawLabel, IsBuiltFrom, ray_of, star_of, IsStar, SArc, SLoop, RawStars, SphereMap, svertex_of, arc_of, sloop_of, map_of, raw_of, IsSmall, is-at_map, map-is_at, is-at_within, IsMadeOf, Pieces, ArePiecesOf, IsChosen, not-both as none-some, is-at_none, is-at_first}
-use Rattle.law_sphere.specs.Stars.{Ray as PlainRay, Star as PlainStar}
+use Rattle.law_geometry.specs.sphere.Stars.{Ray as PlainRay, Star as PlainStar}
 use Rattle.nef_spair.proofs.OneKind.{no-sloop-was, none-was}
 use Rattle.nef_spair.proofs.Places.{all-at}
 use Rattle.nef_spair.proofs.Built.{first-same, kept-stars, plain-from, plain-needed, plain-all, plain-ordered}
-use Rattle.law_sphere.proofs.building.BuiltAxes.{map-empty as map-none}
+use Rattle.law_geometry.proofs.sphere.building.BuiltAxes.{map-empty as map-none}
 use Rattle.nef_smap.proofs.MapLists.{sloop-was}
 use Rattle.nef_smap.proofs.SortedOnce.{in-order_map}
 

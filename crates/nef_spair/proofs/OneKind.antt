@@ -1,10 +1,10 @@
 -- A map has one kind, and what its fields say of it.
 use Rattle.nef_spair.proofs.Prelude.{◌≡◌, ℤ, List, [], ◌∷◌, length, map, slice_get, Option, Some, None, option_map, arith, refl, sym, ap, subst, ◌∙◌, SpacePoint, Set, Vector, opposite, SameDirection, IsOpposite, vector_of, Dir, same_directions_equal, Map, MapVertex, MapSloop, Least, Cone, IsInVolume, IsInFacet, IsOnEdge, SLoop, SphereMap, svertex_of, sloop_of, map_of, same-dirs, Vertex, OnEdge, InFacet, InVolume, IsVertexMap, IsKind, KindFits}
 use Rattle.nef_space.proofs.Vectors.{opposite-itself, opposite-way}
-use Rattle.law_sphere.proofs.Kind.{flat-parallel}
-use Rattle.law_sphere.proofs.KindFlats.{facet-flat, facet-only}
-use Rattle.law_sphere.proofs.KindLaws.{KindOf, of_volume, of_facet, of_edge, edge-flat, edge-only, edge-direction}
-use Rattle.law_sphere.proofs.Dimensions.{map-flat, flat-map, volume-dimension, facet-dimension, edge-dimension, vertex-dimension}
+use Rattle.law_geometry.proofs.sphere.Kind.{flat-parallel}
+use Rattle.law_geometry.proofs.sphere.KindFlats.{facet-flat, facet-only}
+use Rattle.law_geometry.proofs.sphere.KindLaws.{KindOf, of_volume, of_facet, of_edge, edge-flat, edge-only, edge-direction}
+use Rattle.law_geometry.proofs.sphere.Dimensions.{map-flat, flat-map, volume-dimension, facet-dimension, edge-dimension, vertex-dimension}
 use Rattle.nef_smap.specs.declared.map.SVertex.{SVertex}
 use Rattle.nef_smap.proofs.MapLists.{sloop-was}
 use Rattle.nef_spair.specs.declared.answer.Kind.{Kind}

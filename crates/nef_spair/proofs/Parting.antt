@@ -1,9 +1,9 @@
 -- Circles of straight stars, one star after another, and what they and the kept stars are made of.
 use Rattle.nef_spair.proofs.Prelude.{◌≡◌, List, [], ◌∷◌, ◌++◌, length, map, get_or, sym, ap, subst, ◌∙◌, inl, inr, normal_limit, IsAtMost, Label, Out, vector_of, IsPlain, IsStraight, sloop_at, Ray, Star, ray_of, star_of, SLoop, sloop_of, IsDropped, AreAllKept, IsCircleOf, AreCircles, is-at_none}
-use Rattle.law_sphere.specs.Stars.{Ray as PlainRay}
+use Rattle.law_geometry.specs.sphere.Stars.{Ray as PlainRay}
 use Rattle.nef_spair.proofs.Places.{all-at}
 use Rattle.nef_space.proofs.Lists.{is-at_last, is-at_left, is-at_more, all-of}
-use Rattle.law_sphere.proofs.Equal.{sloop-equal}
+use Rattle.law_geometry.proofs.sphere.Equal.{sloop-equal}
 
 -- ---- the circle of a straight star
 

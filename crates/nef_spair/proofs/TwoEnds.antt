@@ -1,6 +1,6 @@
 -- Of two stars of opposite axes each is the first after the other.
 use Rattle.nef_spair.proofs.Prelude.{◌≡◌, ℕ, zero, suc, ◌-◌, pos, List, [], ◌∷◌, length, map, get_or, arith, refl, sym, subst, ◌∙◌, Vector, opposite, dot, SameDirection, vector_of, IsStrictlyOn, IsAt, IsFirstAfter, Star, star_of, AreTwoEnds, dot-comm, level-opposite-back, level-of_opposite, dir-self, is-at_none, is-at_first}
-use Rattle.law_sphere.specs.Stars.{Star as PlainStar}
+use Rattle.law_geometry.specs.sphere.Stars.{Star as PlainStar}
 
 -- two elements of a list of two
 pub two-of : (kept : List Star) (a b : Star) → length kept ≡ 2 → a ≡ get_or kept 0 a → b ≡ get_or kept 1 b → kept ≡ a ∷ b ∷ []

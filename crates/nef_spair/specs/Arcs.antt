@@ -2,8 +2,8 @@
 use Rattle.std.specs.Prelude.{◌≡◌, ◌<◌, ◌∷◌, ◌⊎◌}
 use Rattle.nef_space.specs.Prelude.{ℕ, List, [], map, true, opposite, IsAtMost}
 use Rattle.nef_smap.specs.Prelude.{normal_limit, vector_of, IsAt, star_of, arc_of}
-use Rattle.law_sphere.specs.Least.{ArcBelow}
-use Rattle.law_sphere.specs.building.From.{IsArcFrom}
+use Rattle.law_geometry.specs.sphere.Least.{ArcBelow}
+use Rattle.law_geometry.specs.sphere.building.From.{IsArcFrom}
 use Rattle.nef_star.specs.declared.star.Ray.{Ray}
 use Rattle.nef_star.specs.declared.star.Star.{Star}
 use Rattle.nef_smap.specs.declared.map.SArc.{SArc}

@@ -2,8 +2,8 @@
 use Rattle.std.specs.Prelude.{◌≡◌, ◌↔◌}
 use Rattle.nef_space.specs.Prelude.{pos, Flat, FlatDim, SpacePoint, Set, Vector, IsParallel, dot}
 use Rattle.nef_geo.specs.Shapes.{vector_of}
-use Rattle.law_sphere.specs.Maps.{Map}
-use Rattle.law_sphere.specs.Kinds.{IsInVolume, IsInFacet, IsOnEdge}
+use Rattle.law_geometry.specs.sphere.Maps.{Map}
+use Rattle.law_geometry.specs.sphere.Kinds.{IsInVolume, IsInFacet, IsOnEdge}
 use Rattle.nef_spair.specs.declared.answer.Kind.{Kind}
 use Rattle.nef_spair.specs.declared.answer.Kind.TheVariants.{Vertex, OnEdge, InFacet, InVolume}
 

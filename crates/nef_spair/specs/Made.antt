@@ -1,8 +1,8 @@
 -- The map that is made of stars and circles.
 use Rattle.std.specs.Prelude.{◌≡◌, [], map, length, Some, None, MatchOption}
 use Rattle.nef_space.specs.declared.label.Label.{Label}
-use Rattle.law_sphere.specs.Least.{InOrder}
-use Rattle.law_sphere.specs.building.From.{svertex_at}
+use Rattle.law_geometry.specs.sphere.Least.{InOrder}
+use Rattle.law_geometry.specs.sphere.building.From.{svertex_at}
 use Rattle.nef_star.specs.Stars.{star_of}
 use Rattle.nef_smap.specs.declared.map.SLoop.{SLoop}
 use Rattle.nef_smap.specs.declared.map.RawStars.{RawStars}

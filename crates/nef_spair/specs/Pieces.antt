@@ -1,11 +1,11 @@
 -- The stars that become svertices, the circles of straight stars, and all pieces of which a map is made.
 use Rattle.std.specs.Prelude.{◌≡◌, ◌∷◌, ◌⊎◌}
 use Rattle.nef_geo.specs.Prelude.{ℕ, List, [], map, length, Option, Some, None, MatchOption, All, normal_limit, IsAtMost, Label, vector_of, IsAt}
-use Rattle.law_sphere.specs.Maps.{MapSloop}
-use Rattle.law_sphere.specs.Stars.{Star as PlainStar, IsPlain, IsStraight, IsSimplified}
-use Rattle.law_sphere.specs.Builds.{Proper}
-use Rattle.law_sphere.specs.Raw.{IsBare}
-use Rattle.law_sphere.specs.building.From.{sloop_at, IsRawLabel}
+use Rattle.law_geometry.specs.sphere.Maps.{MapSloop}
+use Rattle.law_geometry.specs.sphere.Stars.{Star as PlainStar, IsPlain, IsStraight, IsSimplified}
+use Rattle.law_geometry.specs.sphere.Builds.{Proper}
+use Rattle.law_geometry.specs.sphere.Raw.{IsBare}
+use Rattle.law_geometry.specs.sphere.building.From.{sloop_at, IsRawLabel}
 use Rattle.nef_star.specs.declared.star.Star.{Star}
 use Rattle.nef_star.specs.Stars.{star_of, IsStar, KeepsLabels}
 use Rattle.nef_smap.specs.declared.map.SLoop.{SLoop}

@@ -8,7 +8,7 @@ use Rattle.nef_star.proofs.Counted.{renamed}
 use Rattle.nef_star.proofs.Needed.{true_or_false}
 use Rattle.nef_star.proofs.Straight.{plane-turning}
 use Rattle.nef_star.proofs.Alternating.{four-turning, both-gives}
-use Rattle.law_sphere.proofs.SectorSees.{turn-from_left as turn-to}
+use Rattle.law_geometry.proofs.sphere.SectorSees.{turn-from_left as turn-to}
 use Rattle.nef_space.proofs.Vectors.{back-triple, right-turn}
 
 -- ---- turns

@@ -1,6 +1,6 @@
 -- What a star gives a direction e is what its left directions give axis x e.
 use Rattle.nef_star.proofs.Prelude.{◌≡◌, ℕ, zero, suc, ◌<◌, neg_ℤ, ◌*ℤ◌, ◌-ℤ◌, List, [], ◌∷◌, length, map, true, false, cond, arith, refl, sym, ap, subst, ◌∙◌, inl, inr, length-map, ring, at, neg, ◌⊖◌, ◌⊗◌, Vector, cross, opposite, IsDirection, ℤ, Bool, Label, vector_of, IsOnCircle, IsStrictlyOn, Passes, IsAt, ray_dir, NextRay, StarLabel, Ray, Star, IsNext, on_ray as at_ray, in_sector as of_sector, in_only_sector as of_only_sector, ray_of, star_of, left_of, left_at, mark_of, mark_at, sector_at, sector_count, BeginsAnywhere, LeftGives, vector-same, square-cross, is-at_none, is-at_first}
-use Rattle.law_sphere.specs.Stars.{Ray as PlainRay, on_ray, in_sector, in_only_sector}
+use Rattle.law_geometry.specs.sphere.Stars.{Ray as PlainRay, on_ray, in_sector, in_only_sector}
 use Rattle.nef_star.specs.Laws.{EachHasOneLabel}
 use Rattle.nef_star.proofs.Turns.{next_in, some_label, one_label}
 use Rattle.nef_star.proofs.Lefts.{way, way-same, same-way, way-passes, passes-way}

@@ -1,8 +1,8 @@
 -- The directions that rays leave the axis in turn as their left ones do.
 use Rattle.nef_star.proofs.Prelude.{◌≡◌, ℕ, ◌+◌, pos, ◌<ℤ◌, ◌*ℤ◌, refl, sym, ap, subst, ◌∙◌, ring, at, num, ◌⊕◌, ◌⊖◌, ◌⊗◌, follows, given, none, Vector, dot, cross, triple, IsDirection, IsZero, SameDirection, IsOnCircle, Passes, says_same, says_passes, dot-comm, self-pos, dot_poly, triple_poly, numbers, nought-if}
 use lib.Dec.{T}
-use Rattle.law_sphere.proofs.cyclic.Signs.{sgn, sgn-scaled}
-use Rattle.law_sphere.proofs.cyclic.StrictlyOn.{passes_test}
+use Rattle.law_geometry.proofs.sphere.cyclic.Signs.{sgn, sgn-scaled}
+use Rattle.law_geometry.proofs.sphere.cyclic.StrictlyOn.{passes_test}
 use Rattle.nef_star.proofs.Turns.{three}
 
 -- a quarter of a turn back about a

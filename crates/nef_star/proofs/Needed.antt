@@ -1,7 +1,7 @@
 -- Rays that aren't needless stay so when the rays are counted from another one on.
 use lib.Dec.{T}
 use Rattle.nef_star.proofs.Prelude.{◌≡◌, ℕ, ◌+◌, ◌-◌, ◌<◌, ◌≤◌, length, get_or, true, false, arith, refl, sym, ap, subst, ◌∙◌, inl, inr, ◌⊎◌, ◌↔◌, cross, IsDirection, vector_of, Dir, IsSimplified, Follows, Ray, Star, IsNext, ray_of, star_of, mark_at, sector_at, IsRayBelow, BeginsAnywhere, KeepsLabels, IsCountedFrom, IsNeedless, NoneNeedless, IsRayTried, length-map}
-use Rattle.law_sphere.specs.Stars.{Ray as PlainRay}
+use Rattle.law_geometry.specs.sphere.Stars.{Ray as PlainRay}
 use Rattle.nef_star.proofs.Labelled.{at-ray, at-sector}
 use Rattle.nef_star.proofs.Rotated.{Moved, moved-value, moved-from as unmoved}
 use Rattle.nef_star.proofs.RayOrder.{LeastOf}

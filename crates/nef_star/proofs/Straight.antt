@@ -1,6 +1,6 @@
 -- Stars of two opposite rays.
 use Rattle.nef_star.proofs.Prelude.{◌≡◌, ℕ, zero, suc, ◌<◌, pos, List, [], ◌∷◌, length, map, Bool, true, false, cond, arith, refl, sym, ap, subst, ◌∙◌, inl, inr, get_or, All, length-map, All-cons, All-nil, ints, normal_limit, svertex_limit, IsBelow, Vector, dot, opposite, direction_numbers, IsDirection, IsAtMost, IsNormal, SameDirection, vector_of, Dir, IsOnCircle, IsStraight, Ray, Star, ray_of, star_of, left_of, left_at, sector_count, IsRayBelow, AreStraight, IsRay, IsStar, IsTurning, dot-comm, self-pos, opposite-dot, dir-self}
-use Rattle.law_sphere.specs.Stars.{Ray as PlainRay}
+use Rattle.law_geometry.specs.sphere.Stars.{Ray as PlainRay}
 use Rattle.nef_star.proofs.RayOrder.{ray-below-self}
 use Rattle.nef_star.proofs.Pushed.{left-on_circle}
 use Rattle.nef_star.proofs.RoundStars.{same-dirs as dir_equal}

@@ -1,7 +1,7 @@
 -- Directions in counterclockwise order about an axis: each direction is under one of them, and has one label.
 use Rattle.nef_star.proofs.Prelude.{◌≡◌, ℕ, zero, suc, ◌-◌, ◌<◌, ◌≤◌, pos, ◌<ℤ◌, arith, refl, sym, ap, subst, ◌∙◌, inl, inr, ◌⊎◌, ints, eq-or-lt_of_le, Vector, dot, cross, triple, IsDirection, IsParallel, SameDirection, Label, IsOnCircle, Passes, AboutThree, AboutFour, turn_from_parallel, one_is_first, never_both_ways, order_is_transitive, same_in_place, order_is_cyclic, nearer_ones, no_ray_between, Decided, IsTurning, IsNext, Gives, on_ray, in_sector as of_sector, in_only_sector, IsUnder, zero-decided, self-pos, SameDirection-trans, SameDirection-turned, dir-self}
-use Rattle.law_sphere.proofs.cyclic.Cyclic.{in_sector}
-use Rattle.law_sphere.proofs.Vectors.{positive-or}
+use Rattle.law_geometry.proofs.sphere.cyclic.Cyclic.{in_sector}
+use Rattle.law_geometry.proofs.sphere.Vectors.{positive-or}
 use Rattle.nef_space.proofs.Elementary.{three-ways}
 use Rattle.std.proofs.Math.Nat.{eq-zero-or-pos}
 

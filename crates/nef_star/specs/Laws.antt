@@ -1,7 +1,7 @@
 -- The laws of stars.
 use Rattle.std.specs.Prelude.{◌≡◌}
 use Rattle.nef_geo.specs.Prelude.{Vector, cross, IsDirection, Label, vector_of}
-use Rattle.law_sphere.specs.Stars.{StarLabel}
+use Rattle.law_geometry.specs.sphere.Stars.{StarLabel}
 use Rattle.nef_star.specs.declared.star.Star.{Star}
 use Rattle.nef_star.specs.Stars.{star_of, BeginsAnywhere}
 

@@ -2,7 +2,7 @@
 use Rattle.std.specs.Prelude.{◌≡◌, ◌∷◌, pos, Bool, true, false, not, cond, []}
 use Rattle.nef_geo.specs.Prelude.{sign, normal_limit, Vector, dot, cross, IsDirection, IsAtMost, IsNormal, Label, vector_of}
 use Rattle.nef_geo.specs.declared.dir.Dir.{Dir}
-use Rattle.law_sphere.specs.Prelude.{by_side, StarLabel}
+use Rattle.law_geometry.specs.sphere.Prelude.{by_side, StarLabel}
 use Rattle.nef_star.specs.declared.rounds.CircleLabels.{CircleLabels}
 use Rattle.nef_star.specs.declared.star.Op.{Op}
 use Rattle.nef_star.specs.declared.star.Star.{Star}

@@ -1,7 +1,7 @@
 -- The names that most clauses cite, passed on from one place. Declares nothing.
 pub use Rattle.nef_geo.specs.Prelude.{All, IfOk, IsAt, IsAtMost, IsParallel, IsTrue, OnOk, [], drop, label_number, length, slice_index_or, svertex_limit, take, vector_of, ℕ}
-pub use Rattle.law_sphere.specs.cyclic.Arcs.{IsOnCircle}
-pub use Rattle.law_sphere.specs.Stars.{IsPlain, IsSimplified, IsStraight}
+pub use Rattle.law_geometry.specs.sphere.cyclic.Arcs.{IsOnCircle}
+pub use Rattle.law_geometry.specs.sphere.Stars.{IsPlain, IsSimplified, IsStraight}
 pub use Rattle.nef_star.specs.Laws.{EachHasOneLabel}
 pub use Rattle.nef_star.specs.Lines.{IsCrossed, IsFourRays, IsOnAxis}
 pub use Rattle.nef_star.specs.Ops.{op_label}

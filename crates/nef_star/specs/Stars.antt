@@ -3,8 +3,8 @@ use Rattle.std.specs.Prelude.{◌≡◌, ◌+◌, ◌-◌, ◌<◌, ◌∷◌, �
 use Rattle.nef_geo.specs.Prelude.{All, normal_limit, svertex_limit, IsBelow, Label, vector_of}
 use Rattle.nef_space.specs.Vectors.{Vector, zero_vector, opposite, dot, cross, direction_numbers, IsDirection, IsAtMost, IsNormal}
 use Rattle.nef_space.specs.declared.label.Label.TheVariants.{Out}
-use Rattle.law_sphere.specs.cyclic.Arcs.{IsOnCircle}
-use Rattle.law_sphere.specs.Stars.{Ray as PlainRay, Star as PlainStar, StarLabel}
+use Rattle.law_geometry.specs.sphere.cyclic.Arcs.{IsOnCircle}
+use Rattle.law_geometry.specs.sphere.Stars.{Ray as PlainRay, Star as PlainStar, StarLabel}
 use Rattle.nef_star.specs.declared.star.Ray.{Ray}
 use Rattle.nef_star.specs.declared.star.Star.{Star}
 use Rattle.nef_star.specs.declared.star.Op.{Op}

@@ -1,7 +1,7 @@
 -- Directions in counterclockwise order about an axis, and the labels that a direction gets at or between them.
 use Rattle.std.specs.Prelude.{◌≡◌, ◌<◌, ◌⊎◌, ℕ, suc}
 use Rattle.nef_geo.specs.Prelude.{Vector, SameDirection, Label}
-use Rattle.law_sphere.specs.cyclic.Arcs.{IsOnCircle, Passes}
+use Rattle.law_geometry.specs.sphere.cyclic.Arcs.{IsOnCircle, Passes}
 
 -- f 0 to f (n - 1) stand in counterclockwise order about the axis, and no two of them are one direction
 pub record IsTurning (axis : Vector) (n : ℕ) (f : ℕ → Vector) : Type 0 where

@@ -2,7 +2,7 @@
 use Rattle.nef_statement.proofs.Prelude.{◌≡◌, refl, ◌∙◌, Bool, true, false, IsTrue, Form, form_at, Set, InHalf, SameSet, IsPositiveMultiple, sign_of, Minus, Zero, Plus}
 use Rattle.std.specs.Prelude.{◌↔◌}
 use Rattle.nef_space.specs.Sets.{Holds}
-use Rattle.law_near.proofs.SameSets.{Alike, alike-same}
+use Rattle.law_geometry.proofs.near.SameSets.{Alike, alike-same}
 use Rattle.nef_geo.specs.declared.sign.Sign.{Sign}
 use Rattle.nef_geo.proofs.Signs.{sign_of-multiple}
 use Rattle.nef_expr.proofs.Holding.{half-minus, half-zero, half-plus}

@@ -1,15 +1,15 @@
 -- The set of each name is that of its node.
 use Rattle.nef_statement.proofs.Prelude.{◌≡◌, ℕ, zero, suc, ◌+◌, ◌≤◌, nat_abs, Bool, true, false, cond, List, [], ◌∷◌, ◌++◌, length, map, Option, Some, None, slice_get, if◌then◌else◌, refl, sym, ap, ◌∙◌, subst, arith, inl, inr, append-nil, codes, option_map, option_to_list, position_from, bytes_eq, cases_Bool, length-map, Set, SameSet, Node, node_set, set_of, sets_after, IsOrdered, binds, number_or_zero, on_verb, bound_name, NamesNode, IsNodeOfLine, Sets, IsBind, IsTurn, IsBinding, MeansCommand, MeansWords, Verb, Command, Bindings, set_named, made_of_both, bound_set, turned_set, bound_after}
 use Rattle.std.proofs.lemmas.Iterator.Adapters.{position_from-zero}
-use Rattle.law_turns.specs.Turned.{turned_set as turned_image}
-use Rattle.law_turns.proofs.Meaning.{same_set-turned}
+use Rattle.law_geometry.specs.turns.Turned.{turned_set as turned_image}
+use Rattle.law_geometry.proofs.turns.Meaning.{same_set-turned}
 use Rattle.nef_expr.specs.declared.nodes.Node.TheVariants as node
 use Rattle.nef_expr.proofs.Sets.{each-set}
 use Rattle.nef_expr.proofs.Turns.{node-turned}
 use Rattle.nef_script.specs.declared.arguments.Verb.TheVariants as verb
 use Rattle.nef_statement.proofs.Turning.{set-same}
 use Rattle.nef_statement.proofs.Alike.{same-half}
-use Rattle.law_near.proofs.SameSets.{same-self, same-other, same-inside, same-closed, same-border, same-regular, same-both, same-either, same-less, same-one_of}
+use Rattle.law_geometry.proofs.near.SameSets.{same-self, same-other, same-inside, same-closed, same-border, same-regular, same-both, same-either, same-less, same-one_of}
 
 abbrev pub names_in : Bindings → List (List ℕ)
 names_in sets = map (λ (b : List ℕ × Set). b.0) sets

@@ -4,7 +4,7 @@ use Rattle.nef_geo.proofs.Directions.{IsDirection-part, SameDirection-stretched}
 use Rattle.nef_geo.proofs.Divisors.{divisor_small, lowest_three}
 use Rattle.nef_geo.proofs.Places.{SamePoint-reduced}
 use Rattle.nef_case.proofs.TurnLemmas.{composition-turns, composed-by_numbers}
-use Rattle.law_text.proofs.existence.Reduced.{Reduced, reduce-by}
+use Rattle.nef_statement.proofs.text.existence.Reduced.{Reduced, reduce-by}
 use Rattle.nef_expr.specs.declared.nodes.Node.TheVariants as node
 use Rattle.nef_expr.specs.declared.table.Origin.{Origin}
 use Rattle.nef_expr.proofs.Halves.{half-in_range, half-some, half-read}

@@ -1,7 +1,7 @@
 -- What is counted of a set is one, and the same of sets that are the same.
 use Rattle.nef_statement.proofs.Prelude.{◌≡◌, ℕ, zero, suc, refl, sym, ap, ◌∙◌, is-at_none, List, [], ◌∷◌, SameSet, Set, Joined-same, cones-of_same, FlatDim-by_cone, HasComponents, line, numbers, CountTells}
 use Rattle.nef_conn.proofs.OneCount.{one-count}
-use Rattle.law_near.proofs.SameSets.{same-turned}
+use Rattle.law_geometry.proofs.near.SameSets.{same-turned}
 
 components-same : (a s : Set) (k n : ℕ) → SameSet a s → HasComponents s k n → HasComponents a k n
 components-same a s k n f (ps, count, h) = (

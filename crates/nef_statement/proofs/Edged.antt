@@ -1,6 +1,6 @@
 -- Which points belong to vertices with edges depends on which edges these are alone, not on their order.
 use Rattle.nef_statement.proofs.Prelude.{◌≡◌, ◌↔◌, ℕ, List, inl, inr, subst, SpacePoint, Vector, Label, In, IsAt, Item, dir_of, NearLabel, is-at_one, SpotMark, Towards, Belongs, on_skeleton, off_skeleton, Vertex, Corner, IsCorner, Edges, IsEdgePoint, IsOnEdges, IsFacetPoint, Spot, at_vertex, on_edge, in_facet, IsSpot, IsSkeletonPoint, with_edges, AreAllEdges}
-use Rattle.law_complex.specs.Complexes.{Edge}
+use Rattle.law_geometry.specs.complex.Complexes.{Edge}
 
 -- the sorted edges are the edges
 pub sorted-edges : (vs : List Vertex) (es : List Edge) → Edges vs es → AreAllEdges vs es

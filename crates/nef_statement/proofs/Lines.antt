@@ -9,8 +9,8 @@ use Rattle.nef_lex.proofs.Signs.{number_of_parts}
 use Rattle.nef_lex.proofs.Decimal.{decimal_value-push}
 use Rattle.nef_lex.proofs.LineLaws.{pieces_of_ended}
 use Rattle.nef_lex.proofs.WordLaws.{words_of_spaced}
-use Rattle.law_text.proofs.Words.{spelled}
-use Rattle.law_text.proofs.Lines.{Each, Each-append}
+use Rattle.nef_statement.proofs.text.Words.{spelled}
+use Rattle.nef_statement.proofs.text.Lines.{Each, Each-append}
 
 abbrev pub Row : Type 0
 Row = List Word

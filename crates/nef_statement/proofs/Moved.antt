@@ -3,8 +3,8 @@ use Rattle.nef_statement.proofs.Prelude.{ℕ, Bool, true, false, List, [], ◌�
 use Rattle.nef_space.specs.Sets.{Holds}
 use Rattle.nef_conn.proofs.Leaves.{toward-same}
 use Rattle.nef_unique.proofs.Sets.{label-moved}
-use Rattle.law_near.proofs.SameSets.{same-turned, same-trans}
-use Rattle.law_near.proofs.Same.{dim-same}
+use Rattle.law_geometry.proofs.near.SameSets.{same-turned, same-trans}
+use Rattle.law_geometry.proofs.near.Same.{dim-same}
 use Rattle.nef_space.proofs.Elementary.{same-itself}
 
 full-holds : (p : SpacePoint) → Holds Set.full p

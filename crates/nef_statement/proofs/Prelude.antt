@@ -3,10 +3,10 @@ pub use Rattle.nef_geo.proofs.Prelude.{IsStretched, IsZeroStep, ◌&&◌}
 pub use Rattle.nef_conn.proofs.Prelude.{between-way, is-at_first, is-at_none}
 pub use Rattle.nef_smap.proofs.Prelude.{Minus, Plus, Zero}
 pub use Rattle.nef_ray.proofs.Prelude.{Changes, Complex, Decided, Germ-same, HasOppositeSigns, IsCrossing, IsRayEnd, IsReachedBy, Label-cells, ahead-back, ahead-same, between-same, between-turned, direction-left, label-one, label_of, near-same, one-crossing, opposite, plane-point, plane-slope, plane-turned, reach_all, same-point_sym, sign-toward, signs-same, slope-same, start, start-between, start-close, within-self}
-pub use Rattle.law_turns.proofs.Prelude.{Closure, Interior, ordered}
+pub use Rattle.law_geometry.proofs.turns.Prelude.{Closure, Interior, ordered}
 pub use Rattle.nef_expr.proofs.Prelude.{AreWithOperands, InHalf, IsComposition, IsMarked, IsOrdered, IsTrue, IsTurnedNode, OperandsTurned, Oriented, Shape, node_set, set_of, sets_after, sign_of, slice_index}
-pub use Rattle.law_text.proofs.Prelude.{All, Arc, Belongs, Bool, Corner, Cycle, Dir, Edges, Facet, FlatDim-by_cone, Form, Germ, HasLabel, Holds, In, InFrame, IsAt, IsCorner, IsDirection, IsEdgePoint, IsFacetPoint, IsNormal, IsOnEdges, IsParts, IsSkeletonPoint, IsSpot, Item, Label, Lies, List, MapSloop, MapVertex, NearLabel, None, Not, One, Option, Out, Parts, Plane, Point, SArc, SLoop, SVertex, SameDirection, SameDirection-trans, SameDirection-turned, SamePoint, SameSet, Set, Shell, Shows, Some, SpacePoint, Spells, Spot, SpotMark, TextVersion, Towards, Two, Vector, Vertex, Word, [], ap, append_assoc, arc_line, arc_of, arith, at, is-at_one, at_vertex, carriers, complex_of, cond, cones-of_same, corner_words, counts, cycle_line, decimal, digit_glyph, digits_onto, dir-self, dir_of, direction_limit, edge_line, edge_of, faced_text, facet-of, facet_line, facet_text, false, first_line, flat_map, form_at, form_of, get_or, in_facet, inl, inr, ints, label_word, length, length-map, line, map, mul_pos, nat_abs, nat_eq, neg, neg_ℤ, negsuc, normal_of, num, numbers, off_skeleton, offset_limit, on_edge, on_skeleton, option_word, point_limit, point_of, pos, refl, ring, same_points_equal, set-vertices, sface_line, shell_line, shelled_text, side_words, sign, signed_decimal, slice_get, sloop_line, sloop_of, slope, subst, suc, svertex_line, svertex_of, sym, text, toward, true, vector, version_word, vertex_line, vertex_of, vertex_text, vertices_text, volume_line, volumes_text, weight_limit, with_rows, zero, ℕ, ℤ, ⊎_elim, ◌%◌, ◌*ℤ◌, ◌*◌, ◌++◌, ◌+ℤ◌, ◌+◌, ◌/◌, ◌<ℤ◌, ◌<◌, ◌==◌, ◌^◌, ◌↔◌, ◌∙◌, ◌∷◌, ◌≡◌, ◌≤◌, ◌⊎◌, ◌⊕◌, ◌⊗◌}
-pub use Rattle.law_text.proofs.existence.Prelude.{AreSmallForms, AreTurnsOf, DividesAll, HasComponents, IsEven, IsEvenPath, IsSmallForm, Joined, SamePlane, Triple, dot_size, eq-decided, lies-append, lowest_form-turned, negated_if, normal-choice, normal_within, part_small, same-point_trans, signed, turned_plane, upright-by_maps}
+pub use Rattle.nef_statement.proofs.text.Prelude.{All, Arc, Belongs, Bool, Corner, Cycle, Dir, Edges, Facet, FlatDim-by_cone, Form, Germ, HasLabel, Holds, In, InFrame, IsAt, IsCorner, IsDirection, IsEdgePoint, IsFacetPoint, IsNormal, IsOnEdges, IsParts, IsSkeletonPoint, IsSpot, Item, Label, Lies, List, MapSloop, MapVertex, NearLabel, None, Not, One, Option, Out, Parts, Plane, Point, SArc, SLoop, SVertex, SameDirection, SameDirection-trans, SameDirection-turned, SamePoint, SameSet, Set, Shell, Shows, Some, SpacePoint, Spells, Spot, SpotMark, TextVersion, Towards, Two, Vector, Vertex, Word, [], ap, append_assoc, arc_line, arc_of, arith, at, is-at_one, at_vertex, carriers, complex_of, cond, cones-of_same, corner_words, counts, cycle_line, decimal, digit_glyph, digits_onto, dir-self, dir_of, direction_limit, edge_line, edge_of, faced_text, facet-of, facet_line, facet_text, false, first_line, flat_map, form_at, form_of, get_or, in_facet, inl, inr, ints, label_word, length, length-map, line, map, mul_pos, nat_abs, nat_eq, neg, neg_ℤ, negsuc, normal_of, num, numbers, off_skeleton, offset_limit, on_edge, on_skeleton, option_word, point_limit, point_of, pos, refl, ring, same_points_equal, set-vertices, sface_line, shell_line, shelled_text, side_words, sign, signed_decimal, slice_get, sloop_line, sloop_of, slope, subst, suc, svertex_line, svertex_of, sym, text, toward, true, vector, version_word, vertex_line, vertex_of, vertex_text, vertices_text, volume_line, volumes_text, weight_limit, with_rows, zero, ℕ, ℤ, ⊎_elim, ◌%◌, ◌*ℤ◌, ◌*◌, ◌++◌, ◌+ℤ◌, ◌+◌, ◌/◌, ◌<ℤ◌, ◌<◌, ◌==◌, ◌^◌, ◌↔◌, ◌∙◌, ◌∷◌, ◌≡◌, ◌≤◌, ◌⊎◌, ◌⊕◌, ◌⊗◌}
+pub use Rattle.nef_statement.proofs.text.existence.Prelude.{AreSmallForms, AreTurnsOf, DividesAll, HasComponents, IsEven, IsEvenPath, IsSmallForm, Joined, SamePlane, Triple, dot_size, eq-decided, lies-append, lowest_form-turned, negated_if, normal-choice, normal_within, part_small, same-point_trans, signed, turned_plane, upright-by_maps}
 pub use Rattle.nef_io.proofs.Prelude.{Grows, take-length}
 pub use Rattle.nef_lex.proofs.Prelude.{IsGap, IsParted, IsRest, IsWord, decimal_value, is_digits, is_gap, is_word_byte, number_of}
 pub use Rattle.nef_words.proofs.Prelude.{option_map, unwrap_or}
@@ -17,12 +17,12 @@ pub use Rattle.std.proofs.lemmas.Bool.{and_parts, leb-false, or_parts}
 pub use Rattle.std.proofs.lemmas.List.{take-append-drop}
 pub use Rattle.std.specs.List.{join_with_byte, list_all, zip}
 pub use Rattle.std.specs.Prelude.{codes, drop, int_le, nat_le, option_to_list}
-pub use Rattle.law_near.proofs.Alike.{Joined-same}
-pub use Rattle.law_near.proofs.Decided.{InFrame-decided}
+pub use Rattle.law_geometry.proofs.near.Alike.{Joined-same}
+pub use Rattle.law_geometry.proofs.near.Decided.{InFrame-decided}
 pub use Rattle.nef_index.specs.declared.skeleton.Edge.{Edge}
 pub use Rattle.nef_expr.proofs.Operands.{names-from, operand-below}
 pub use Rattle.nef_expr.proofs.Tables.{IsCopying, base-image, base-new, copy-image, copy-is, copy-there, copying-length, copying-more, copying-operands, copying-start, new-image, new-names, ordered-push, origins-push, stays-same, stays-twice}
-pub use Rattle.law_text.proofs.existence.Points.{point-with}
+pub use Rattle.nef_statement.proofs.text.existence.Points.{point-with}
 pub use Rattle.nef_io.specs.Bytes.{GrowsWithin, Rose}
 pub use Rattle.nef_words.specs.Grammar.{options_in}
 pub use Rattle.nef_words.specs.declared.words.Options.{Options}

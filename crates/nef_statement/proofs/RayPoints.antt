@@ -5,7 +5,7 @@ use Rattle.nef_geo.proofs.Rays.{reached_within}
 use Rattle.nef_geo.proofs.Sizes.{form_size}
 use Rattle.nef_ray.proofs.Along.{crossing-or, level-label, CarriersHoldRay}
 use Rattle.nef_ray.proofs.SomeEnd.{some-end}
-use Rattle.law_complex.proofs.Spans.{opposite-level}
+use Rattle.law_geometry.proofs.complex.Spans.{opposite-level}
 use Rattle.nef_unique.proofs.Sets.{label-moved}
 use Rattle.nef_space.proofs.Elementary.{same-itself}
 

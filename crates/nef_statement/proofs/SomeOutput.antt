@@ -1,9 +1,9 @@
 -- An accepted script has an output.
 use Rattle.nef_statement.proofs.Prelude.{◌≡◌, ℕ, zero, suc, ◌+◌, ◌^◌, ◌<◌, ◌≤◌, ℤ, pos, negsuc, ◌<ℤ◌, nat_abs, arith, refl, sym, ap, ◌∙◌, inl, inr, ⊎_elim, List, [], ◌∷◌, ◌++◌, length, take, get_or, Bool, true, false, not, nat_eq, ◌||◌, Option, Some, None, find, slice_get, if◌then◌else◌, subst, append-nil, append_assoc, length-append, nat_lt, int_le, option_map, codes, list_any, zip, bytes_eq, or_parts, and_parts, eqb-true, leb-true, leb-false, ltb-false, ints, normal_limit, offset_limit, query_weight_limit, ray_direction_limit, ray_point_limit, ray_weight_limit, SpacePoint, Form, form, InFrame, Set, Lies, Vector, vector, IsDirection, IsAtMost, lies-append, Out, IsPointAtMost, point_at, Decided, label_of, InFrame-decided, IsAt, line, numbers, text, TextVersion, IsSmallForm, AreSmallForms, AreTurnsOf, lines_of, words_of, line_refusal, bound_name, names_of, IsAccepted, verb_of, roles, binds, name_count_limit, line_limit, is_bad_byte, number_or_zero, is_zero, is_from, on_verb, word_test, has_zero_normal, has_zero_direction, command_tests, words_tests, Verb, ScriptKind, Bindings, set_named, made_of_both, bound_set, turned_set, bound_after, answer_of, framed, line_end, IsSameAnswer, IsJoinedAnswer, IsRayAnswer, IsSaid, IsSaidBy, AreSaid, IsText, CountTells, eq-decided, is-at_none, is-at_first}
 use Rattle.std.proofs.Common.{drop, nat_le, ◌&&◌}
-use Rattle.law_text.proofs.existence.Connected.{joined-is_decided, components-are_counted}
-use Rattle.law_text.proofs.existence.Parts.{parts-exist}
-use Rattle.law_text.proofs.existence.Scripts.{turns-half, turns-both, turns-turned, turns-more, carried-by, scripted-shown}
+use Rattle.nef_statement.proofs.text.existence.Connected.{joined-is_decided, components-are_counted}
+use Rattle.nef_statement.proofs.text.existence.Parts.{parts-exist}
+use Rattle.nef_statement.proofs.text.existence.Scripts.{turns-half, turns-both, turns-turned, turns-more, carried-by, scripted-shown}
 use Rattle.nef_script.specs.declared.arguments.Verb.TheVariants as verb
 use Rattle.nef_script.specs.declared.script.ScriptKind.TheVariants as kind
 use Rattle.nef_script.proofs.Values.{zero-are}
@@ -11,7 +11,7 @@ use Rattle.nef_statement.proofs.Bound.{and_bound, name_if, names_in, names-push}
 use Rattle.nef_statement.proofs.RayPoints.{ray-answer}
 use Rattle.nef_statement.proofs.Texts.{one-text}
 use Rattle.nef_statement.proofs.Turning.{set-same}
-use Rattle.law_near.proofs.SameSets.{same-self}
+use Rattle.law_geometry.proofs.near.SameSets.{same-self}
 
 -- ---- tests that don't hold
 abbrev pub refusal_in : List (ScriptKind × Bool) → Option ScriptKind

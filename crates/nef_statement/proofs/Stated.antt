@@ -5,7 +5,7 @@ use Rattle.nef_statement.proofs.One.{said-one, first-said}
 use Rattle.nef_statement.proofs.Runs.{one-meaning, as-meant, same-output, same-status}
 use Rattle.nef_statement.proofs.SomeOutput.{some-output}
 use Rattle.nef_statement.proofs.Texts.{text-says, one-text}
-use Rattle.law_near.proofs.SameSets.{same-self}
+use Rattle.law_geometry.proofs.near.SameSets.{same-self}
 
 text-one : (version : TextVersion) (s : Set) (x y : List ℕ) → IsText version s x → IsText version s y → x ≡ y
 text-one version s x y h k = (one-text version s s x y h k).1 (same-self s)

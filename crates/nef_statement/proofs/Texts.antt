@@ -1,15 +1,15 @@
 -- A set has one text, and the text tells it.
 use Rattle.nef_statement.proofs.Prelude.{◌≡◌, ◌↔◌, ℕ, refl, ap, sym, ◌∙◌, subst, List, [], ◌∷◌, ◌++◌, length, map, append_assoc, SameSet, SpacePoint, InFrame, Set, Holds, Belongs, Vertex, Shows, facet-of, complex_of, vertex_of, edge_of, TextVersion, set-vertices, IsParts, version_word, first_line, vertices_text, edge_line, facet_text, line, numbers, volumes_text, text, Spells, codes, flat_map, Parts, Complex, Edge as ComplexEdge, One, Two, upright-by_maps, line_rows, vertices_told, with_edges, AreAllEdges, TextSays, count_line, IsWrittenOf, IsText, CountTells}
-use Rattle.law_complex.proofs.FacetNames.{facet-at}
-use Rattle.law_complex.proofs.Skeletons.{belongs-holds}
-use Rattle.law_text.proofs.SameText.{same-parts, same-set_text, text-set, spelled-holds}
+use Rattle.law_geometry.proofs.complex.FacetNames.{facet-at}
+use Rattle.law_geometry.proofs.complex.Skeletons.{belongs-holds}
+use Rattle.nef_statement.proofs.text.SameText.{same-parts, same-set_text, text-set, spelled-holds}
 use Rattle.nef_statement.proofs.Counts.{count-same, counted-by}
 use Rattle.nef_statement.proofs.Edged.{sorted-edges, belongs-edged}
 use Rattle.nef_complex.specs.declared.complex.Vertex.{Vertex as ComplexVertex}
-use Rattle.law_text.proofs.existence.Shown.{shown-maps}
+use Rattle.nef_statement.proofs.text.existence.Shown.{shown-maps}
 use Rattle.nef_volumes.proofs.Components.{shown-counted}
 use Rattle.nef_statement.proofs.Told.{HasWeights, vertices-told, weights-told}
-use Rattle.law_near.proofs.SameSets.{same-alike, same-turned, same-trans}
+use Rattle.law_geometry.proofs.near.SameSets.{same-alike, same-turned, same-trans}
 
 -- the texts of two sets are equal exactly where the sets are one
 pub same-texts : (version : TextVersion) (s t : Set) (x y : List ℕ) → IsWrittenOf s (text version) x → IsWrittenOf t (text version) y → (x ≡ y) ↔ SameSet s t

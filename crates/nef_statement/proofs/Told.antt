@@ -5,9 +5,9 @@ use Rattle.nef_complex.specs.declared.complex.Vertex.{Vertex}
 use Rattle.nef_complex.specs.declared.complex.Corner.{Corner}
 use Rattle.nef_complex.specs.declared.parts.Side.{Side}
 use Rattle.nef_complex.specs.Text.{signed_numbers}
-use Rattle.law_text.proofs.Vertices.{with-rows_firsts}
+use Rattle.nef_statement.proofs.text.Vertices.{with-rows_firsts}
 use Rattle.nef_statement.proofs.Lines.{Row, IsGood, AreGood, rows-read, signed-read, decimal-read, decimal-good, signed-good}
-use Rattle.law_text.proofs.Lines.{Each-append, Each}
+use Rattle.nef_statement.proofs.text.Lines.{Each-append, Each}
 
 -- ---- words
 abbrev read_label : Word → Label

@@ -1,6 +1,6 @@
 -- A set that is turned in plain words is the turned set of the laws of turns.
 use Rattle.nef_statement.proofs.Prelude.{◌≡◌, ℕ, zero, suc, ◌/◌, ◌%◌, ℤ, refl, ap, get_or, Form, form, Set, Triple, ordered, turned_plane, orders, signed_by, turned_form, turned_set}
-use Rattle.law_turns.specs.Turned.{turned_set as turned_image}
+use Rattle.law_geometry.specs.turns.Turned.{turned_set as turned_image}
 use Rattle.nef_space.proofs.Elementary.{equal-pairs}
 
 order-same : (n : ℕ) (x y z : ℤ) → get_or (orders x y z) n (z, y, x) ≡ ordered n (x, y, z)

@@ -2,7 +2,7 @@
 use Rattle.std.specs.Prelude.{◌≡◌, ◌∷◌, pos, negsuc, true, List, [], Option, Some, None, codes}
 use Rattle.nef_geo.specs.Prelude.{form, Set, vector, Label}
 use Rattle.nef_space.specs.declared.label.Label.TheVariants.{Not, In}
-use Rattle.law_sphere.specs.Maps.{MapVertex, Arc, MapSloop, Map}
+use Rattle.law_geometry.specs.sphere.Maps.{MapVertex, Arc, MapSloop, Map}
 use Rattle.nef_script.specs.Prelude.{lines_of, script_of}
 use Rattle.nef_statement.specs.Denotes.{denoted}
 use Rattle.nef_statement.specs.Reader.{positive, vertices_told}

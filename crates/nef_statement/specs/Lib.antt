@@ -11,3 +11,4 @@ pub mod Same
 pub mod Texts
 pub mod Meanings
 pub mod Examples
+pub mod text

@@ -4,9 +4,9 @@ use Rattle.nef_script.specs.Prelude.{bytes_eq, lines_of, words_of, number_or_zer
 use Rattle.std.proofs.Common.{arith}
 use Rattle.nef_space.specs.Prelude.{SpacePoint, InFrame, Set, Holds, Vector, vector, IsAt}
 use Rattle.nef_complex.specs.Prelude.{Label, Out, Not, In}
-use Rattle.law_sphere.specs.Maps.{MapVertex, Arc, MapSloop}
-use Rattle.law_complex.specs.Belongs.{Belongs}
-use Rattle.law_complex.specs.Complexes.{Vertex, Edge, Complex, IsEdge}
+use Rattle.law_geometry.specs.sphere.Maps.{MapVertex, Arc, MapSloop}
+use Rattle.law_geometry.specs.complex.Belongs.{Belongs}
+use Rattle.law_geometry.specs.complex.Complexes.{Vertex, Edge, Complex, IsEdge}
 use Rattle.nef_core.specs.declared.work.TextVersion.{TextVersion}
 use Rattle.nef_complex.specs.Text.{version_word}
 use Rattle.nef_statement.specs.Written.{CountTells}

@@ -1,7 +1,7 @@
 -- The text of a set, and the numbers that are counted of it, by the complexes that show the set.
 use Rattle.std.specs.Prelude.{◌≡◌}
 use Rattle.nef_complex.specs.Prelude.{ℕ, List, SameSet, Set, complex_of, IsParts}
-use Rattle.law_complex.specs.Shows.{Shows}
+use Rattle.law_geometry.specs.complex.Shows.{Shows}
 use Rattle.nef_complex.specs.declared.complex.Complex.{Complex}
 use Rattle.nef_core.specs.declared.work.TextVersion.{TextVersion}
 use Rattle.nef_complex.specs.declared.parts.Parts.{Parts}

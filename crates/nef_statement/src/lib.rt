@@ -4,5 +4,6 @@
 #![tactic(auto)]
 
 mod status;
+pub mod text;
 
 pub use status::{Status, statement_examples, statement_laws};

@@ -1,6 +1,6 @@
 -- The operation on the labels of two maps of sets gives the germs of the combination.
 use Rattle.nef_stopo.proofs.Prelude.{◌≡◌, refl, sym, ◌↔◌, subst, SpacePoint, Set, Vector, IsDirection, Label, Out, Not, In, HasLabel, Germ, label_and, label_or, label_less, label_one_of, ByOp, Cone, Map, MapLabel, Valid, Op, op_label}
-use Rattle.law_near.proofs.Combine.{and-label, or-label, less-label, one_of-label, germ-combines}
+use Rattle.law_geometry.proofs.near.Combine.{and-label, or-label, less-label, one_of-label, germ-combines}
 use Rattle.nef_star.specs.declared.star.Op.TheVariants.{And, Or, Diff, Xor}
 use Rattle.nef_stopo.specs.Sets.{op_set}
 

@@ -1,7 +1,7 @@
 -- What is known of the labels of two lists is known of the two together.
 use Rattle.nef_stopo.proofs.Prelude.{◌≡◌, ℕ, ◌+◌, ◌<◌, ◌≤◌, List, [], ◌∷◌, ◌++◌, map, length, get_or, take, Bool, true, false, ◌&&◌, ◌||◌, refl, sym, ap, ◌∙◌, add-one, append_assoc, take_all, map-append, append-nil, Label, gather, Topology, is_in, all_in, some_in, label_by, label_from, ray_mark, Ray, ray_of, nearby_of}
 use Rattle.std.proofs.Math.Seq.{take-suc}
-use Rattle.law_sphere.specs.Stars.{Ray as PlainRay}
+use Rattle.law_geometry.specs.sphere.Stars.{Ray as PlainRay}
 use Rattle.nef_stopo.specs.declared.topology.Nearby.{Nearby}
 
 and-append : (a : Bool) (xs ys : List Label) → a && (all_in xs && all_in ys) ≡ (a && all_in xs) && all_in ys

@@ -1,7 +1,7 @@
 -- A least map with In and Not exchanged everywhere is the least map of the complement.
 use Rattle.nef_stopo.proofs.Prelude.{◌≡◌, List, [], ◌∷◌, Option, Some, None, Bool, map, refl, ap, sym, subst, ◌∙◌, option_map, normal_limit, svertex_limit, SpacePoint, Set, IsAtMost, Label, Out, Not, In, MapVertex, Arc, MapSloop, Item, Map, item_normal, Valid, Least, Ordered, Cone, complement, all_in, some_in, label_by, sloop_by, exchanged, exchanged_svertex, exchanged_arc, exchanged_sloop, exchanged_map, topology-cone, SArc, SphereMap, SVertex, svertex_of, arc_of, sloop_of, map_of, IsSmall, IsLeastMap}
-use Rattle.law_sphere.proofs.border.Exchanged.{item-same, svertex-was, item-was}
-use Rattle.law_sphere.proofs.border.ExchangedLabels.{exchanged-laws}
+use Rattle.law_geometry.proofs.sphere.border.Exchanged.{item-same, svertex-was, item-was}
+use Rattle.law_geometry.proofs.sphere.border.ExchangedLabels.{exchanged-laws}
 
 -- the complement of a circle looks at no labels close to it
 other-label : (l : Label) (all some : Bool) → label_by complement l all some ≡ exchanged l

@@ -1,8 +1,8 @@
 -- The raw stars of a map with what its labels become, and the map that is built of them.
 use Rattle.nef_stopo.proofs.Prelude.{◌≡◌, ℕ, List, length, map, Option, Some, None, Result, Ok, Err, IfOk, refl, sym, ap, subst, ◌∙◌, length-map, option_map, normal_limit, SpacePoint, Set, Vector, IsDirection, IsAtMost, Label, vector_of, IsAt, MapVertex, MapSloop, MapLabel, sloop_item, forms, Cone, at-sloop, IsLabelling, IsRawOf, Topology, set_by, IsTopologyMap, MarkLabel, label_from, face_label, sloop_by, map_labels, IsRemarkedAt, IsTopologyRaw, at-other, topology-cone, Star, star_of, IsStar, SLoop, SphereMap, RawStars, svertex_of, sloop_of, map_of, raw_of, IsSphereMap, IsLeastMap, IsRawStars, is-at_map, all-of, AreRemarked}
-use Rattle.law_sphere.specs.Stars.{Star as PlainStar}
-use Rattle.law_sphere.proofs.border.RawTopology.{topology-stars}
-use Rattle.law_sphere.proofs.border.MarkMade.{topology-mark}
+use Rattle.law_geometry.specs.sphere.Stars.{Star as PlainStar}
+use Rattle.law_geometry.proofs.sphere.border.RawTopology.{topology-stars}
+use Rattle.law_geometry.proofs.sphere.border.MarkMade.{topology-mark}
 use Rattle.nef_stopo.specs.Made.{IsMadeBy}
 
 -- a circle was one with the same normal

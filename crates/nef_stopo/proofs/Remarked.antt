@@ -1,6 +1,6 @@
 -- A star with other marks is a star; and with what its marks and sectors become it is remarked.
 use Rattle.nef_stopo.proofs.Prelude.{◌≡◌, ℕ, zero, suc, ◌-◌, ◌<◌, List, [], ◌∷◌, length, map, get_or, Bool, cond, arith, refl, sym, ap, subst, ◌∙◌, sector_count, inl, inr, length-map, normal_limit, svertex_limit, IsBelow, Vector, zero_vector, opposite, dot, direction_numbers, IsAtMost, IsNormal, Label, Out, vector_of, Dir, IsAt, Follows, Topology, label_from, face_label, star_labels, marked, IsRemarked, Ray, Star, ray_of, star_of, left_of, left_at, IsRay, IsRayBelow, BeginsAnywhere, IsStar, IsTurning, IsNext, sectors-fill, map-is_at, is-at_map, is-at_within, is-at_get, IsRayMarked, AreRaysMarked}
-use Rattle.law_sphere.specs.Stars.{Ray as PlainRay}
+use Rattle.law_geometry.specs.sphere.Stars.{Ray as PlainRay}
 use Rattle.nef_star.proofs.RayOrder.{one-value}
 
 -- the same ray but for the mark

@@ -1,7 +1,7 @@
 -- The program's operations of topology as those of the theory, and what is known of a list of labels.
 use Rattle.nef_geo.specs.Prelude.{List, Label}
-use Rattle.law_sphere.specs.border.Topology.{Topology as SetTopology, interior, closure, boundary, complement}
-use Rattle.law_sphere.specs.border.Marks.{all_in, some_in}
+use Rattle.law_geometry.specs.sphere.border.Topology.{Topology as SetTopology, interior, closure, boundary, complement}
+use Rattle.law_geometry.specs.sphere.border.Marks.{all_in, some_in}
 use Rattle.nef_stopo.specs.declared.topology.Topology.{Topology}
 use Rattle.nef_stopo.specs.declared.topology.Topology.TheVariants.{Interior, Closure, Boundary, Complement}
 use Rattle.nef_stopo.specs.declared.topology.Nearby.{Nearby}

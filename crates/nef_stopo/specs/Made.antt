@@ -1,6 +1,6 @@
 -- The map of what an operation of topology makes of a set.
 use Rattle.nef_spair.specs.Prelude.{SpacePoint, Set, Cone, map_of, IsLeastMap}
-use Rattle.law_sphere.specs.border.Topology.{Topology, IsTopologyMap}
+use Rattle.law_geometry.specs.sphere.border.Topology.{Topology, IsTopologyMap}
 use Rattle.nef_smap.specs.declared.map.SphereMap.{SphereMap}
 
 -- where the operation makes the set made s of each set s, n is the least map of made s if m shows s

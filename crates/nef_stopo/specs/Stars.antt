@@ -2,8 +2,8 @@
 use Rattle.std.specs.Prelude.{◌≡◌, ◌∷◌}
 use Rattle.nef_spair.specs.Prelude.{ℕ, List, [], length, vector_of, IsAt, star_of, IsStar, map_of}
 use Rattle.nef_space.specs.declared.label.Label.{Label}
-use Rattle.law_sphere.specs.border.Topology.{Topology}
-use Rattle.law_sphere.specs.border.Marks.{label_from, IsRemarkedAt}
+use Rattle.law_geometry.specs.sphere.border.Topology.{Topology}
+use Rattle.law_geometry.specs.sphere.border.Marks.{label_from, IsRemarkedAt}
 use Rattle.nef_star.specs.declared.star.Ray.{Ray}
 use Rattle.nef_star.specs.declared.star.Star.{Star}
 use Rattle.nef_star.specs.Turning.{IsNext}

@@ -4,8 +4,8 @@ use Rattle.nef_geo.specs.declared.plane.Oriented.{Oriented}
 use Rattle.nef_geo.proofs.Products.{kept}
 use Rattle.nef_geo.proofs.Unique.{direction, plane}
 use Rattle.nef_case.proofs.TurnLemmas.{same_triple}
-use Rattle.law_turns.proofs.Carriers.{same-form}
-use Rattle.law_turns.proofs.Vectors.{direction-turned}
+use Rattle.law_geometry.proofs.turns.Carriers.{same-form}
+use Rattle.law_geometry.proofs.turns.Vectors.{direction-turned}
 use Rattle.nef_space.proofs.Vectors.{same-vector}
 
 -- ---- numbers that fit their machine words

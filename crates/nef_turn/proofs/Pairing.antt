@@ -1,8 +1,8 @@
 -- The turned planes and vertices of a program's complex are those of the turned set, which are ready to be paired.
 use Rattle.nef_turn.proofs.Prelude.{ℕ, false, sym, subst, List, map, normal_limit, svertex_limit, Set, Vector, IsAtMost, form_of, Plane, MapVertex, Map, Shaped, Ordered, is-at_map, map-is_at, map_of, IsSmall, IsLeastMap, SphereMap, vertex_of, complex_of, ShowsSet, AreVerticesOf, Vertex, Complex, turned_set, IsTurnedMap, AreTurnedPlanes, AreTurnedVertices, at_most-turned}
-use Rattle.law_complex.specs.Complexes.{Vertex as PlainVertex}
-use Rattle.law_turns.proofs.TurnedMaps.{svertex-from, item-from, item-normal, valid-turned, least-turned}
-use Rattle.law_turns.proofs.Complexes.{shows-turned}
+use Rattle.law_geometry.specs.complex.Complexes.{Vertex as PlainVertex}
+use Rattle.law_geometry.proofs.turns.TurnedMaps.{svertex-from, item-from, item-normal, valid-turned, least-turned}
+use Rattle.law_geometry.proofs.turns.Complexes.{shows-turned}
 
 module _ (k : ℕ) where
   pub small-turned : (M N : Map) → Shaped M → IsTurnedMap k M N → IsSmall M → IsSmall N

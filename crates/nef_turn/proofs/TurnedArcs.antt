@@ -1,7 +1,7 @@
 -- Turned arcs, sorted.
 use Rattle.nef_turn.proofs.Prelude.{ℕ, List, map, length, arith, ap, ◌∙◌, subst, length-map, IsPermutation, vector_of, IsAt, MapVertex, Shaped, InOrder, is-at_map, map-is_at, svertex_of, arc_of, map_of, SArc, SphereMap, is-at_within, dir-primitive, IsArcBelow, was-listed, still-listed, turned_svertex, one-arc, AreImages, AllEndBelow, IsSArcImage, Renumbers, AreTurnedArcs, number_in}
 use Rattle.nef_spair.specs.Arcs.{AreApart}
-use Rattle.law_turns.proofs.Exists.{IsArcImage as IsPlainImage}
+use Rattle.law_geometry.proofs.turns.Exists.{IsArcImage as IsPlainImage}
 use Rattle.nef_turn.proofs.Images.{images-all}
 
 module _ (k : ℕ) (m : SphereMap) (V : Shaped (map_of m)) (ns : List ℕ) (R : Renumbers k m.svertices ns) where

@@ -1,7 +1,7 @@
 -- Turned vertices, sorted, are those of the turned complex.
 use Rattle.nef_turn.proofs.Prelude.{ℕ, List, map, length, subst, IsPermutation, SamePoint, IsPointBelow, point_of, point_below-apart, same-point_sym, InOrder, Ordered, is-at_map, map-is_at, number-order, map_of, vertex_of, AreSorted, Vertex, was-listed, still-listed, turned_point, IsTurnedMap, AreTurnedVertices, same-point_trans, AreImages, AreApart, IsVertexImage, IsVertexBelow, AreAtOnePoint}
-use Rattle.law_complex.specs.Complexes.{Vertex as PlainVertex}
-use Rattle.law_turns.proofs.Points.{same_point-turned}
+use Rattle.law_geometry.specs.complex.Complexes.{Vertex as PlainVertex}
+use Rattle.law_geometry.proofs.turns.Points.{same_point-turned}
 use Rattle.nef_turn.proofs.Images.{images-all}
 
 module _ (k : ℕ) (us vs : List Vertex) (I : AreImages (IsVertexImage k) (length us) us vs) where

@@ -2,7 +2,7 @@
 use Rattle.nef_complex.specs.Prelude.{ℕ, Set, ShowsSet}
 use Rattle.nef_case.specs.Turns.{Undoes, IsComposition}
 use Rattle.nef_complex.specs.declared.complex.Complex.{Complex}
-use Rattle.law_turns.specs.Turned.{turned_set}
+use Rattle.law_geometry.specs.turns.Turned.{turned_set}
 
 -- for each set that c shows, d shows the set turned by turn k
 abbrev pub ShowsTurnedSets : ℕ → Complex → Complex → Type 0

@@ -1,14 +1,14 @@
 -- What the steps of turning give: turned carriers, svertices, arcs and vertices.
 use Rattle.std.specs.Prelude.{◌≡◌, ◌<◌, ℕ, List, length, slice_index_or, Bool}
 use Rattle.nef_complex.specs.Prelude.{SamePoint, IsPointBelow, IsNormal, form_of, point_of, vector_of, Plane, IsAt}
-use Rattle.law_sphere.specs.Vectors.{VectorBelow}
+use Rattle.law_geometry.specs.sphere.Vectors.{VectorBelow}
 use Rattle.nef_spair.specs.Prelude.{InOrder, Ordered, svertex_of, arc_of, map_of, IsLeastMap, IsArcBelow}
 use Rattle.nef_smap.specs.declared.map.SVertex.{SVertex}
 use Rattle.nef_smap.specs.declared.map.SArc.{SArc}
 use Rattle.nef_complex.specs.declared.complex.Vertex.{Vertex}
-use Rattle.law_turns.specs.Turned.{turned_plane, turned_point}
-use Rattle.law_turns.specs.Complexes.{signed_form}
-use Rattle.law_turns.specs.Maps.{turned_svertex, IsTurnedArc, IsTurnedMap}
+use Rattle.law_geometry.specs.turns.Turned.{turned_plane, turned_point}
+use Rattle.law_geometry.specs.turns.Complexes.{signed_form}
+use Rattle.law_geometry.specs.turns.Maps.{turned_svertex, IsTurnedArc, IsTurnedMap}
 use Rattle.nef_turn.specs.declared.maps.Moved.{Moved}
 
 -- ---- carriers

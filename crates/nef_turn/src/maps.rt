@@ -3,7 +3,7 @@
 ghost use Rattle.std.specs.Prelude.{◌≡◌};
 ghost use Rattle.nef_complex.specs.Prelude.{length, cond, option_map, map, IfOk, IfSome, IsNormal, vector_of, Ordered, Shaped};
 ghost use Rattle.nef_smap.specs.Maps.{sloop_of, map_of, IsLeastMap};
-ghost use Rattle.law_turns.specs.Maps.{HasTurnedLists, IsTurnedOption};
+ghost use Rattle.law_geometry.specs.turns.Maps.{HasTurnedLists, IsTurnedOption};
 ghost use Rattle.nef_turn.specs.Images.{AreApart};
 ghost use Rattle.nef_turn.specs.Turning.{HaveSameNumber, AreMoved, AreNewNumbers, AreOldNumbers, svertex_in, EndsBelow, IsSArcImage, Renumbers, AreTurnedArcs};
 

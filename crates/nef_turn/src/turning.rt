@@ -2,8 +2,8 @@
 
 ghost use Rattle.std.specs.Prelude.{◌≡◌, ◌<◌, ◌≤◌};
 ghost use Rattle.nef_complex.specs.Prelude.{nat_abs, All, map, IfOk, point_limit, SamePoint, Set, IsNormal, form_of, point_of, vector_of, vertex_of, AreSorted, ShowsSet, AreInOrder};
-ghost use Rattle.law_turns.specs.Complexes.{AreTurnedPlanes, AreTurnedVertices};
-ghost use Rattle.law_turns.specs.Turned.{is_odd, turned_vector, turned_point, signed};
+ghost use Rattle.law_geometry.specs.turns.Complexes.{AreTurnedPlanes, AreTurnedVertices};
+ghost use Rattle.law_geometry.specs.turns.Turned.{is_odd, turned_vector, turned_point, signed};
 ghost use Rattle.nef_case.specs.Turns.{IsEntry, IsRowOfTurn, turned};
 ghost use Rattle.nef_turn.specs.Shown.{ShowsTurnedSets, BackShowsSame, TwiceShowsComposed};
 ghost use Rattle.nef_turn.specs.Turning.{IsTurnedCarrier, HaveLeastMaps};

@@ -1,8 +1,8 @@
 -- Sets that are shown by the same vertices are one.
 use Rattle.nef_unique.proofs.Prelude.{◌≡◌, pos, sym, inl, inr, ⊎_elim, List, subst, SameSet, HasLabel, Germ, IsVertex, SpacePoint, SamePoint, Set, Vector, IsZero, Label, carriers, SameCone, germs-by_cell, Decided, Label-cells, label-one, Germ-zero, signs-same, same-point_sym, Cone, IsAt, Map, Complex, Shows, nought-or}
-use Rattle.law_near.proofs.Determined.{same-set_of}
-use Rattle.law_complex.specs.Complexes.{Vertex}
-use Rattle.law_complex.proofs.Cones.{label-germ, germ-label}
+use Rattle.law_geometry.proofs.near.Determined.{same-set_of}
+use Rattle.law_geometry.specs.complex.Complexes.{Vertex}
+use Rattle.law_geometry.proofs.complex.Cones.{label-germ, germ-label}
 
 -- ---- one map that shows two sets
 label-carried : (M : Map) (s t : Set) (p : SpacePoint) → Cone M s p → Cone M t p → (l : Label) → HasLabel s p l → HasLabel t p l

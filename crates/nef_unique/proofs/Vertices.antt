@@ -1,6 +1,6 @@
 -- Complexes that show one set have the same vertices and edges.
 use Rattle.nef_unique.proofs.Prelude.{◌≡◌, ℕ, arith, refl, sym, List, map, inl, inr, subst, ints, SameSet, SpacePoint, SamePoint, IsPointBelow, Set, SameCone, cones-of_same, FlatDim-by_cone, point_below-trans, point_below-apart, point_of, Point, same_points_equal, Cone, InOrder, IsAt, Map, same-lists, cone-unique, map_of, map-is_at, is-at_map, Edge as PlainEdge, IsEdgeBelow, Edges, Shows, Vertex, vertex_of, edge_of, complex_of}
-use Rattle.law_complex.specs.Complexes.{Vertex as PlainVertex}
+use Rattle.law_geometry.specs.complex.Complexes.{Vertex as PlainVertex}
 use Rattle.nef_complex.specs.declared.complex.Complex.{Complex}
 use Rattle.nef_unique.proofs.Injective.{map-one, map_of-one, vertex-equal, edge-one}
 

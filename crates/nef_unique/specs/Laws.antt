@@ -3,7 +3,7 @@ use Rattle.std.specs.Prelude.{◌≡◌, ◌↔◌}
 use Rattle.nef_complex.specs.Prelude.{SameSet, Set, Vector, IsDirection, Label, ShowsSet}
 use Rattle.nef_smap.specs.Prelude.{MapLabel, map_of, IsLeastMap}
 use Rattle.nef_smap.specs.declared.map.SphereMap.{SphereMap}
-use Rattle.law_complex.specs.Prelude.{Complex as PlainComplex, Shows}
+use Rattle.law_geometry.specs.complex.Prelude.{Complex as PlainComplex, Shows}
 use Rattle.nef_complex.specs.declared.complex.Complex.{Complex}
 
 -- the maps have one label in each direction

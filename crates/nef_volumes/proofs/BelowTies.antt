@@ -1,6 +1,6 @@
 -- The side above the point where a ray down ends is one, up to its sface.
 use Rattle.nef_volumes.proofs.Prelude.{◌≡◌, ℕ, ◌+◌, pos, ◌⊎◌, inl, inr, arith, ap, sym, ◌∙◌, subst, SpacePoint, Form, form_at, normal_of, SamePoint, toward, IsBetween, Set, Vector, IsDirection, SameDirection, dot, cross, opposite, blend, plane_axis, up, Label, same-point_sym, between-same, IsAt, item_normal, pos_item, Side, dir_of, HasSide, Sees, InOneSface, here, link, BoundsSector, normals-same, on-level, normal-is, is-at_one, bounds-sees, Vertex, Edge, Complex, Corner, Shows, item_plane, IsVertexPoint, IsEdgePoint, Spot, at_vertex, on_edge, in_facet, IsSpot, HasCorner, VertexSide, HasSideLabel, IsAbove, RayDown, same-point_trans, facet-point, through-at, through-level, axis-in, LinkInSface, through-same, corner-same as corner-like, level-of_opposite, one-vertex, one-named, SameDirection-turned, SameDirection-trans}
-use Rattle.law_sphere.proofs.cones.Smooth.{parallel-by}
+use Rattle.law_geometry.proofs.sphere.cones.Smooth.{parallel-by}
 use Rattle.nef_conn.proofs.WayInward.{names-same}
 use Rattle.nef_locate.proofs.SameAxis.{axis-same}
 use Rattle.nef_conn.proofs.OneNamed.{one-edge_through, edge-inside}

@@ -1,8 +1,8 @@
 -- Points at items are joined exactly where the items have one facet number, and points at sides where the sides have one volume number; so facets and volumes are the components of the points with two flat directions and with three.
 use Rattle.nef_volumes.proofs.Prelude.{◌≡◌, ◌↔◌, ℕ, ◌<◌, inr, List, length, arith, subst, length-map, FlatDim, Joined, SpacePoint, Set, Label, Item, items, is-at_within, is-at_some, side-has, Vertex, Complex as PlainComplex, Corner, IsCorner, VertexSide, HasSideLabel, Shows, vertex_of, edge_of, complex_of, IsAtItem, IsAtSide, IsUpright, sides-have_points, sides-joined, HasComponents, IsFacetOf, IsVolumeOf, FacetNumbers, IsParts, Parts, FacetsAreComponents, VolumesAreComponents, AreCounted}
 use Rattle.nef_complex.specs.declared.complex.Complex.{Complex}
-use Rattle.law_complex.proofs.links.ItemLinks.{items-joined}
-use Rattle.law_complex.proofs.links.ItemPoints.{items-have_points}
+use Rattle.law_geometry.proofs.complex.links.ItemLinks.{items-joined}
+use Rattle.law_geometry.proofs.complex.links.ItemPoints.{items-have_points}
 use Rattle.nef_conn.proofs.AtItems.{points-reach_items}
 use Rattle.nef_conn.proofs.AtSides.{points-reach_sides}
 use Rattle.nef_conn.proofs.Counted.{components-by, vertices-counted, edges-counted}

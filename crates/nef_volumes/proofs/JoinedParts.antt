@@ -9,7 +9,7 @@ use Rattle.nef_volumes.specs.declared.all.Part.TheVariants.{Vertex, Edge, Facet}
 use Rattle.nef_volumes.specs.contracts.all.PartPartialEq.TheImpl.{eq-value as part_eq}
 use Rattle.nef_volumes.proofs.Components.{facets-are_components, volumes-are_components}
 use Rattle.nef_volumes.proofs.SideLabels.{upright}
-use Rattle.law_near.proofs.Same.{dim-same}
+use Rattle.law_geometry.proofs.near.Same.{dim-same}
 
 module _ (s : Set) (c : Complex) (p : Parts) (S : ShowsSet s c) (I : IsParts (complex_of c) p) where
   abbrev C : PlainComplex

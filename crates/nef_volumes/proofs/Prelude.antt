@@ -1,5 +1,5 @@
 -- The names that most proofs cite, passed on from one place. Declares nothing.
-pub use Rattle.law_complex.proofs.links.Prelude.{AreSidesAlong, FlatCone, FlatCone-from_flat, Germ-zero, HasSideLabel, InOneSface, IsAtItem, IsAtSide, IsSideOf, IsUpright, Joined, LinkAcrossFacet, LinkDown, LinkInSface, LinkOutside, Ratio, Sees, VertexSide, VolumeLink, around_ends, between-same, facet-point, here, joined-both, joined-turned, link, neg_arcs, pos_arcs, slide, zero_vector}
+pub use Rattle.law_geometry.proofs.complex.links.Prelude.{AreSidesAlong, FlatCone, FlatCone-from_flat, Germ-zero, HasSideLabel, InOneSface, IsAtItem, IsAtSide, IsSideOf, IsUpright, Joined, LinkAcrossFacet, LinkDown, LinkInSface, LinkOutside, Ratio, Sees, VertexSide, VolumeLink, around_ends, between-same, facet-point, here, joined-both, joined-turned, link, neg_arcs, pos_arcs, slide, zero_vector}
 pub use Rattle.nef_conn.proofs.Prelude.{FlatDim-one, HasComponents, IsVertex, SeenAs, at-side, facet-at, near-germ_zero, normals-same, same-point_trans, side-sees, through-same}
 pub use Rattle.nef_classes.proofs.Prelude.{IsCellBelow, IsCellNumber, NumbersClasses, drop, length-take}
 pub use Rattle.nef_smap.proofs.Prelude.{AreClasses, AreLinked, AreNumbered, AreRoots, AreSfaces, IsBelow, Link, LinksAreBelow, SeeOneWay, eqb_tells}
@@ -12,8 +12,8 @@ pub use Rattle.std.proofs.lemmas.Iterator.Adapters.{YieldsList-from_vec}
 pub use Rattle.std.proofs.lemmas.Iterator.Consumers.{YieldsList-turn}
 pub use Rattle.std.proofs.lemmas.List.Elements.{Contains-append_cases, Contains-append_left, Contains-append_right, Contains-push, Contains-push_cases}
 pub use Rattle.nef_space.specs.Lists.{IsInTable}
-pub use Rattle.law_complex.proofs.links.SidePoints.{sides-have_points}
-pub use Rattle.law_complex.proofs.links.SidesJoined.{sides-joined}
+pub use Rattle.law_geometry.proofs.complex.links.SidePoints.{sides-have_points}
+pub use Rattle.law_geometry.proofs.complex.links.SidesJoined.{sides-joined}
 pub use Rattle.nef_smap.proofs.SideNumbers.{number-one}
 pub use Rattle.nef_smap.proofs.Upward.{map-across, map-ahead}
 pub use Rattle.nef_complex.specs.Numbers.{HasRows, IsFacet, IsFacetAt, IsParts, IsSideBelow, IsVolumeOf, VolumeNumbers, count_sides, neg_of, pos_of, shell_sides}

@@ -1,8 +1,8 @@
 -- Facets and volumes as components: points at items and sides are joined exactly where these have one number; the parts in which points lie; and the numbers of parts as numbers of components.
 use Rattle.std.specs.Prelude.{◌≡◌, ◌↔◌}
 use Rattle.nef_complex.specs.Prelude.{ℕ, length, Joined, SpacePoint, Set, IsVertexPoint, IsEdgePoint, HasCorner, complex_of, ShowsSet, IsFacetOf, IsVolumeOf}
-use Rattle.law_complex.specs.Prelude.{Complex as PlainComplex, Corner, VertexSide, HasVolumeSide}
-use Rattle.law_complex.specs.links.Components.{IsAtItem, IsAtSide}
+use Rattle.law_geometry.specs.complex.Prelude.{Complex as PlainComplex, Corner, VertexSide, HasVolumeSide}
+use Rattle.law_geometry.specs.complex.links.Components.{IsAtItem, IsAtSide}
 use Rattle.nef_conn.specs.Components.{HasComponents}
 use Rattle.nef_complex.specs.declared.complex.Complex.{Complex}
 use Rattle.nef_complex.specs.declared.parts.Parts.{Parts}

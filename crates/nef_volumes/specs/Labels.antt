@@ -2,9 +2,9 @@
 use Rattle.std.specs.Prelude.{◌≡◌, ◌<◌, ◌≤◌}
 use Rattle.nef_complex.specs.Prelude.{ℕ, List, length, Label, Out, IsVolumeOf}
 use Rattle.nef_space.specs.Lists.{IsAt, IsInTable}
-use Rattle.law_sphere.specs.Maps.{Map, Side}
+use Rattle.law_geometry.specs.sphere.Maps.{Map, Side}
 use Rattle.nef_smap.specs.Sides.{IsSide}
-use Rattle.law_complex.specs.Prelude.{Complex, VertexSide, HasSideLabel}
+use Rattle.law_geometry.specs.complex.Prelude.{Complex, VertexSide, HasSideLabel}
 
 -- before each number of the row, those that are smaller, from low on, have appeared in it
 abbrev pub HasAppeared : ℕ → List ℕ → Type 0

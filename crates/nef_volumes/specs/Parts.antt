@@ -2,7 +2,7 @@
 use Rattle.std.specs.Prelude.{◌≡◌}
 use Rattle.nef_complex.specs.Prelude.{ℕ, List, length, Bool, Label}
 use Rattle.nef_facets.specs.Prelude.{IsAt, Plane, Complex, Corner, corner_of, IsFacetParts, HasItem}
-use Rattle.law_complex.specs.Rays.{VertexSide}
+use Rattle.law_geometry.specs.complex.Rays.{VertexSide}
 use Rattle.nef_complex.specs.declared.complex.Corner.{Corner as ProgramCorner}
 use Rattle.nef_classes.specs.declared.table.Tie.{Tie}
 use Rattle.nef_facets.specs.declared.parts.FacetParts.{FacetParts}

@@ -2,7 +2,7 @@
 pub use Rattle.nef_smap.specs.Prelude.{IsSide, MatchOption, sides_of}
 pub use Rattle.nef_complex.specs.Prelude.{Corner, IfOk, InFrame, IsAt, IsParts, IsTrue, IsVolumeOf, Joined, List, OnOk, Out, Set, SfaceNumbers, ShowsSet, Side, VolumeNumbers, complex_of, corner_of, count_items, length, map, point_of, ℕ}
 pub use Rattle.nef_facets.specs.Prelude.{Adds, Any, AreTied, AreTiedWithin, FacetLink, HasItem, cell_of, map_of}
-pub use Rattle.law_complex.specs.links.Links.{LinkInSface, LinkOutside}
+pub use Rattle.law_geometry.specs.complex.links.Links.{LinkInSface, LinkOutside}
 pub use Rattle.nef_classes.specs.Tables.{AreNumbers, HasCounts, IsCellIn}
 pub use Rattle.nef_classes.specs.declared.table.Tie.{Tie}
 pub use Rattle.nef_complex.specs.declared.parts.Cycle.{Cycle}

@@ -1,7 +1,7 @@
 -- The table of the numbers of shells, and the sides of each shell.
 use Rattle.std.specs.Prelude.{◌≡◌, ℕ, suc, ◌+◌, ◌<◌, ◌≤◌, List, [], ◌∷◌, ◌++◌, length, slice_set as set, ◌⊎◌}
 use Rattle.nef_space.specs.Lists.{IsAt, IsInTable}
-use Rattle.law_complex.specs.Complexes.{Complex}
+use Rattle.law_geometry.specs.complex.Complexes.{Complex}
 use Rattle.nef_classes.specs.Tables.{HasCounts, AreNumbers}
 use Rattle.nef_classes.specs.declared.table.Tie.{Tie}
 use Rattle.nef_complex.specs.Shells.{ShellLink, IsNameBelow}

@@ -3,14 +3,14 @@ use Rattle.std.specs.Prelude.{◌≡◌, ◌+◌, ◌<◌, ◌≤◌, ◌∷◌,
 use Rattle.std.specs.List.{Contains}
 use Rattle.nef_geo.specs.Prelude.{IsAt, Chained, Label}
 use Rattle.nef_space.specs.declared.label.Label.TheVariants.{Out}
-use Rattle.law_sphere.specs.Maps.{MapVertex, Side, around_svertex, pos_item, neg_item, HasSide}
+use Rattle.law_geometry.specs.sphere.Maps.{MapVertex, Side, around_svertex, pos_item, neg_item, HasSide}
 use Rattle.nef_smap.specs.Sides.{sides_of, IsSide, SeeOneWay, AreSfaces}
 use Rattle.nef_smap.specs.SideNumbers.{side_number}
-use Rattle.law_complex.specs.Prelude.{Vertex, Edge, Complex, Corner, VertexSide, HasSideLabel, RayDown}
+use Rattle.law_geometry.specs.complex.Prelude.{Vertex, Edge, Complex, Corner, VertexSide, HasSideLabel, RayDown}
 use Rattle.nef_facets.specs.Prelude.{AreTied, cell_of}
 use Rattle.nef_classes.specs.declared.table.Cell.{Cell}
 use Rattle.nef_classes.specs.declared.table.Tie.{Tie}
-use Rattle.law_complex.specs.links.Links.{FacetLink, IsSideOf, LinkDown, VolumeLink}
+use Rattle.law_geometry.specs.complex.links.Links.{FacetLink, IsSideOf, LinkDown, VolumeLink}
 use Rattle.nef_complex.specs.Numbers.{count_sides}
 use Rattle.nef_complex.specs.Shells.{ShellLink}
 

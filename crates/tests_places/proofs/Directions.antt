@@ -1,7 +1,7 @@
 -- Directions of svertices, and where a ray may begin.
 use Rattle.tests_places.proofs.Prelude.{◌≡◌, ◌+◌, length, arith, sym, subst, ⊎_elim, eq-or-lt_of_le, SpacePoint, SamePoint, SameDirection, point_of, vector_of, Dir, same_directions_equal, IsAt, MapVertex, svertex_of, is-at_map, is-at_within, IsEdgePoint, Vertex, Complex, complex_of, vertex_of, edge_of, HasNoSvertex, FromVertex, IsClearVertex}
 use Rattle.std.proofs.Common.{ℕ, ◌<◌}
-use Rattle.law_complex.specs.Complexes.{Vertex as PlainVertex}
+use Rattle.law_geometry.specs.complex.Complexes.{Vertex as PlainVertex}
 use Rattle.nef_plane.proofs.Found.{both-same, from-vertex}
 
 -- with none of the first k numbers, and not the next, none of the first k + 1

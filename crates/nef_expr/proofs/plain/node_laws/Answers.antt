@@ -1,5 +1,5 @@
 use Rattle.nef_expr.proofs.Prelude.{sym, subst, Set, Holds, turned_point, node_set}
-use Rattle.law_turns.proofs.Meaning.{holds-turned}
+use Rattle.law_geometry.proofs.turns.Meaning.{holds-turned}
 use Rattle.nef_expr.proofs.Turns.{node-turned}
 use Rattle.nef_expr.proofs.Sets.{earlier-sets_stay, new-set, each-set}
 use Rattle.nef_expr.proofs.plain.node_laws.Goals as goal

@@ -1,5 +1,5 @@
 use Rattle.nef_facets.proofs.Prelude.{List, map, sym, subst, ◌↔◌, complex_of, FacetLink, count_items, Tie, AreTied, AreTiedWithin, cell_of}
-use Rattle.law_complex.specs.Complexes.{Corner}
+use Rattle.law_geometry.specs.complex.Complexes.{Corner}
 use Rattle.nef_facets.proofs.parts.facets.Goals as goal
 
 pub facets_of_ties-requires-clause-within : goal.facets_of_ties-requires-clause-within

@@ -4,7 +4,7 @@ use Rattle.nef_locate.proofs.VolumeLabels.{volume-flat}
 use Rattle.nef_locate.proofs.Cones.{cone-flat}
 use Rattle.nef_locate.proofs.maps.place_map.Goals as goal
 use Rattle.nef_smap.proofs.Lists.{map-within}
-use Rattle.law_sphere.proofs.Dimensions.{cone-same}
+use Rattle.law_geometry.proofs.sphere.Dimensions.{cone-same}
 
 pub at-requires : goal.at-requires
 at-requires c =

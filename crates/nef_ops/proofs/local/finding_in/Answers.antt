@@ -1,5 +1,5 @@
 use Rattle.nef_ops.proofs.Prelude.{◌≡◌, rules, refl, subst, IfSome, point_of, Operand, First, Second, operand_of, other_of, IsPlaceIn, IsPlaceAt}
-use Rattle.law_complex.specs.Complexes.{Complex as PlainComplex}
+use Rattle.law_geometry.specs.complex.Complexes.{Complex as PlainComplex}
 use Rattle.nef_locate.specs.declared.point.Place.{Place}
 use Rattle.nef_ops.proofs.local.finding_in.Goals as goal
 

@@ -1,5 +1,5 @@
 use Rattle.nef_plane.proofs.Prelude.{inl, rules, sym, subst, SpacePoint, IsAhead, form_of, point_of, vector_of, map-is_at, Meets, IsFirstInPlane, complex_of, meet_of, vertex_of, AreItems, IsNearest, near_met_of}
-use Rattle.law_complex.specs.Skeleton.{PlaneMeet as PlainMeet}
+use Rattle.law_geometry.specs.complex.Skeleton.{PlaneMeet as PlainMeet}
 use Rattle.nef_plane.proofs.Choosing.{some-at}
 use Rattle.nef_plane.proofs.Found.{MeetsAny, from-vertex, first-some, first-none}
 use Rattle.nef_plane.proofs.Passed.{excluding-course}

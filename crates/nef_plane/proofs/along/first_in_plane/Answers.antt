@@ -1,7 +1,7 @@
 use Rattle.nef_plane.proofs.Prelude.{subst, IfSome, SamePoint, form_of, hit_point, vector_of, same-point_sym, is-at_one, same-point_trans, complex_of, meet_of}
 use Rattle.std.specs.Prelude.{Option, Some, None}
-use Rattle.law_complex.specs.Complexes.{Vertex}
-use Rattle.law_complex.proofs.EqualPoints.{ahead-from, first-same}
+use Rattle.law_geometry.specs.complex.Complexes.{Vertex}
+use Rattle.law_geometry.proofs.complex.EqualPoints.{ahead-from, first-same}
 use Rattle.nef_plane.proofs.AxisSizes.{within-small}
 use Rattle.nef_plane.proofs.Listed.{are-items}
 use Rattle.nef_plane.proofs.along.first_in_plane.Goals as goal

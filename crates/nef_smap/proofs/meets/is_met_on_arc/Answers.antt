@@ -1,6 +1,6 @@
 use Rattle.nef_smap.proofs.Prelude.{◌*◌, ◌^◌, lit≤, arith, ap, sym, ◌∙◌, subst, ◌↔◌, normal_limit, svertex_limit, direction_limit, Vector, dot, IsAtMost, IsStrictlyOn, read_sign, five_signs, between_read, test_of, true_of, vector_of, sign_of, IsAtMost-weaken, cross_is, dir_within, dir_of, slid-level, map_of, way_meet, start_at, end_at, triple-dot}
 use Rattle.std.specs.Bool.{IsTrue}
-use Rattle.law_sphere.proofs.cyclic.Directions.{classes_are_arcs}
+use Rattle.law_geometry.proofs.sphere.cyclic.Directions.{classes_are_arcs}
 use Rattle.nef_smap.proofs.ArcEnds.{source-within, target-within, source-end, target-end, normal-direction, normal-small}
 use Rattle.nef_smap.proofs.MeetSigns.{own-sign, turn-target}
 use Rattle.nef_smap.proofs.meets.is_met_on_arc.Goals as goal

@@ -1,6 +1,6 @@
 use Rattle.nef_stopo.proofs.Prelude.{◌∙◌, forms, raw-shows_op, map_of, raw_of, op_label}
 use Rattle.std.specs.Prelude.{◌++◌}
-use Rattle.law_sphere.proofs.building.Chosen.{op-labels}
+use Rattle.law_geometry.proofs.sphere.building.Chosen.{op-labels}
 use Rattle.nef_stopo.proofs.Cones.{cone-by_op}
 use Rattle.nef_stopo.proofs.operations.combine.Goals as goal
 

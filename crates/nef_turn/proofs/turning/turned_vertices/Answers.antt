@@ -1,7 +1,7 @@
 -- Each vertex has its image, at its place, and the sorted images are the turned vertices.
 use Rattle.nef_turn.proofs.Prelude.{List, map, sym, subst, rules, ranks_by, answers_always, is_lt, point_of, map_of, vertex_of, Vertex, IsOrder, is-at_read, AreTurnedVertices, AreImages, IsVertexImage}
 use Rattle.nef_cand.proofs.Order.{answers-less}
-use Rattle.law_turns.proofs.TurnedLists.{lists-turned}
+use Rattle.law_geometry.proofs.turns.TurnedLists.{lists-turned}
 use Rattle.nef_turn.proofs.Images.{images-none, images-step, images-end}
 use Rattle.nef_turn.proofs.Orders.{vertex_order, vertex_total, vertices-in_order}
 use Rattle.nef_turn.proofs.TurnedVertices.{vertices-apart, vertices-turned}

@@ -1,6 +1,6 @@
 -- A set that is turned back is the set, and one that is turned twice is turned by the composition.
 use Rattle.nef_turn.proofs.Prelude.{sym, subst, Set, ShowsSet}
-use Rattle.law_turns.proofs.Twice.{set-back, set-twice}
+use Rattle.law_geometry.proofs.turns.Twice.{set-back, set-twice}
 use Rattle.nef_turn.proofs.turning.turning_laws.Goals as goal
 
 pub returns-clause-back : goal.returns-clause-back

@@ -1,5 +1,5 @@
 use Rattle.tests_places.proofs.Prelude.{◌≡◌, rules, sym, ◌∙◌, form_at, form_of, point_of, hit_point, Zero, same-point_sym, zero_sign, complex_of, closed-same}
-use Rattle.law_complex.proofs.EqualPoints.{edges-same}
+use Rattle.law_geometry.proofs.complex.EqualPoints.{edges-same}
 use Rattle.tests_places.proofs.rays.inside.Goals as goal
 
 pub returns-then-is_off_skeleton-clause-on : goal.returns-then-is_off_skeleton-clause-on

@@ -1,5 +1,5 @@
 use Rattle.tests_places.proofs.Prelude.{⊎_elim, point_of, IsOnEdges, IsSkeletonPoint, at_vertex, on_edge, SpacePoint, complex_of}
-use Rattle.law_complex.specs.Complexes.{Complex}
+use Rattle.law_geometry.specs.complex.Complexes.{Complex}
 use Rattle.tests_places.proofs.rays.is_off_skeleton.Goals as goal
 
 of-skeleton : (C : Complex) (y : SpacePoint) → IsOnEdges C y → IsSkeletonPoint C y

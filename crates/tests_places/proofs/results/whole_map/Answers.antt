@@ -1,6 +1,6 @@
 use Rattle.tests_places.proofs.Prelude.{◌+◌, pos, arith, sym, subst, ints, HasLabel, Germ, SpacePoint, Ratio, InFrame, Set, Vector, Label, Out, Not, In, point_of, germ_of}
 use Rattle.nef_space.specs.Sets.{Holds}
-use Rattle.law_near.proofs.Frames.{no-germ_out}
+use Rattle.law_geometry.proofs.near.Frames.{no-germ_out}
 use Rattle.tests_places.proofs.results.whole_map.Goals as goal
 
 full-label : (p : SpacePoint) → InFrame p → HasLabel Set.full p In

@@ -1,0 +1,4 @@
+pub mod near
+pub mod sphere
+pub mod complex
+pub mod turns
