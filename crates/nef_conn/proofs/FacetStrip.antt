@@ -1,8 +1,9 @@
 -- The strip between two lines along d in the plane of h: on y's line lie vertices, between it and z's line and on z's line none. g is h or its opposite, so that z lies to the right of y's line.
-use Rattle.nef_conn.proofs.Prelude.{◌≡◌, ℕ, ◌+◌, ℤ, pos, ◌+ℤ◌, ◌-ℤ◌, ◌*ℤ◌, ◌<ℤ◌, ◌≤ℤ◌, arith, refl, ap, sym, ◌∙◌, ◌⊎◌, inl, inr, ⊎_elim, ◌∷◌, subst, [], ints, sign, ring, at, num, ◌⊕◌, ◌⊖◌, ◌⊗◌, Poly, mul_pos, mul_nonneg, cancel_le, by_order, sign-scaled, nought-is, nonneg-of, minus-of, plus-of, mul_neg, Flat, FlatDim, IsVertex, SpacePoint, Form, form_at, normal_of, slope, plane_through, SamePoint, toward, IsBetween, Set, Vector, opposite, dot, cross, triple, IsZero, IsDirection, IsNormal, SameDirection, FlatDim-one, between-turned, signs-same, same-point_sym, slope-toward, toward-point, point-toward, between-same, IsAt, same-plus, same-minus, Beside, same_way, other_way, beside, turn-last, turn-same, turns, Vertex, Complex, Shows, IsVertexPoint, IsFlatIn, same-point_trans, plane-way, same-by, aligned, through-at, through-slope, angle, turn_form, turn-at, angle-turned, angle-self, angle-start, angle-inside, between-plus, between-minus, angle-cyclic, HalfEdge, plane-between, below-or, weight-positive, toward-turned, IsInTriangle, LiesAlong, zero-decided, dot-zero, triple-dot, level-opposite-back, triple-middle, triple-turned, SameDirection-turned, SameDirection-trans, dir-self, parallel-in_plane, opposite-same, dot-opposite, opposite-way, opposite-twice, direction-right, right-turn}
+use Rattle.nef_conn.proofs.Prelude.{◌≡◌, ℕ, ◌+◌, ℤ, pos, ◌+ℤ◌, ◌-ℤ◌, ◌*ℤ◌, ◌<ℤ◌, ◌≤ℤ◌, arith, refl, ap, sym, ◌∙◌, ◌⊎◌, inl, inr, ⊎_elim, ◌∷◌, subst, [], ints, sign, ring, at, num, ◌⊕◌, ◌⊖◌, ◌⊗◌, mul_pos, mul_nonneg, cancel_le, by_order, sign-scaled, nought-is, nonneg-of, minus-of, plus-of, mul_neg, Flat, FlatDim, IsVertex, SpacePoint, Form, form_at, normal_of, slope, plane_through, SamePoint, toward, IsBetween, Set, Vector, opposite, dot, cross, triple, IsZero, IsDirection, IsNormal, SameDirection, FlatDim-one, between-turned, signs-same, same-point_sym, slope-toward, toward-point, point-toward, between-same, IsAt, same-plus, same-minus, Beside, same_way, other_way, beside, turn-last, turn-same, turns, Vertex, Complex, Shows, IsVertexPoint, IsFlatIn, same-point_trans, plane-way, same-by, aligned, through-at, through-slope, angle, turn_form, turn-at, angle-turned, angle-self, angle-start, angle-inside, between-plus, between-minus, angle-cyclic, HalfEdge, plane-between, below-or, weight-positive, toward-turned, IsInTriangle, LiesAlong, zero-decided, dot-zero, triple-dot, level-opposite-back, triple-middle, triple-turned, SameDirection-turned, SameDirection-trans, dir-self, parallel-in_plane, opposite-same, dot-opposite, opposite-way, opposite-twice, direction-right, right-turn}
 use Rattle.nef_conn.proofs.Sweep.{minus-any, cut-of}
 use Rattle.nef_conn.proofs.Triangles.{half-to, never-along, third-side, at-corner, on-second}
 use Rattle.nef_conn.proofs.Sector.{Seen, seen-level}
+use Rattle.law_geometry.proofs.complex.FacetAngles.{turn_entry, way_entry}
 use Rattle.law_geometry.proofs.complex.FacetEnds.{level-normal}
 use Rattle.law_geometry.proofs.near.Same.{level-same_point, one-not_two, dim-same}
 use Rattle.nef_space.proofs.Elementary.{same-itself}
@@ -22,18 +23,11 @@ sign-through k b p q e =
     plain : (a c : ℤ) → a ≡ pos 0 → pos p.w *ℤ c -ℤ pos q.w *ℤ a ≡ pos p.w *ℤ c
     plain a c e = ap (λ r. pos p.w *ℤ c -ℤ pos q.w *ℤ r) e ∙ ring (pos p.w ∷ c ∷ pos q.w ∷ []) (at 0 ⊗ at 1 ⊖ at 2 ⊗ num (pos 0)) (at 0 ⊗ at 1) tt
 
--- the numbers of y, z and q in a list
-abbrev way : ℕ → ℕ → ℕ → Poly
-way p q k = at (q + k) ⊗ at (p + 3) ⊖ at (p + k) ⊗ at (q + 3)
-
-abbrev turn-p : ℕ → ℕ → ℕ → Poly
-turn-p y p q = at 0 ⊗ (way y p 1 ⊗ way y q 2 ⊖ way y p 2 ⊗ way y q 1) ⊕ at 1 ⊗ (way y p 2 ⊗ way y q 0 ⊖ way y p 0 ⊗ way y q 2) ⊕ at 2 ⊗ (way y p 0 ⊗ way y q 1 ⊖ way y p 1 ⊗ way y q 0)
-
 -- from y over z
 shift : (k : Vector) (y z q : SpacePoint) → pos z.w *ℤ dot k (toward y q) ≡ pos y.w *ℤ dot k (toward z q) +ℤ pos q.w *ℤ dot k (toward y z)
 shift k y z q = ring (k.x ∷ k.y ∷ k.z ∷ y.x ∷ y.y ∷ y.z ∷ pos y.w ∷ z.x ∷ z.y ∷ z.z ∷ pos z.w ∷ q.x ∷ q.y ∷ q.z ∷ pos q.w ∷ [])
-    (at 10 ⊗ (at 0 ⊗ way 3 11 0 ⊕ at 1 ⊗ way 3 11 1 ⊕ at 2 ⊗ way 3 11 2))
-    (at 6 ⊗ (at 0 ⊗ way 7 11 0 ⊕ at 1 ⊗ way 7 11 1 ⊕ at 2 ⊗ way 7 11 2) ⊕ at 14 ⊗ (at 0 ⊗ way 3 7 0 ⊕ at 1 ⊗ way 3 7 1 ⊕ at 2 ⊗ way 3 7 2)) tt
+    (at 10 ⊗ (at 0 ⊗ way_entry 3 11 0 ⊕ at 1 ⊗ way_entry 3 11 1 ⊕ at 2 ⊗ way_entry 3 11 2))
+    (at 6 ⊗ (at 0 ⊗ way_entry 7 11 0 ⊕ at 1 ⊗ way_entry 7 11 1 ⊕ at 2 ⊗ way_entry 7 11 2) ⊕ at 14 ⊗ (at 0 ⊗ way_entry 3 7 0 ⊕ at 1 ⊗ way_entry 3 7 1 ⊕ at 2 ⊗ way_entry 3 7 2)) tt
 
 plus-same_point : (F : Form) (p q : SpacePoint) → SamePoint p q → pos 0 <ℤ form_at F p → pos 0 <ℤ form_at F q
 plus-same_point F p q e h = same-plus (form_at F p) (form_at F q) (sym (signs-same (F ∷ []) p q e F (inl refl))) h

@@ -1,6 +1,7 @@
 -- Triangles that lie between two lines along up, beside which no vertex lies: what falls from the one side comes down to what leaves the other.
 use Rattle.nef_conn.proofs.Prelude.{◌≡◌, ℕ, ◌+◌, ℤ, pos, ◌+ℤ◌, ◌-ℤ◌, ◌*ℤ◌, ◌<ℤ◌, ◌≤ℤ◌, neg_ℤ, arith, ap, sym, ◌∙◌, ◌⊎◌, inl, inr, ⊎_elim, ◌∷◌, List, refl, [], ints, sign, Lies, ring, at, num, neg, ◌⊕◌, ◌⊖◌, ◌⊗◌, Poly, by_order, mul_pos, mul_nonneg, cancel_lt, plus-is, minus-is, nought-is, sign-plus, sign-minus, plus-of, FlatDim, IsVertex, SpacePoint, Form, form_at, normal_of, slope, plane_through, SamePoint, toward, IsBetween, Within, Set, Vector, opposite, cross, triple, IsDirection, SameDirection, up, FlatDim-one, same-nought, between-way, turn-last, turns, same-plus, same-minus, IsFlatIn, through-at, angle, turn-at, angle-turned, angle-inside, between-plus, IsInTriangle, LiesAlong, vector-same, triple-dot, triple-turned, SameDirection-turned, SameDirection-trans, apart, right-turn, each, lies-each, keeps-all, signs-same, all-vertices, reach_all, nonneg-of}
 use Rattle.nef_conn.proofs.Triangles.{on-second, at-corner, never-passes, third-side}
+use Rattle.law_geometry.proofs.complex.FacetAngles.{way_entry}
 use Rattle.law_geometry.proofs.near.Meets.{triple-same}
 use Rattle.law_geometry.proofs.near.Same.{dim-same}
 
@@ -26,12 +27,9 @@ sum-zero t b c d e q hb hd hc he =
     )
 
 -- ---- about a line along up
-abbrev way-p : ℕ → ℕ → ℕ → Poly
-way-p p q k = at (q + k) ⊗ at (p + 3) ⊖ at (p + k) ⊗ at (q + 3)
-
 -- [n, up, from p to q], where n stands at 0 and up at 3
 abbrev up-p : ℕ → ℕ → Poly
-up-p p q = at 0 ⊗ (at 4 ⊗ way-p p q 2 ⊖ at 5 ⊗ way-p p q 1) ⊕ at 1 ⊗ (at 5 ⊗ way-p p q 0 ⊖ at 3 ⊗ way-p p q 2) ⊕ at 2 ⊗ (at 3 ⊗ way-p p q 1 ⊖ at 4 ⊗ way-p p q 0)
+up-p p q = at 0 ⊗ (at 4 ⊗ way_entry p q 2 ⊖ at 5 ⊗ way_entry p q 1) ⊕ at 1 ⊗ (at 5 ⊗ way_entry p q 0 ⊖ at 3 ⊗ way_entry p q 2) ⊕ at 2 ⊗ (at 3 ⊗ way_entry p q 1 ⊖ at 4 ⊗ way_entry p q 0)
 
 -- positive where q lies to the one side of p's line
 abbrev pub lam : Vector → SpacePoint → SpacePoint → ℤ

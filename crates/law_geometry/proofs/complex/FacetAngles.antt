@@ -89,15 +89,17 @@ angle-start n y p = dot-zero n (cross (toward y p) (toward y y)) (each p.y p.z y
     each a b c d = ring (a ∷ b ∷ c ∷ d ∷ pos y.w ∷ pos p.w ∷ []) ((at 0 ⊗ at 4 ⊖ at 2 ⊗ at 5) ⊗ (at 3 ⊗ at 4 ⊖ at 3 ⊗ at 4) ⊖ (at 1 ⊗ at 4 ⊖ at 3 ⊗ at 5) ⊗ (at 2 ⊗ at 4 ⊖ at 2 ⊗ at 4)) (num (pos 0)) tt
 
 -- from z to w, y lies on the side on which, seen from y, w lies left of z
-abbrev way-p : ℕ → ℕ → ℕ → Poly
-way-p p q k = at (q + k) ⊗ at (p + 3) ⊖ at (p + k) ⊗ at (q + 3)
+-- the way from p to q, and the turn from the way to p to the way to q, seen from y, where a list has their numbers from
+-- these on, and those of the normal from 0
+abbrev pub way_entry : ℕ → ℕ → ℕ → Poly
+way_entry p q k = at (q + k) ⊗ at (p + 3) ⊖ at (p + k) ⊗ at (q + 3)
 
-abbrev turn-p : ℕ → ℕ → ℕ → Poly
-turn-p y p q = at 0 ⊗ (way-p y p 1 ⊗ way-p y q 2 ⊖ way-p y p 2 ⊗ way-p y q 1) ⊕ at 1 ⊗ (way-p y p 2 ⊗ way-p y q 0 ⊖ way-p y p 0 ⊗ way-p y q 2) ⊕ at 2 ⊗ (way-p y p 0 ⊗ way-p y q 1 ⊖ way-p y p 1 ⊗ way-p y q 0)
+abbrev pub turn_entry : ℕ → ℕ → ℕ → Poly
+turn_entry y p q = at 0 ⊗ (way_entry y p 1 ⊗ way_entry y q 2 ⊖ way_entry y p 2 ⊗ way_entry y q 1) ⊕ at 1 ⊗ (way_entry y p 2 ⊗ way_entry y q 0 ⊖ way_entry y p 0 ⊗ way_entry y q 2) ⊕ at 2 ⊗ (way_entry y p 0 ⊗ way_entry y q 1 ⊖ way_entry y p 1 ⊗ way_entry y q 0)
 
 pub angle-cyclic : (n : Vector) (y z w : SpacePoint) → pos z.w *ℤ angle n y z w ≡ pos y.w *ℤ angle n z w y
 angle-cyclic n y z w = ring (n.x ∷ n.y ∷ n.z ∷ y.x ∷ y.y ∷ y.z ∷ pos y.w ∷ z.x ∷ z.y ∷ z.z ∷ pos z.w ∷ w.x ∷ w.y ∷ w.z ∷ pos w.w ∷ [])
-    (at 10 ⊗ turn-p 3 7 11) (at 6 ⊗ turn-p 7 11 3) tt
+    (at 10 ⊗ turn_entry 3 7 11) (at 6 ⊗ turn_entry 7 11 3) tt
 
 pub angle-inside : (n : Vector) (y z w : SpacePoint) → pos 0 <ℤ angle n y z w → pos 0 <ℤ angle n z w y
 angle-inside n y z w h = plain (angle n y z w) (angle n z w y) (angle-cyclic n y z w) h
