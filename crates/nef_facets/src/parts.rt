@@ -1,3 +1,5 @@
+//! The facets of a complex with their planes, marks and cycles, and the facet of each item.
+
 ghost use Rattle.std.specs.Prelude.{◌↔◌, ◌≡◌, ◌++◌};
 ghost use Rattle.nef_facets.specs.Prelude.{map, IfOk, OnOk, length, Set, Corner as PlainCorner, complex_of, ShowsSet, count_items, FacetNumbers, Complex as PlainComplex, FacetLink, AreTied, AreTiedWithin, cell_of, IsFacetParts, AreFirsts, ArePlanesAt, AreMarksAt, corners_at, AreCorners, AreListed, StandFrom};
 

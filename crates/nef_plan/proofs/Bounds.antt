@@ -9,7 +9,7 @@ use Rattle.nef_plan.proofs.Rows.{row-grown}
 tells-grown : (old new : Drafts) (l : List Command) (P : ℕ → Type 0) (k : ℕ) (b : Bound) → HasGrown old new l → AddsOnly old new P → (P k → ⊥) → Tells old k b → Tells new k b
 tells-grown old new l P k No h adds not tells = free-grown old new l P k h adds not tells
 tells-grown old new l P k Made h adds not tells = ready-grown old new l k h tells
-tells-grown old new l P k (Deferred row) h adds not tells = (free-grown old new l P k h adds not tells.0, row-grown old new l row.kind (row_parts row) k h tells.1)
+tells-grown old new l P k (Deferred row) h adds not tells = (free-grown old new l P k h adds not tells.0, row-grown old new l row.kind (row_parts row) k h tells.1, tells.2)
 
 -- a plan that has grown, with something told of one node
 planned-set : (old new : Drafts) (l : List Command) (bounds : List Bound) (n : ℕ) (b : Bound) → ArePlanned old bounds → HasGrown old new l → AddsOnly old new (λ k. k ≡ n) → n < length bounds → Tells new n b → ArePlanned new (slice_set bounds n b)

@@ -9,4 +9,5 @@ pub mod Ordering
 pub mod Valued
 pub mod Ended
 pub mod Followed
+pub mod Counted
 pub mod Planned

@@ -1,9 +1,10 @@
 -- The steps of a plan are those of its drafts.
-use Rattle.nef_plan.proofs.Prelude.{◌≡◌, ◌∙◌, ℕ, ◌<◌, ◌≤◌, refl, ap, sym, subst, arith, cases_eq, cases_lt, List, ◌∷◌, ◌++◌, length, inl, inr, ⊎_elim, Option, None, Some, filter, All, IfSome, unwrap_or, All-filter, Node, node_set, Command, SpeaksOfFirst, Draft, Step, AreAlike, AreDrafts, AreNeeded, AreTimely, HasMore, IsRightDraft, DraftLooksAt, Makes, asked, task_over, tasks_in, tasks_over, value_of, AsksAbout, IsDue, first_asked, is_question, second_asked, AreEndedAt, AsksNamed, IsAnswered, IsPlanOf, IsTask, IsTimely, IsValue, IsValueOf, MakesValue, name_of, value_set}
+use Rattle.nef_plan.proofs.Prelude.{◌≡◌, ◌∙◌, ℕ, ◌+◌, ◌*◌, ◌<◌, ◌≤◌, refl, ap, sym, subst, arith, cases_eq, cases_lt, List, ◌∷◌, ◌++◌, length, inl, inr, ⊎_elim, Option, None, Some, filter, All, IfSome, unwrap_or, All-filter, Node, node_set, Command, SpeaksOfFirst, Draft, Step, AreAlike, AreDrafts, AreNeeded, AreTimely, HasMore, IsRightDraft, DraftLooksAt, Makes, asked, task_over, tasks_in, tasks_over, value_of, AsksAbout, IsDue, first_asked, is_question, second_asked, AreEndedAt, AsksNamed, IsAnswered, IsPlanOf, IsTask, IsTimely, IsValue, IsValueOf, MakesValue, asked_values, joins_a_line, name_of, value_set}
 use Rattle.std.proofs.Common.{slice_get, slice_index}
 use Rattle.nef_script.specs.declared.script.Command.TheVariants as command
 use Rattle.nef_plan.specs.declared.planner.Draft.TheVariants as draft
 use Rattle.nef_plan.proofs.Added.{all-at}
+use Rattle.nef_plan.proofs.Counted.{questions-few, steps-few}
 use Rattle.nef_plan.proofs.Growth.{asked-append, makes-within}
 use Rattle.nef_plan.proofs.Valued.{asks-some, task-is, value-makes}
 use Rattle.nef_plan.proofs.Followed.{FollowsDrafts, FollowsAt, IsHeldByStep, asked-follows, asked-here, follows-each, follows-none, draft-there, looked-at, looks-held, looks-here, name-here, name_in, needed-names, new-here, right-here, set-here, task-here}
@@ -66,8 +67,8 @@ asks-named nodes named values (draft.Ask c) right h = (
 -- ---- the plan
 module _ (given nodes : List Node) (commands : List Command) (drafts : List Draft) (steps : List Step) (values : List ℕ) where
   pub planned : All (SpeaksOfFirst (length given)) commands → HasMore given nodes → AreDrafts nodes drafts → asked drafts ≡ filter is_question commands → AreTimely given commands drafts → AreNeeded drafts
-      → length nodes ≤ length values → tasks_in steps ≡ tasks_over values 0 drafts → AreEndedAt steps → IsPlanOf given commands steps
-  planned within more are asks timely needed table tasks ends = record {
+      → length nodes ≤ length given + joins_a_line * length commands → length nodes ≤ length values → tasks_in steps ≡ tasks_over values 0 drafts → AreEndedAt steps → IsPlanOf given commands steps
+  planned within more are asks timely needed joins table tasks ends = record {
     right = record {
       tasks = λ i s at. let o = each i s at in subst IsTask (sym (task-here nodes drafts steps are i s o)) (task-is nodes o.follows.values o.d (right-here nodes drafts steps are i s o));
       made_before = λ i s at k looks.
@@ -76,28 +77,19 @@ module _ (given nodes : List Node) (commands : List Command) (drafts : List Draf
     };
     ends = ends;
     answered = record {
-      asked = asked-follows nodes drafts steps are drafts steps 0 follows ∙ asks;
+      asked = asks-same;
       right = λ i s at. let o = each i s at in subst (IsAnswered given steps) (sym (task-here nodes drafts steps are i s o))
           (answered given nodes steps o.follows.values i drafts o.d o.follows.df o.dr more (right-here nodes drafts steps are i s o) (looks-held nodes drafts steps are i s o) (subst (λ z. All (SpeaksOfFirst (length given)) (asked z)) o.follows.drafts_are asked-within));
     };
     all = nodes;
     named = name_in drafts;
     more = more;
-    within = λ k s at makes.
-        let o = each k s at in
-        let (n, is) = made-by k s o makes in
-        subst (λ z. z < length nodes) (sym (name-here nodes drafts steps are k s o n is)) (makes-within nodes o.d n (right-here nodes drafts steps are k s o) is);
+    within = named-within;
     sets = λ k s at makes.
         let o = each k s at in
         let (n, is) = made-by k s o makes in
         subst (λ z. AreAlike (value_set steps k) (node_set nodes z)) (sym (name-here nodes drafts steps are k s o n is)) (set-here nodes drafts steps are k s o n is);
-    once = λ j k first second same. elim (cases_eq j k) [
-      | inl e ↦ e
-      | inr other ↦ elim (cases_lt j k) [
-        | inl low ↦ absurd (twice-not j k low first second same)
-        | inr past ↦ absurd (twice-not k j (omega (arith, past, other)) second first (sym same))
-      ]
-    ];
+    once = named-once;
     asks = λ i s at. let o = each i s at in subst (AsksNamed (name_in drafts)) (sym (task-here nodes drafts steps are i s o))
         (asks-named nodes (name_in drafts) o.follows.values o.d (right-here nodes drafts steps are i s o) (λ k looks. (looks-held nodes drafts steps are i s o k looks).name));
     timely = λ k s at makes.
@@ -108,6 +100,11 @@ module _ (given nodes : List Node) (commands : List Command) (drafts : List Draf
         (λ of. let (v, looks, name) = looks-here nodes drafts steps are k s o of.1.0 of.1.1 in inr (of.0, (v, looks)))
         (timely.each o.follows.df o.dr o.d o.follows.drafts_are n is));
     needed = needed-names nodes drafts steps are drafts steps 0 follows needed;
+    few =
+        let most = steps-few steps (length nodes) (name_in drafts) named-within named-once in
+        let asked = ap length asks-same in
+        let questions = questions-few commands in
+        omega (arith, most, asked, questions, joins);
   }
     where
       follows : FollowsDrafts nodes drafts steps 0 drafts steps
@@ -127,6 +124,24 @@ module _ (given nodes : List Node) (commands : List Command) (drafts : List Draf
           let (n, second) = made-by k t p also in
           let e : m ≡ n = sym (name-here nodes drafts steps are j s o m first) ∙ same ∙ name-here nodes drafts steps are k t p n second in
           new-here nodes drafts steps are k t p n second j o.d low (draft-there nodes drafts steps are j s o) (subst (Makes o.d) e first)
+
+      asks-same : asked_values steps ≡ filter is_question commands
+      asks-same = asked-follows nodes drafts steps are drafts steps 0 follows ∙ asks
+
+      named-within : (k : ℕ) (s : Step) → slice_get steps k ≡ Some s → MakesValue s.task → name_in drafts k < length nodes
+      named-within k s at makes =
+          let o = each k s at in
+          let (n, is) = made-by k s o makes in
+          subst (λ z. z < length nodes) (sym (name-here nodes drafts steps are k s o n is)) (makes-within nodes o.d n (right-here nodes drafts steps are k s o) is)
+
+      named-once : (j k : ℕ) → IsValue steps j → IsValue steps k → name_in drafts j ≡ name_in drafts k → j ≡ k
+      named-once j k first second same = elim (cases_eq j k) [
+        | inl e ↦ e
+        | inr other ↦ elim (cases_lt j k) [
+          | inl low ↦ absurd (twice-not j k low first second same)
+          | inr past ↦ absurd (twice-not k j (omega (arith, past, other)) second first (sym same))
+        ]
+      ]
 
       asked-within : All (SpeaksOfFirst (length given)) (asked drafts)
       asked-within = subst (All (SpeaksOfFirst (length given))) (sym asks) (All-filter is_question (SpeaksOfFirst (length given)) commands within)

@@ -12,6 +12,6 @@ pub use Rattle.nef_plan.specs.Groups.{AreGrouped, group}
 pub use Rattle.nef_plan.specs.Numbers.{AreLastUses, AreUses, IsDraftBelow, IsLastAt, IsUsedBy, LookBelow, over, put_value, task_over, tasks_in, tasks_over, value_of}
 pub use Rattle.nef_plan.specs.Questions.{AreWorkable, AsksAbout, first_asked, is_question, second_asked}
 pub use Rattle.nef_plan.specs.Rows.{AreOfOneKind, ArePlanned, PartsAreReady, BeginsWith, GoesOn, AddsOnly, HasGrown, IsBoundIn, IsFree, IsNodeReady, IsRowOf, combined, joined, row_parts, spare}
-pub use Rattle.nef_plan.specs.Values.{AreEndedAt, IsPlanOf, LooksAtValue, first_of, first_value, second_of, second_value}
+pub use Rattle.nef_plan.specs.Values.{AreEndedAt, IsPlanOf, LooksAtValue, first_of, first_value, second_of, second_value, joins_a_line}
 pub use Rattle.nef_plan.specs.declared.planner.Draft.{Draft}
 pub use Rattle.nef_plan.specs.declared.planner.Drafts.{Drafts}

@@ -1,11 +1,12 @@
 -- Rows of operations that are worked as trees, and what is known of a plan while it's made.
-use Rattle.std.specs.Prelude.{◌≡◌, ◌⊎◌, ℕ, All, ◌<◌, List, [], ◌∷◌, ◌++◌, Some, length, slice_get}
+use Rattle.std.specs.Prelude.{◌≡◌, ◌⊎◌, ℕ, All, ◌<◌, ◌≤◌, List, [], ◌∷◌, ◌++◌, Some, length, slice_get}
 use Rattle.nef_space.specs.Sets.{Set}
 use Rattle.nef_expr.specs.declared.nodes.Node.{Node}
 use Rattle.nef_expr.specs.Nodes.{node_set}
 use Rattle.nef_script.specs.declared.script.Command.{Command}
 use Rattle.nef_plan.specs.declared.planner.Drafts.{Drafts}
 use Rattle.nef_plan.specs.declared.planner.Draft.{Draft}
+use Rattle.nef_plan.specs.declared.row.TheConstants.{MOST_PARTS}
 use Rattle.nef_plan.specs.declared.row.RowKind.{RowKind}
 use Rattle.nef_plan.specs.declared.row.RowKind.TheVariants.{Union, Exclusive, Difference}
 use Rattle.nef_plan.specs.declared.row.Row.{Row}
@@ -86,11 +87,11 @@ row_parts row = row.others.items ++ row.last ∷ []
 abbrev pub IsRowOf : Drafts → Row → ℕ → Type 0
 IsRowOf plan row k = RowMakesSet plan row.kind (row_parts row) k
 
--- what is told of node k
+-- what is told of node k; a row that is put off has few parts
 abbrev pub Tells : Drafts → ℕ → Bound → Type 0
 Tells plan k No = IsFree plan k
 Tells plan k Made = IsNodeReady plan k
-Tells plan k (Deferred row) = IsFree plan k × IsRowOf plan row k
+Tells plan k (Deferred row) = IsFree plan k × IsRowOf plan row k × (length row.others.items ≤ MOST_PARTS)
 
 -- the steps are right, and so is what is told of each node
 pub record ArePlanned (plan : Drafts) (bounds : List Bound) : Type 0 where

@@ -1,10 +1,11 @@
 -- The values of a script's work: the sets that its steps make, by the numbers of the steps.
-use Rattle.std.specs.Prelude.{◌≡◌, ◌↔◌, ◌⊎◌, ℕ, ◌+◌, ◌<◌, ◌≤◌, true, List, [], ◌∷◌, ◌++◌, Option, None, Some, length, filter, slice_get, take}
+use Rattle.std.specs.Prelude.{◌≡◌, ◌↔◌, ◌⊎◌, ℕ, ◌+◌, ◌*◌, ◌<◌, ◌≤◌, true, List, [], ◌∷◌, ◌++◌, Option, None, Some, length, filter, slice_get, take}
 use Rattle.law_geometry.specs.turns.Turned.{turned_set}
 use Rattle.nef_space.specs.Sets.{Set}
 use Rattle.nef_expr.specs.declared.nodes.Node.{Node}
 use Rattle.nef_expr.specs.Nodes.{Shape, node_set, operand, set_of, shape_of, IsOperand}
 use Rattle.nef_script.specs.declared.script.Command.{Command}
+use Rattle.nef_plan.specs.declared.row.TheConstants.{MOST_PARTS}
 use Rattle.nef_plan.specs.declared.step.Step.{Step}
 use Rattle.nef_plan.specs.declared.step.Task.{Task}
 use Rattle.nef_plan.specs.declared.step.Task.TheVariants.{Make, Turn, Ask}
@@ -158,7 +159,11 @@ AsksNamed named (Make m) = Unit {0}
 AsksNamed named (Turn j t) = Unit {0}
 AsksNamed named (Ask c i second) = (first_asked c.now ≡ Some (named i)) × (second_asked c.now ≡ name_of named second)
 
--- the steps ask the script's questions, each about the values that its nodes name; and each value that they make is the set of the node that is its name, one of the script's or of more behind them and no other value's, and is made neither before its line's turn nor before it's needed
+-- the most parts that the rows are joined to for one line: it wants the sets of two nodes, and adds a part to a row
+abbrev pub joins_a_line : ℕ
+joins_a_line = 2 * MOST_PARTS + 1
+
+-- the steps ask the script's questions, each about the values that its nodes name; and each value that they make is the set of the node that is its name, one of the script's or of more behind them and no other value's, and is made neither before its line's turn nor before it's needed; beside the script's nodes and questions there are no more steps than each line joins parts of rows
 pub record IsPlanOf (nodes : List Node) (commands : List Command) (steps : List Step) : Type 0 where
   pub right : AreSteps steps
   pub ends : AreEndedAt steps
@@ -172,3 +177,4 @@ pub record IsPlanOf (nodes : List Node) (commands : List Command) (steps : List 
   pub asks : (k : ℕ) (s : Step) → slice_get steps k ≡ Some s → AsksNamed named s.task
   pub timely : (k : ℕ) (s : Step) → slice_get steps k ≡ Some s → MakesValue s.task → IsTimely nodes commands steps k s.task (named k)
   pub needed : AreNamesNeeded named 0 steps
+  pub few : length steps ≤ length nodes + (joins_a_line + 1) * length commands

@@ -1,12 +1,12 @@
 //! Drafts of steps, and those that make the sets of nodes.
 
-ghost use Rattle.std.specs.Prelude.{◌≡◌, ◌<◌, ◌≤◌, ◌∷◌, ◌++◌, ◌⊎◌};
-ghost use Rattle.nef_plan.specs.Prelude.{ℕ, IfOk, IfSome, OnOk, length, Some, [], node_set, set_of, sets_after, IsOperand, PartsAreReady, ArePlanned, GoesOn, AddsOnly, HasGrown, IsBoundIn, IsFree, IsNodeReady, IsRowOf, AreOfOneKind, BeginsWith, combined, joined, row_parts, spare, AreDrafts, IsMade, IsRightDraft, DraftLooksAt, Makes, MayFollow, asked, Drafts as State};
+ghost use Rattle.std.specs.Prelude.{◌≡◌, ◌<◌, ◌≤◌, ◌∷◌, ◌++◌, ◌⊎◌, ◌+◌};
+ghost use Rattle.nef_plan.specs.Prelude.{ℕ, IfOk, IfSome, OnOk, length, Some, [], node_set, set_of, sets_after, IsOperand, PartsAreReady, ArePlanned, GoesOn, AddsOnly, HasGrown, IsBoundIn, IsFree, IsNodeReady, IsRowOf, AreOfOneKind, BeginsWith, combined, joined, row_parts, spare, AreDrafts, IsMade, IsRightDraft, DraftLooksAt, Makes, MayFollow, asked, joins_a_line, Drafts as State};
 
 use crate::OutOfMemory;
 use crate::hints::Hint;
 use crate::planning::{looked_at, made_by};
-use crate::row::{Bound, Row, RowKind};
+use crate::row::{Bound, MOST_PARTS, Row, RowKind};
 use nef_expr::{Node, Nodes};
 use nef_script::Command;
 use std::alloc::Global;
@@ -59,6 +59,7 @@ fn joined_part(
     ensures grown { IfOk result (λ p. HasGrown plan.old plan.new []) }
     ensures ready { IfOk result (λ p. IsNodeReady plan.new p) }
     ensures added { IfOk result (λ p. AddsOnly plan.old plan.new (λ k. ⊥)) }
+    ensures one { IfOk result (λ p. length plan.new.nodes ≡ length plan.old.nodes + 1) }
     ensures set { IfOk result (λ p. node_set plan.new.nodes p ≡ joined kind (node_set plan.old.nodes first) (node_set plan.old.nodes second)) }
 {
     let made = kind.join(first, second);
@@ -76,6 +77,7 @@ fn join_last(plan: &mut Drafts, row: &mut Row) -> Result<(), OutOfMemory>
     ensures added { OnOk result (AddsOnly plan.old plan.new (λ k. ⊥)) }
     ensures kind { OnOk result (row.new.kind ≡ row.old.kind) }
     ensures row { OnOk result ((k : ℕ) → IsRowOf plan.old row.old k → IsRowOf plan.new row.new k) }
+    ensures joins { OnOk result (length plan.new.nodes + length row.new.others.items ≤ length plan.old.nodes + length row.old.others.items) }
     ensures fewer { OnOk result (0 < length row.old.others.items → length row.new.others.items < length row.old.others.items) }
 {
     if let Some(part) = row.others.pop() {
@@ -92,6 +94,7 @@ fn join_parts(plan: &mut Drafts, row: &mut Row, others: usize) -> Result<(), Out
     ensures added { OnOk result (AddsOnly plan.old plan.new (λ k. ⊥)) }
     ensures kind { OnOk result (row.new.kind ≡ row.old.kind) }
     ensures few { OnOk result (length row.new.others.items ≤ others) }
+    ensures joins { OnOk result (length plan.new.nodes + length row.new.others.items ≤ length plan.old.nodes + length row.old.others.items) }
     ensures row { OnOk result ((k : ℕ) → IsRowOf plan.old row.old k → IsRowOf plan.new row.new k) }
 {
     while row.others.len() > others {
@@ -107,6 +110,7 @@ fn finish(plan: &mut Drafts, row: &mut Row, node: usize) -> Result<(), OutOfMemo
     requires row { IsRowOf plan.old row.old node }
     ensures grown { OnOk result (HasGrown plan.old plan.new []) }
     ensures added { OnOk result (AddsOnly plan.old plan.new (λ k. k ≡ node)) }
+    ensures joins { OnOk result (length plan.new.nodes ≤ length plan.old.nodes + length row.old.others.items) }
     ensures ready { OnOk result (IsNodeReady plan.new node) }
 {
     let spare = row.spare();
@@ -121,6 +125,7 @@ fn demand(plan: &mut Drafts, bounds: &mut [Bound], wanted: Option<usize>) -> Res
     requires bound { IfSome wanted (IsBoundIn bounds.old) }
     ensures goes_on { OnOk result (GoesOn plan.old bounds.old plan.new bounds.new []) }
     ensures only { OnOk result ((k : ℕ) → IsBoundIn bounds.new k → IsBoundIn bounds.old k) }
+    ensures joins { OnOk result (length plan.new.nodes ≤ length plan.old.nodes + MOST_PARTS) }
     ensures ready { OnOk result (IfSome wanted (IsNodeReady plan.new)) }
 {
     let Some(node) = wanted else {
@@ -144,6 +149,7 @@ pub(crate) fn add_draft<'a>(
     requires right { IsRightDraft plan.old.nodes step }
     requires unbound { (k : ℕ) → Makes step k → (k < length bounds.old) × (IsBoundIn bounds.old k → ⊥) }
     ensures goes_on { OnOk result (GoesOn plan.old bounds.old plan.new bounds.new (asked (step.entry ∷ []))) }
+    ensures joins { OnOk result (length plan.new.nodes ≤ length plan.old.nodes + joins_a_line) }
     ensures bound { OnOk result ((k : ℕ) → Makes step.entry k → IsBoundIn bounds.new k) }
     ensures only { OnOk result ((k : ℕ) → IsBoundIn bounds.new k → IsBoundIn bounds.old k ⊎ Makes step.entry k) }
 {
@@ -165,7 +171,7 @@ fn row_at(
     node: usize,
 ) -> Result<Option<Row>, OutOfMemory>
     requires bound { IsBoundIn bounds.now node }
-    ensures row { IfOk result (λ o. (r : Row) → o ≡ Some r → AreOfOneKind r.kind kind × ((plan : State) → ArePlanned plan bounds.now → IsRowOf plan r node)) }
+    ensures row { IfOk result (λ o. (r : Row) → o ≡ Some r → AreOfOneKind r.kind kind × ((plan : State) → ArePlanned plan bounds.now → IsRowOf plan r node × (length r.others.items ≤ MOST_PARTS))) }
 {
     match &bounds[node] {
         Bound::Deferred(row) if row.kind.is_like(kind) => Ok(Some(row.copied(alloc)?)),
@@ -189,6 +195,7 @@ fn row_of(
     requires second { IsBoundIn bounds.old second }
     ensures goes_on { IfOk result (λ r. GoesOn plan.old bounds.old plan.new bounds.new []) }
     ensures only { IfOk result (λ r. (k : ℕ) → IsBoundIn bounds.new k → IsBoundIn bounds.old k) }
+    ensures joins { IfOk result (λ r. length plan.new.nodes + length r.others.items ≤ length plan.old.nodes + joins_a_line) }
     ensures row { IfOk result (λ r. (k : ℕ) → k < length plan.new.nodes → node_set plan.new.nodes k ≡ combined kind (node_set plan.new.nodes first) (node_set plan.new.nodes second) → IsRowOf plan.new r k) }
 {
     demand(plan, bounds, Some(second))?;
@@ -221,13 +228,14 @@ fn bind_row(
     requires within { node < length plan.old.nodes }
     requires set { node_set plan.old.nodes node ≡ combined kind (node_set plan.old.nodes first) (node_set plan.old.nodes second) }
     ensures goes_on { OnOk result (GoesOn plan.old bounds.old plan.new bounds.new []) }
+    ensures joins { OnOk result (length plan.new.nodes ≤ length plan.old.nodes + joins_a_line) }
     ensures bound { OnOk result (IsBoundIn bounds.new node) }
     ensures only { OnOk result ((k : ℕ) → IsBoundIn bounds.new k → IsBoundIn bounds.old k ⊎ (k ≡ node)) }
 {
     let mut row = row_of(alloc, plan, bounds, kind, first, second)?;
     match hints[node] {
         Hint::GoesOn { others } => {
-            join_parts(plan, &mut row, others)?;
+            join_parts(plan, &mut row, others.min(MOST_PARTS))?;
             bounds[node] = Bound::Deferred(row);
         }
         Hint::Made => {
@@ -255,6 +263,7 @@ pub(crate) fn bind(
     requires within { node < length plan.old.nodes }
     requires set { node_set plan.old.nodes node ≡ set_of (sets_after [] plan.old.nodes) made }
     ensures goes_on { OnOk result (GoesOn plan.old bounds.old plan.new bounds.new []) }
+    ensures joins { OnOk result (length plan.new.nodes ≤ length plan.old.nodes + joins_a_line) }
     ensures bound { OnOk result (IsBoundIn bounds.new node) }
     ensures only { OnOk result ((k : ℕ) → IsBoundIn bounds.new k → IsBoundIn bounds.old k ⊎ (k ≡ node)) }
 {

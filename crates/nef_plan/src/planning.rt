@@ -1,7 +1,7 @@
 //! The plan of a script.
 
-ghost use Rattle.std.specs.Prelude.{◌≡◌, ◌↔◌, ◌⊎◌, ◌<◌, ◌∷◌};
-ghost use Rattle.nef_plan.specs.Prelude.{ℕ, true, Some, IfOk, IfSome, OnOk, filter, length, vec_len, slice_get, [], Binds, TurnsRight, SpeaksOfFirst, ArePlanned, GoesOn, IsBoundIn, AreDrafts, AreTimely, HasMore, IsDraftBelow, DraftLooksAt, Makes, asked, AreWorkable, AsksAbout, first_asked, is_question, second_asked, IsPlanOf};
+ghost use Rattle.std.specs.Prelude.{◌≡◌, ◌↔◌, ◌⊎◌, ◌<◌, ◌≤◌, ◌+◌, ◌*◌, ◌∷◌};
+ghost use Rattle.nef_plan.specs.Prelude.{ℕ, true, Some, IfOk, IfSome, OnOk, filter, length, vec_len, slice_get, [], Binds, TurnsRight, SpeaksOfFirst, ArePlanned, GoesOn, IsBoundIn, AreDrafts, AreTimely, HasMore, IsDraftBelow, DraftLooksAt, Makes, asked, AreWorkable, AsksAbout, first_asked, is_question, second_asked, IsPlanOf, joins_a_line};
 ghost use Rattle.nef_expr.specs.Nodes.{IsOrdered};
 ghost use Rattle.nef_script.specs.Commands.{LooksAt};
 ghost use Rattle.nef_plan.specs.declared.row.Bound.TheVariants as bound;
@@ -106,6 +106,7 @@ fn add_command<'a>(
     requires hints { length hints.now ≡ length bounds.old }
     requires more { HasMore nodes.now plan.old.nodes }
     ensures goes_on { OnOk result (GoesOn plan.old bounds.old plan.new bounds.new (filter is_question (command.entry.now ∷ []))) }
+    ensures joins { OnOk result (length plan.new.nodes ≤ length plan.old.nodes + joins_a_line) }
     ensures bound { OnOk result ((k : ℕ) → Binds command.entry.now k → IsBoundIn bounds.new k) }
     ensures only { OnOk result ((k : ℕ) → IsBoundIn bounds.new k → IsBoundIn bounds.old k ⊎ Binds command.entry.now k) }
 {
@@ -152,6 +153,7 @@ fn add_commands<'a>(
     requires unbound { (k : ℕ) → IsBoundIn bounds.old k → ⊥ }
     ensures steps { OnOk result (AreDrafts plan.new.nodes plan.new.steps.items) }
     ensures nodes { OnOk result (HasMore script.entry.now.nodes plan.new.nodes) }
+    ensures joins { OnOk result (length plan.new.nodes ≤ length plan.old.nodes + joins_a_line * length script.entry.now.commands) }
     ensures asked { OnOk result (asked plan.new.steps.items ≡ filter is_question script.entry.now.commands) }
     ensures timely { OnOk result (AreTimely script.entry.now.nodes script.entry.now.commands plan.new.steps.items) }
 {

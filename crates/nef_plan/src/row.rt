@@ -7,6 +7,9 @@ use crate::OutOfMemory;
 use nef_expr::Node;
 use std::alloc::Global;
 
+/// The most parts beside the last that a row has where its operation is put off: so each line joins few.
+pub(crate) const MOST_PARTS: usize = 64;
+
 /// What the operations of a row make.
 #[derive(Clone, Copy)]
 pub(crate) enum RowKind {
@@ -73,6 +76,7 @@ impl Row {
         second: usize,
     ) -> Result<Row, OutOfMemory>
         requires begins { BeginsWith kind first }
+        ensures few { IfOk result (λ r. length r.others.items ≤ 1) }
         ensures row { IfOk result (λ r. (plan : State) (k : ℕ) → k < length plan.nodes → IsNodeReady plan first → IsNodeReady plan second → node_set plan.nodes k ≡ combined kind (node_set plan.nodes first) (node_set plan.nodes second) → IsRowOf plan r k) }
     {
         let mut others = Vec::new(alloc);

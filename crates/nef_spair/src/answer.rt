@@ -1,3 +1,5 @@
+//! Which kind of point the centre of a sphere map is.
+
 use nef_geo::Dir;
 
 /// Where a point lies in a set. An edge is named by the greater of its two directions, a facet by its normal.

@@ -1,5 +1,5 @@
 use Rattle.std.proofs.Common.{rules}
-use Rattle.nef_plan.proofs.Prelude.{◌≡◌, ◌∙◌, ◌<◌, ◌∷◌, ℕ, Option, None, Some, [], length, arith, subst, sym, inl, inr, IfSome, Made, AddsOnly, GoesOn, DraftLooksAt, IsBoundIn, IsMade, IsNodeReady, Makes, asked}
+use Rattle.nef_plan.proofs.Prelude.{◌≡◌, ◌∙◌, ◌<◌, ◌≤◌, ◌+◌, ◌∷◌, ℕ, ap, Option, None, Some, [], length, arith, subst, sym, inl, inr, IfSome, Made, AddsOnly, GoesOn, DraftLooksAt, IsBoundIn, IsMade, IsNodeReady, Makes, asked, joins_a_line}
 use Rattle.nef_plan.proofs.Growth.{makes-one, makes-within, ready-grown, right-more}
 use Rattle.nef_plan.proofs.Added.{added-one}
 use Rattle.nef_plan.proofs.Bounds.{on-grown, on-set, on-trans, bound-before, bound-here, some-all, unbound-free}
@@ -39,6 +39,9 @@ made-here c k looks =
 
 within-here : (c : In_ok-demand-2) (k : ℕ) → Makes c.args.step k → k < length c.demand-2.new.bounds
 within-here c k makes = let below = (c.requires.unbound k makes).0 in omega (arith, below, c.demand.auto.bounds, c.demand-2.auto.bounds)
+
+joins-here : (c : In_ok-demand-2) → length c.demand-2.new.plan.nodes ≤ length c.args.plan.now.nodes + joins_a_line
+joins-here c = let first = c.in_ok-demand.ensures.joins in let second = c.in_ok-demand-2.ensures.joins in omega (arith, first, second)
 
 pub add_step-requires-clause-steps : goal.add_step-requires-clause-steps
 add_step-requires-clause-steps c = c.in_ok-demand-2.ensures.goes_on.planned.steps
@@ -111,3 +114,15 @@ returns-in_default-clause-bound c k makes = absurd (none (goal.at.returns-in_def
 
 pub returns-in_default-clause-only : goal.returns-in_default-clause-only
 returns-in_default-clause-only c k is = inl (only-here (goal.at.returns-in_default-clause-only c).In_ok-demand-2 k is)
+
+pub returns-in-Some-clause-joins : goal.returns-in-Some-clause-joins
+returns-in-Some-clause-joins c =
+    let joined = joins-here (goal.at.returns-in-Some-clause-joins c).In_ok-demand-2 in
+    let same = ap length c.add_step.ensures.nodes in
+    omega (arith, joined, same)
+
+pub returns-in_default-clause-joins : goal.returns-in_default-clause-joins
+returns-in_default-clause-joins c =
+    let joined = joins-here (goal.at.returns-in_default-clause-joins c).In_ok-demand-2 in
+    let same = ap length c.add_step.ensures.nodes in
+    omega (arith, joined, same)

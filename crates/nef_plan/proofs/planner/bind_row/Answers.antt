@@ -1,4 +1,5 @@
-use Rattle.nef_plan.proofs.Prelude.{◌≡◌, ◌<◌, ◌⊎◌, ℕ, [], length, arith, inl, inr, ⊎_elim, slice_set, Bound, Made, Deferred, IsBoundIn, IsFree, IsRowOf}
+use Rattle.nef_plan.proofs.Prelude.{◌≡◌, ◌<◌, ◌≤◌, ◌⊎◌, ℕ, [], length, arith, inl, inr, ⊎_elim, slice_set, Bound, Made, Deferred, IsBoundIn, IsFree, IsRowOf}
+use Rattle.nef_plan.specs.declared.row.TheConstants.{MOST_PARTS}
 use Rattle.nef_plan.proofs.Added.{added-wider, free-grown}
 use Rattle.nef_plan.proofs.Bounds.{on-set, on-trans, bound-before, bound-here, set-grown, unbound-free}
 use Rattle.nef_plan.proofs.planner.bind_row.Goals as goal
@@ -37,8 +38,9 @@ returns-in_ok-join_parts-in-GoesOn-clause-goes_on c =
     let at = (goal.at.returns-in_ok-join_parts-in-GoesOn-clause-goes_on c).In_ok-row in
     let now = c.in_ok-join_parts-in-GoesOn.ensures in
     let middle = c.row_of.new in
+    let few : length c.join_parts.new.row.others.items ≤ MOST_PARTS = let most = now.few in let least = c.min.ensures in omega (arith, most, least) in
     on-trans c.args.plan.now middle.plan c.join_parts.new.plan c.args.bounds.now middle.bounds _ [] [] c.in_ok-row.ensures.goes_on
-    (on-set middle.plan c.join_parts.new.plan [] middle.bounds c.args.node (Deferred c.join_parts.new.row) c.in_ok-row.ensures.goes_on.planned now.grown (place-here at) tt (free-grown middle.plan c.join_parts.new.plan [] (λ k. ⊥) c.args.node now.grown now.added (λ none. none) (free-here at), now.row c.args.node (row-here at)) (added-wider middle.plan c.join_parts.new.plan (λ k. ⊥) (λ k. k ≡ c.args.node) (λ k none. absurd none) now.added))
+    (on-set middle.plan c.join_parts.new.plan [] middle.bounds c.args.node (Deferred c.join_parts.new.row) c.in_ok-row.ensures.goes_on.planned now.grown (place-here at) tt (free-grown middle.plan c.join_parts.new.plan [] (λ k. ⊥) c.args.node now.grown now.added (λ none. none) (free-here at), now.row c.args.node (row-here at), few) (added-wider middle.plan c.join_parts.new.plan (λ k. ⊥) (λ k. k ≡ c.args.node) (λ k none. absurd none) now.added))
 
 pub returns-in_ok-join_parts-in-GoesOn-clause-bound : goal.returns-in_ok-join_parts-in-GoesOn-clause-bound
 returns-in_ok-join_parts-in-GoesOn-clause-bound c = bound-here c.row_of.new.bounds c.args.node (Deferred c.join_parts.new.row) (place-here (goal.at.returns-in_ok-join_parts-in-GoesOn-clause-bound c).In_ok-row) tt
@@ -63,3 +65,9 @@ returns-in_ok-join_parts-in-GoesOn-clause-only c k is = bound-or (goal.at.return
 
 pub returns-in_ok-finish-in-Made-clause-only : goal.returns-in_ok-finish-in-Made-clause-only
 returns-in_ok-finish-in-Made-clause-only c k is = bound-or (goal.at.returns-in_ok-finish-in-Made-clause-only c).In_ok-row Made k is
+
+pub returns-in_ok-join_parts-in-GoesOn-clause-joins : goal.returns-in_ok-join_parts-in-GoesOn-clause-joins
+returns-in_ok-join_parts-in-GoesOn-clause-joins c = let row = c.in_ok-row.ensures.joins in let joined = c.in_ok-join_parts-in-GoesOn.ensures.joins in omega (arith, row, joined)
+
+pub returns-in_ok-finish-in-Made-clause-joins : goal.returns-in_ok-finish-in-Made-clause-joins
+returns-in_ok-finish-in-Made-clause-joins c = let row = c.in_ok-row.ensures.joins in let joined = c.in_ok-finish-in-Made.ensures.joins in omega (arith, row, joined)

@@ -1,4 +1,4 @@
-use Rattle.nef_plan.proofs.Prelude.{◌≡◌, ◌∙◌, [], ap, refl, sym, subst, Some, length, slice_get, slice_set, slice_get_read, slice_get-get_or, Bound, Made, Deferred, GoesOn, IsBoundIn, Tells}
+use Rattle.nef_plan.proofs.Prelude.{◌≡◌, ◌∙◌, [], ap, arith, refl, sym, subst, Some, length, slice_get, slice_set, slice_get_read, slice_get-get_or, Bound, Made, Deferred, GoesOn, IsBoundIn, Tells}
 use Rattle.nef_plan.proofs.Growth.{grown-refl}
 use Rattle.nef_plan.proofs.Added.{added-none}
 use Rattle.nef_plan.proofs.Bounds.{on-set, on-grown, bound-place, bound-made, bound-same}
@@ -57,5 +57,12 @@ returns-in_default-replace c =
     record {
       goes_on = subst (λ (z : Bound). GoesOn plan bounds plan (slice_set bounds node z) []) (sym c.replace.ensures.after) (on-set plan plan [] bounds node Made c.requires.planned grown within tt ready (added-none plan (λ k. k ≡ node)));
       only = λ k is. bound-same bounds node Made bound k (subst (λ (z : Bound). IsBoundIn (slice_set bounds node z) k) c.replace.ensures.after is);
+      joins = omega arith;
       ready = rw c.in-Some.is ready;
     }
+
+pub returns-in_ok-finish-clause-joins : goal.returns-in_ok-finish-clause-joins
+returns-in_ok-finish-clause-joins c =
+    let few = (told (goal.at.returns-in_ok-finish-clause-joins c).In-Deferred).2 in
+    let made = c.in_ok-finish.ensures.joins in
+    omega (arith, few, made)

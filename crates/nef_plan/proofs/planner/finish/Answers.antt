@@ -1,4 +1,4 @@
-use Rattle.nef_plan.proofs.Prelude.{◌≡◌, ◌<◌, ◌≤◌, [], ap, length, refl, subst, sym, ◌∙◌, inl, on_ok_weaker, IsMade, IsNodeReady, IsRowOf, spare, Make}
+use Rattle.nef_plan.proofs.Prelude.{◌≡◌, ◌<◌, ◌≤◌, [], ap, arith, length, refl, subst, sym, ◌∙◌, inl, on_ok_weaker, IsMade, IsNodeReady, IsRowOf, spare, Make}
 use Rattle.nef_plan.proofs.Growth.{grown-trans}
 use Rattle.nef_plan.proofs.Added.{added-one, added-trans, free-grown}
 use Rattle.nef_plan.proofs.planner.finish.Goals as goal
@@ -42,3 +42,9 @@ returns-clause-ready c =
     on_ok_weaker c.add_step.result (λ made.
     let ready : IsNodeReady c.add_step.new.plan c.args.node = record { within = subst (λ z. c.args.node < length z) (sym c.add_step.ensures.nodes) right.within; made = made c.args.node refl } in
     ready) c.add_step.ensures.made
+
+pub returns-clause-joins : goal.returns-clause-joins
+returns-clause-joins c =
+    let joined = c.in_ok-join_parts.ensures.joins in
+    let same = ap length c.add_step.ensures.nodes in
+    on_ok_weaker c.add_step.result (λ grown. omega (arith, joined, same)) c.add_step.ensures.grown

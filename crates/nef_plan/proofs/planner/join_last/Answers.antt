@@ -1,4 +1,4 @@
-use Rattle.nef_plan.proofs.Prelude.{◌≡◌, ℕ, subst, List, [], ◌∷◌, ◌++◌, PartsAreReady, RowMakesSet}
+use Rattle.nef_plan.proofs.Prelude.{◌≡◌, ℕ, subst, List, [], ◌∷◌, ◌++◌, ◌∙◌, ap, arith, length, length-append, PartsAreReady, RowMakesSet}
 use Rattle.nef_plan.proofs.Rows.{Each, each-front, each-last, are-joined-grown, row-joined-grown}
 use Rattle.nef_plan.proofs.planner.join_last.Goals as goal
 
@@ -30,3 +30,9 @@ returns-in_ok-row-clause-row c k row =
     let before = subst (λ (z : List ℕ). RowMakesSet c.args.plan.now old.kind (z ++ old.last ∷ []) k) items row in
     let now = c.in_ok-row.ensures in
     row-joined-grown c.args.plan.now c.joined_part.new.plan [] old.kind rest c.in-Some.part old.last c.in_ok-row.field-0 k now.grown now.ready now.set before
+
+pub returns-in_ok-row-clause-joins : goal.returns-in_ok-row-clause-joins
+returns-in_ok-row-clause-joins c =
+    let one = c.in_ok-row.ensures.one in
+    let count = ap length c.in-Some.ensures.items ∙ length-append c.pop.new.self.items (c.in-Some.part ∷ []) in
+    omega (arith, one, count)

@@ -63,3 +63,6 @@ returns-clause-ready c =
     let number = c.in_ok-node.ensures.number in
     let longer = ap length (c.in_ok-add_step.ensures.nodes ∙ c.in_ok-node.ensures.added) ∙ length-append old (c.join-made.result ∷ []) in
     record { within = omega (arith, number, longer); made = c.in_ok-add_step.ensures.made c.in_ok-node.node refl }
+
+pub returns-clause-one : goal.returns-clause-one
+returns-clause-one c = ap length (c.in_ok-add_step.ensures.nodes ∙ c.in_ok-node.ensures.added) ∙ length-append c.args.plan.now.nodes (c.join-made.result ∷ [])

@@ -1,4 +1,4 @@
-use Rattle.nef_plan.proofs.Prelude.{◌≡◌, ◌∙◌, ◌+◌, ◌∷◌, ◌++◌, ℕ, [], ap, refl, sym, subst, take, filter, inl, inr, arith, cases_lt, take_more, filter-append, get_or_from_slice_get, slice_get_read, Command, Binds, GoesOn, IsBoundIn, asked, is_question}
+use Rattle.nef_plan.proofs.Prelude.{◌≡◌, ◌∙◌, ◌+◌, ◌∷◌, ◌++◌, ℕ, [], ap, refl, sym, subst, take, filter, length, inl, inr, arith, cases_lt, take_more, filter-append, get_or_from_slice_get, slice_get_read, Command, Binds, GoesOn, IsBoundIn, asked, is_question}
 use Rattle.nef_plan.proofs.Growth.{grown-refl, more-trans}
 use Rattle.nef_plan.proofs.Added.{BindsBefore, added-none, due-now, timely-added, timely-none}
 use Rattle.nef_plan.proofs.Bounds.{on-grown, on-trans}
@@ -25,6 +25,8 @@ loop-command-preserved c =
       planned = added.goes_on.planned;
       timely = timely-added nodes items c.loop-command.plan new.plan (IsBoundIn new.bounds) more (λ k is. due-now items c.loop-command.plan.steps.items now k so_asked (whence k is)) so_far.timely added.goes_on.added;
       whence = whence;
+      within = omega (arith, c.loop-command-test.true);
+      joins = let a = so_far.joins in let b = added.joins in omega (arith, a, b);
       goes_on = subst (GoesOn c.args.plan.now c.args.bounds.now new.plan new.bounds) (sym questions)
           (on-trans c.args.plan.now c.loop-command.plan new.plan c.args.bounds.now c.loop-command.bounds new.bounds _ _ so_far.goes_on added.goes_on);
       bound = λ i k d below at binds. elim (cases_lt i now) [
@@ -45,5 +47,14 @@ loop-command-init c =
       goes_on = on-grown plan plan [] bounds c.requires.planned (grown-refl plan c.requires.planned.steps) (added-none plan (λ k. ⊥));
       timely = timely-none c.args.script.now.nodes c.commands-command-items.result.now plan.steps.items c.requires.none;
       whence = λ k is. absurd (c.requires.unbound k is);
+      within = omega arith;
+      joins = omega arith;
       bound = λ i k d below at binds. absurd (omega (arith, below));
     }
+
+pub returns-clause-joins : goal.returns-clause-joins
+returns-clause-joins c =
+    let joined = c.loop-command.invariant.joins in
+    let within = c.loop-command.invariant.within in
+    let same = ap length c.commands-command-items.ensures.commands in
+    omega (arith, joined, within, same)

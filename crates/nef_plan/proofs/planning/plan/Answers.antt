@@ -1,4 +1,4 @@
-use Rattle.nef_plan.proofs.Prelude.{◌∙◌, ap, sym, subst, length, AreTimely, asked, LookBelow, tasks_over}
+use Rattle.nef_plan.proofs.Prelude.{◌∙◌, ap, arith, sym, subst, length, AreTimely, asked, LookBelow, tasks_over}
 use Rattle.nef_plan.proofs.Planned.{planned}
 use Rattle.nef_plan.proofs.planning.plan.Goals as goal
 
@@ -18,6 +18,7 @@ returns c =
           (ordered.ensures.asked ∙ ap asked c.deref.ensures.value ∙ did.asked)
           (ordered.ensures.timely given commands (subst (AreTimely given commands) (sym c.deref.ensures.value) did.timely))
           ordered.ensures.needed
+          (let joined = did.joins in let same = ap length c.in_ok-copied.ensures.nodes in omega (arith, joined, same))
           table
           (c.in_ok-steps.ensures.tasks ∙ c.deref-3.ensures.value ∙ tasks ∙ ap (tasks_over values 0) c.deref-2.ensures.value)
           c.in_ok-steps.ensures.ends;

@@ -1,10 +1,15 @@
-use Rattle.nef_plan.proofs.Prelude.{◌≡◌, ◌∙◌, ap, inl, inr, [], ◌∷◌, ◌++◌, spare}
+use Rattle.nef_plan.proofs.Prelude.{◌≡◌, ◌∙◌, ap, arith, length, inl, inr, [], ◌∷◌, ◌++◌, spare}
 use Rattle.nef_plan.proofs.Rows.{row-begun, row-begun-less}
 use Rattle.nef_plan.proofs.row.Row.begun.Goals as goal
 use Rattle.nef_plan.proofs.row.Row.begun.Goals.{in-Union+in_ok-push-in-Union, in-Difference}
 
 pub returns : goal.returns
 returns c = record {
+  few =
+      elim c.match-kind.branch [
+        | in-Union+in_ok-push-in-Union w ↦ (let count = ap length (ap (λ z. z.items) w.others-is ∙ w.in_ok-push-in-Union.ensures.items ∙ ap (λ z. z ++ c.args.first ∷ []) c.new-others.ensures.items) in omega (arith, count))
+        | in-Difference w ↦ (let count = ap length (ap (λ z. z.items) w.others-is ∙ c.new-others.ensures.items) in omega (arith, count))
+      ];
   row = λ plan k within ready ready' is.
       let first = c.args.first in
       let others = c.match-kind.others.items in
