@@ -1,5 +1,5 @@
 -- The names that most clauses cite, passed on from one place. Declares nothing.
-pub use Rattle.nef_complex.specs.Prelude.{AreAlone, Bool, Form, IfOk, InFrame, IsAt, IsNarrower, IsPointBelow, IsTrue, IsVertex, IsVertexOfBoth, List, MatchOption, OnOk, SamePlane, SamePoint, Set, ShowsSet, SpacePoint, [], complex_of, form_at, form_of, length, map, min, point_of, pos, take, ℕ}
+pub use Rattle.nef_complex.specs.Prelude.{AreAlone, Bool, Form, IfOk, InFrame, IsAt, IsNarrower, IsPointBelow, IsTrue, IsVertex, IsVertexOfBoth, List, MatchOption, OnOk, SamePlane, SamePoint, Set, IsIndexed, ShowsSet, SpacePoint, [], complex_of, form_at, form_of, length, map, min, point_of, pos, take, ℕ}
 pub use Rattle.nef_index.specs.declared.skeleton.Edge.{Edge}
 pub use Rattle.nef_complex.specs.declared.complex.Vertex.{Vertex}
 pub use Rattle.nef_index.specs.declared.spans.Span.{Span}

@@ -4,7 +4,7 @@
 //! set there. So cuts where the other set has nothing in the carrier that cuts may be left out; and it has something only
 //! within a span of the vertices on the carrier.
 
-ghost use Rattle.nef_cand.specs.Prelude.{ℕ, IfOk, Bool, pos, length, IsTrue, OnOk, [], MatchOption, SpacePoint, Form, InFrame, SamePoint, form_at, Set, IsVertex, IsAt, form_of, point_of, SamePlane, IsVertexOfBoth, complex_of, ShowsSet, AreAlone, Edge, Vertex, Span as SpanValue, IsNarrower, IsListed, IsCutBy, AreCandidates, AreCutCandidates, AreFramed, IsNamedIn, IsNamedBetween, AddsPoints, AddsAll, CutsOne, CutsEdge, MissesFrame, AreSpannedIn, AreSpannedCarriers, AreWithinSpan, AreThoseNear, IsApart, CutsBy, CutsHeld, CutsEdgeByOne, CutsEdgeHeldOne, IsHeldCutOf, ListsCuts, ListsNear};
+ghost use Rattle.nef_cand.specs.Prelude.{ℕ, IfOk, Bool, pos, length, IsTrue, OnOk, [], MatchOption, SpacePoint, Form, InFrame, SamePoint, form_at, Set, IsVertex, IsAt, form_of, point_of, SamePlane, IsVertexOfBoth, complex_of, IsIndexed, ShowsSet, AreAlone, Edge, Vertex, Span as SpanValue, IsNarrower, IsListed, IsCutBy, AreCandidates, AreCutCandidates, AreFramed, IsNamedIn, IsNamedBetween, AddsPoints, AddsAll, CutsOne, CutsEdge, MissesFrame, AreSpannedIn, AreSpannedCarriers, AreWithinSpan, AreThoseNear, IsApart, CutsBy, CutsHeld, CutsEdgeByOne, CutsEdgeHeldOne, IsHeldCutOf, ListsCuts, ListsNear};
 ghost use Rattle.std.specs.Prelude.{◌≡◌, ◌<◌, ◌≤◌, ◌<ℤ◌, ◌≤ℤ◌, ◌↔◌};
 
 use crate::OutOfMemory;
@@ -36,7 +36,7 @@ pub fn misses_frame(h: &Plane) -> bool
 
 /// The carriers of the complex with their spans, but for some that cross no edge of any set.
 pub(crate) fn spanned_carriers(alloc: Global, c: &Complex) -> Result<Vec<Spanned>, OutOfMemory>
-    requires shows { (s : Set) × ShowsSet s c.now }
+    requires indexed { IsIndexed c.now }
     ensures carriers { IfOk result (λ v. AreSpannedCarriers c.now (length c.now.carriers) v.items) }
 {
     let spans = carrier_spans(c);

@@ -1,7 +1,7 @@
 //! Regions of the frame far from a set's skeleton, in each of which the set has one label.
 
 ghost use Rattle.std.specs.Prelude.{◌≡◌, ◌≤◌, ◌<◌, ◌↔◌, ◌⊎◌, [], pos};
-ghost use Rattle.nef_complex.specs.Prelude.{ℕ, length, IfSome, IsNone, IsTrue, InFrame, Set, SpacePoint, point_of, Point as PlainPoint, IsAt, coordinate_of, IsInSpan, ShowsSet};
+ghost use Rattle.nef_complex.specs.Prelude.{ℕ, length, IfSome, IsNone, IsTrue, InFrame, Set, SpacePoint, point_of, Point as PlainPoint, IsAt, coordinate_of, IsInSpan, IsIndexed, ShowsSet};
 ghost use Rattle.nef_complex.specs.declared.complex.Complex.{Complex as ShownComplex};
 ghost use Rattle.nef_index.specs.declared.spans.Span.{Span as ShownSpan};
 ghost use Rattle.nef_ops.specs.declared.regions.Region.{Region as PlainRegion};
@@ -71,7 +71,7 @@ impl SpanSide {
 /// A span of the skeleton within the open frame: of the vertices on all carriers with a point in the open frame. The
 /// planes of the frame's own sides have no such point, and vertices from one end of the frame to the other.
 pub(crate) fn core_span(c: &Complex) -> Span
-    requires shows { (s : Set) × ShowsSet s c.now }
+    requires indexed { IsIndexed c.now }
     ensures core { HoldsSkeleton c.now result }
 {
     let mut core = Span::none();

@@ -5,7 +5,7 @@
 //! carriers of a vertex meet in the vertex alone, and at least two carriers of an edge meet in its line.
 
 ghost use Rattle.std.specs.Prelude.{◌<◌, ◌↔◌};
-ghost use Rattle.nef_complex.specs.Prelude.{length, IsTrue, IsAt, SpacePoint, Set, form_of, point_of, hit_point, IsVertexPoint, IsEdgePoint, complex_of, ShowsSet, AreNumbersOf, AreHolders};
+ghost use Rattle.nef_complex.specs.Prelude.{length, IsTrue, IsAt, SpacePoint, Set, form_of, point_of, hit_point, IsVertexPoint, IsEdgePoint, complex_of, IsIndexed, ShowsSet, AreNumbersOf, AreHolders};
 ghost use Rattle.nef_index.specs.declared.skeleton.Edge.{Edge};
 ghost use Rattle.nef_complex.specs.declared.complex.Vertex.{Vertex};
 ghost use Rattle.nef_plane.specs.Amid.{AllSideWith, AllThrough};
@@ -34,7 +34,7 @@ pub(crate) fn ends_of(c: &Complex, meet: PlaneMeet) -> (usize, usize)
 
 // The numbers of the carriers that hold both ends of this vertex or edge.
 pub(crate) fn holders_of(c: &Complex, meet: PlaneMeet) -> &[usize]
-    requires shows { (s : Set) × ShowsSet s c.now }
+    requires indexed { IsIndexed c.now }
     requires within { HasMeet c.now meet }
     ensures holders { (u v : Vertex) → HasEndsAt c.now meet u v → AreHolders c.now.carriers (point_of u.point) (point_of v.point) result.now }
 {
