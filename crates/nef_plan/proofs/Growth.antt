@@ -1,6 +1,5 @@
 -- What stays where nodes and steps are added.
-use Rattle.nef_plan.proofs.Prelude.{◌≡◌, ◌∙◌, ◌⊎◌, ⊎_elim, ℕ, zero, suc, ◌<◌, ◌≤◌, refl, ap, sym, subst, arith, List, [], ◌∷◌, ◌++◌, length, Some, inl, inr, length-append, append-nil, append_assoc, Set, turned_set, Node, node_set, set_of, sets_after, NamesBelow, names-wider, slice_get-left, slice_get-seam, place-push, earlier-sets_stay, new-set, set_of-same, Command, SpeaksOfFirst, Draft, Make, Turn, Ask, Drafts, AreAlike, IsNodeReady, HasGrown, AreDrafts, HasMore, IsMade, IsMadeAs, IsRightDraft, MayFollow, Makes, asked}
-use Rattle.nef_script.specs.declared.script.Command.TheVariants as command
+use Rattle.nef_plan.proofs.Prelude.{◌≡◌, ◌∙◌, ◌⊎◌, ⊎_elim, ℕ, zero, suc, ◌<◌, refl, ap, sym, subst, arith, List, [], ◌∷◌, ◌++◌, length, Some, inl, inr, length-append, append-nil, append_assoc, Set, turned_set, Node, node_set, set_of, sets_after, NamesBelow, names-wider, slice_get-left, slice_get-seam, place-push, earlier-sets_stay, new-set, set_of-same, Command, Draft, Make, Turn, Ask, Drafts, AreAlike, IsNodeReady, HasGrown, AreDrafts, HasMore, IsMade, IsMadeAs, IsRightDraft, MayFollow, Makes, asked}
 use Rattle.nef_plan.proofs.Alike.{alike-refl}
 use Rattle.nef_script.proofs.Looking.{within-more}
 

@@ -1,5 +1,5 @@
 -- The steps of drafts make the sets of their nodes, and have what is known of the drafts.
-use Rattle.nef_plan.proofs.Prelude.{◌≡◌, ◌∙◌, ℕ, zero, suc, ◌+◌, ◌<◌, refl, ap, sym, subst, arith, List, [], ◌∷◌, ◌++◌, length, inl, inr, ⊎_elim, ◌⊎◌, Option, None, Some, true, false, append_assoc, length-append, unwrap_or, get_or-append, get_or-append_seam, cases_eq, get_or-set_same, get_or-set_other, Set, Node, IsOperand, Shape, Uses, operand, set_of, shape_of, Command, Draft, Step, AreAlike, IsRightDraft, DraftLooksAt, Makes, asked, over, put_value, task_over, value_of, first_asked, is_question, second_asked, IsTask, LooksAtValue, MakesValue, asked_values, task_set, questions_of, value_set, values_after}
+use Rattle.nef_plan.proofs.Prelude.{◌≡◌, ◌∙◌, ℕ, zero, suc, ◌+◌, ◌<◌, refl, ap, sym, subst, arith, List, [], ◌∷◌, ◌++◌, length, inl, inr, ⊎_elim, ◌⊎◌, Option, None, Some, true, false, append_assoc, length-append, unwrap_or, cases_eq, get_or-set_same, get_or-set_other, Set, Node, IsOperand, Shape, Uses, operand, set_of, shape_of, Command, Draft, Step, AreAlike, IsRightDraft, DraftLooksAt, Makes, asked, over, put_value, task_over, value_of, first_asked, is_question, second_asked, IsTask, LooksAtValue, MakesValue, asked_values, task_set, questions_of, value_set, values_after}
 use Rattle.std.proofs.Common.{slice_set, slice_index}
 use Rattle.nef_expr.specs.declared.nodes.Node.TheVariants as node
 use Rattle.nef_script.specs.declared.script.Command.TheVariants as command
