@@ -159,11 +159,11 @@ AsksNamed named (Make m) = Unit {0}
 AsksNamed named (Turn j t) = Unit {0}
 AsksNamed named (Ask c i second) = (first_asked c.now ≡ Some (named i)) × (second_asked c.now ≡ name_of named second)
 
--- the most parts that the rows are joined to for one line: it wants the sets of two nodes, and adds a part to a row
+-- how many joins one line takes at most: it looks at two nodes, each of which may be a row that was put off, and may add one part to one of these rows
 abbrev pub joins_a_line : ℕ
 joins_a_line = 2 * MOST_PARTS + 1
 
--- the steps ask the script's questions, each about the values that its nodes name; and each value that they make is the set of the node that is its name, one of the script's or of more behind them and no other value's, and is made neither before its line's turn nor before it's needed; beside the script's nodes and questions there are no more steps than each line joins parts of rows
+-- the steps ask the script's questions, each about the values that its nodes name; and each value that they make is the set of the node that is its name, one of the script's or of more behind them and no other value's, and is made neither before its line's turn nor before it's needed; and there are at most as many steps as the script has nodes, and for each line one more and its joins
 pub record IsPlanOf (nodes : List Node) (commands : List Command) (steps : List Step) : Type 0 where
   pub right : AreSteps steps
   pub ends : AreEndedAt steps
